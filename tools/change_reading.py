@@ -10,14 +10,14 @@ from report_reading import Stated
 
 # The keys that a server does not take while it runs, in the order in which it looks at them, with what a restart would do.
 FIXED = (
-    ("address", "to listen on {}"), ("port", "to serve on {}"), ("root", "to serve {}"), ("passive_first", "for ports from {}"),
+    ("address", "to listen on {}"), ("port", "to serve on {}"), ("root", "to serve {}"), ("capacity", "to keep {} octets"), ("passive_first", "for ports from {}"),
     ("passive_last", "for ports up to {}"), ("lanes", "for {} transfers at once"),
 )
 SETTINGS = (
     "banner", "permit_foreign_addresses", "permit_privileged_ports", "masquerade_address", "max_cons", "max_cons_per_address", "max_login_attempts",
-    "sessions", "capacity",
+    "sessions",
 )
-AT_THE_START = ("sessions", "capacity")
+AT_THE_START = ("sessions",)
 TERMS = ("password", "home", "perms", "override", "group", "msg_login", "msg_quit")
 OF_A_SERVER, OF_A_GROUP = ("rate", "down_rate", "up_rate"), ("down_rate", "up_rate")
 OF_A_USER = (*OF_A_GROUP, "session_down_rate", "session_up_rate", "session_down_floor", "session_up_floor")
@@ -27,7 +27,7 @@ def reason(old, new):
     """The words of a refusal, or None."""
     for key, words in FIXED:
         before, after = old.server[key], new.server[key]
-        if before != after:
+        if before != after and (key != "capacity" or new.in_memory):
             return f"`{key}` cannot change while the server runs: it is {before}; restart the server {words.format(after)}"
     room, stated = old.server["max_cons"], new.server["max_cons"]
     if stated > room:

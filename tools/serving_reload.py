@@ -94,6 +94,34 @@ def what_is_refused_changes_nothing():
         server.ended()
 
 
+def each_fixed_key_is_refused_by_name():
+    """What cannot change while the server runs: each key is named, with its value at the start and what to do."""
+    with served(stop=True) as server:
+        good, first, last = server.text, server.port + 1, server.port + server.passive
+        for old, new, reason in (
+            (f"port = {server.port}", f"port = {server.port}\naddress = \"127.0.0.2\"", "`address` cannot change while the server runs: it is 127.0.0.1; restart the server to listen on 127.0.0.2"),
+            (f"port = {server.port}", "port = 65000", f"`port` cannot change while the server runs: it is {server.port}; restart the server to serve on 65000"),
+            (f'root = "{server.folder}"', 'root = "memory"', f"`root` cannot change while the server runs: it is {server.folder}; restart the server to serve memory"),
+            (f"passive_first = {first}", f"passive_first = {first + 1}", f"`passive_first` cannot change while the server runs: it is {first}; restart the server for ports from {first + 1}"),
+            (f"passive_last = {last}", f"passive_last = {last - 1}", f"`passive_last` cannot change while the server runs: it is {last}; restart the server for ports up to {last - 1}"),
+            ("lanes = 16", "lanes = 17", "`lanes` cannot change while the server runs: it is 16; restart the server for 17 transfers at once"),
+            ("sessions = 0", "sessions = 0\nmax_cons = 65", "`max_cons` cannot be above 64 while the server runs: restart the server to take 65 connections"),
+        ):
+            note = server.reloaded(good.replace(old, new), taken=False)
+            want(note.endswith(f"configuration not reloaded: {reason}"), note)
+        same(Client(server).retrieve("f"), b"a\nb", "the file")
+        server.stop()
+        server.ended()
+    with Server(sessions=0, reload=True, stop=True, server="capacity = 4096") as server:
+        with open(f"{server.place}/ftpd.toml", encoding="utf-8") as it:
+            text = it.read()
+        note = server.reloaded(text.replace("capacity = 4096", "capacity = 4097"), taken=False)
+        want(note.endswith("not reloaded: `capacity` cannot change while the server runs: it is 4096; restart the server to keep 4097 octets"), note)
+        server.reloaded(text)
+        server.stop()
+        server.ended()
+
+
 def a_user_is_taken_out():
     """Their session ends once its transfer has, and nobody logs in by that name; a renamed user is another."""
     with served(stop=True) as server:
@@ -163,6 +191,7 @@ def a_reload_and_then_a_drain():
 ROWS = [
     a_rate_is_halved_and_a_user_added,
     what_is_refused_changes_nothing,
+    each_fixed_key_is_refused_by_name,
     a_user_is_taken_out,
     sessions_keep_the_terms_of_their_login,
     ten_reloads_under_load,

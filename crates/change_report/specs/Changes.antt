@@ -70,15 +70,10 @@ count_changes old new =
     ++ number_change key.MaxConsPerAddress old.max_cons_per_address new.max_cons_per_address
     ++ number_change key.MaxLoginAttempts old.max_login_attempts new.max_login_attempts
 
--- the numbers that a server takes at its start alone
-abbrev pub start_changes : ServerTable → ServerTable → List SettingChange
-start_changes old new =
-    number_change key.Sessions old.sessions new.sessions
-    ++ number_change key.Capacity old.capacity new.capacity
-
 abbrev pub setting_changes : ServerTable → ServerTable → List SettingChange
 setting_changes old new =
-    access_changes old new ++ count_changes old new ++ start_changes old new
+    access_changes old new ++ count_changes old new
+    ++ number_change key.Sessions old.sessions new.sessions
 
 -- ---- groups and users by their names
 
@@ -256,12 +251,10 @@ setting_text key.PermitForeignAddresses = codes "permit_foreign_addresses"
 setting_text key.PermitPrivilegedPorts = codes "permit_privileged_ports"
 setting_text key.MasqueradeAddress = codes "masquerade_address"
 setting_text key.Sessions = codes "sessions"
-setting_text key.Capacity = codes "capacity"
 
 -- the words after a value that a server takes at its start alone
 abbrev pub start_text : SettingKey → List ℕ
 start_text key.Sessions = codes ", at the next start alone"
-start_text key.Capacity = codes ", at the next start alone"
 start_text key.Banner = codes ""
 start_text key.MaxCons = codes ""
 start_text key.MaxConsPerAddress = codes ""

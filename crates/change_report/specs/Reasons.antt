@@ -1,6 +1,6 @@
 -- The reason for which a server that has the one configuration since its start would refuse the
 -- other one, whoever is connected.
-use Rattle.std.specs.Prelude.{◌≡◌, List, ℕ, Option, Some, None}
+use Rattle.std.specs.Prelude.{◌≡◌, List, ℕ, Option, Some, None, bytes_eq, codes, if◌then◌else◌}
 use Rattle.config_change.specs.Fixed.{IsCountFault, IsFixedKey}
 use Rattle.config_change.specs.Words.{count_text, key_text}
 use Rattle.config_change.specs.declared.fixed.FixedValues.{FixedValues}
@@ -9,12 +9,15 @@ use Rattle.server_config.specs.Settings.{AreNumbers}
 use Rattle.change_report.specs.declared.reason.Reason.{Reason}
 use Rattle.change_report.specs.declared.reason.Reason.TheVariants.{Key, Count}
 
--- the values of a table that stay the same while a server runs; the capacity of a store in memory
--- is not compared
+-- the capacity of a store in memory; 0 for a folder
+abbrev pub store_capacity : ServerTable → ℕ
+store_capacity server = if bytes_eq server.root.now (codes "memory") then server.capacity else 0
+
+-- the values of a table that stay the same while a server runs
 pub record AreFixed (server : ServerTable) (values : FixedValues) : Type 0 where
   pub numbers : AreNumbers server values.numbers
   pub root : values.root.now ≡ server.root.now
-  pub capacity : values.capacity ≡ 0
+  pub capacity : values.capacity ≡ store_capacity server
 
 -- a key that cannot change has another value; or none has, and the maximum number of connections
 -- is above that of the start; or neither

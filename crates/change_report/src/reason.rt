@@ -1,6 +1,7 @@
 //! The reason for which a server would refuse a configuration while it runs.
 
-ghost use Rattle.change_report.specs.Reasons.{AreFixed, IsReason, reason_text};
+ghost use Rattle.std.specs.Prelude.{◌≡◌};
+ghost use Rattle.change_report.specs.Reasons.{AreFixed, IsReason, store_capacity};
 
 use config_change::{CountFault, FixedKey, FixedValues, count_fault, fixed_key};
 use config_file::ServerTable;
@@ -30,8 +31,18 @@ impl fmt::Display for Reason<'_> {
     }
 }
 
-/// The values of a table that stay the same while a server runs. The capacity of a store in memory is not compared: such
-/// a store is that of the start.
+/// The capacity of a store in memory; 0 for a folder.
+fn store_capacity(server: &ServerTable<'_>) -> u64
+    ensures capacity { result ≡ store_capacity server.now }
+{
+    if server.root == "memory" {
+        server.capacity
+    } else {
+        0
+    }
+}
+
+/// The values of a table that stay the same while a server runs.
 fn fixed_values<'a>(server: &ServerTable<'a>) -> FixedValues<'a>
     ensures values { AreFixed server.now result }
 {
@@ -47,7 +58,7 @@ fn fixed_values<'a>(server: &ServerTable<'a>) -> FixedValues<'a>
             sessions: server.sessions,
         },
         root: server.root,
-        capacity: 0,
+        capacity: store_capacity(server),
     }
 }
 

@@ -1,7 +1,7 @@
 //! Keys of `[server]` that are neither rates nor fixed, and have another value.
 
 ghost use Rattle.std.specs.Prelude.{◌≡◌, ◌++◌, OnOk};
-ghost use Rattle.change_report.specs.Changes.{access_changes, address_change, count_changes, flag_change, number_change, same_address, setting_changes, setting_text, start_changes, start_text, text_change};
+ghost use Rattle.change_report.specs.Changes.{access_changes, address_change, count_changes, flag_change, number_change, same_address, setting_changes, setting_text, start_text, text_change};
 
 use config_file::ServerTable;
 use std::alloc::AllocError;
@@ -18,7 +18,6 @@ pub(crate) enum SettingKey {
     PermitPrivilegedPorts,
     MasqueradeAddress,
     Sessions,
-    Capacity,
 }
 
 impl SettingKey {
@@ -35,7 +34,6 @@ impl SettingKey {
             SettingKey::PermitPrivilegedPorts => "permit_privileged_ports",
             SettingKey::MasqueradeAddress => "masquerade_address",
             SettingKey::Sessions => "sessions",
-            SettingKey::Capacity => "capacity",
         }
     }
 
@@ -44,7 +42,7 @@ impl SettingKey {
         ensures start { result.now ≡ start_text self }
     {
         match self {
-            SettingKey::Sessions | SettingKey::Capacity => ", at the next start alone",
+            SettingKey::Sessions => ", at the next start alone",
             _ => "",
         }
     }
@@ -204,20 +202,6 @@ fn push_counts(
     Ok(())
 }
 
-/// Adds the numbers that a server takes at its start alone, and that differ.
-fn push_starts(
-    found: &mut Vec<SettingChange<'_>>,
-    old: &ServerTable<'_>,
-    new: &ServerTable<'_>,
-) -> Result<(), AllocError>
-    ensures changes { OnOk result
-        (found.new.items ≡ found.old.items ++ start_changes old.now new.now) }
-{
-    push_number(found, SettingKey::Sessions, old.sessions, new.sessions)?;
-    push_number(found, SettingKey::Capacity, old.capacity, new.capacity)?;
-    Ok(())
-}
-
 /// Adds the settings that differ.
 pub(crate) fn push_settings<'a>(
     found: &mut Vec<SettingChange<'a>>,
@@ -229,6 +213,6 @@ pub(crate) fn push_settings<'a>(
 {
     push_access(found, old, new)?;
     push_counts(found, old, new)?;
-    push_starts(found, old, new)?;
+    push_number(found, SettingKey::Sessions, old.sessions, new.sessions)?;
     Ok(())
 }

@@ -39,7 +39,6 @@ max_cons = 32
 permit_foreign_addresses = true
 masquerade_address = "1.2.3.4"
 sessions = 5
-capacity = 9
 [[group]]
 name = "sales"
 down_rate = 0
@@ -68,7 +67,6 @@ permit_foreign_addresses: false becomes true
 masquerade_address: none becomes 1.2.3.4
 max_cons: 64 becomes 32
 sessions: 0 becomes 5, at the next start alone
-capacity: 1048576 becomes 9, at the next start alone
 group night is added
 group build is taken out
 user carol is added

@@ -20,6 +20,7 @@ use Rattle.control_session.specs.Floors.{FloorsBy, HasFloors}
 use Rattle.control_session.specs.Sessions.{IsSession}
 use Rattle.control_session.specs.declared.fault.ControlFault.{ControlFault}
 use Rattle.control_session.proofs.Counting.{Balanced, counted_swap, counts, gone_counts, released_back}
+use Rattle.control_session.proofs.Going.{open_went}
 
 pub chain_split : {H A S R K : Type 0} (Does : H → HostCall A S R K → H → Type 0) (a c : H) (xs ys : List (HostCall A S R K)) → Chain Does a (xs ++ ys) c
     → (b : H) × Chain Does a xs b × Chain Does b ys c
@@ -144,7 +145,7 @@ module _ {H A S R K : Type 0} (Does : H → HostCall A S R K → H → Type 0) (
         let closing = whole.closing in
         let start = carries_keeps whole.actions None whole.lost host whole.mid whole.said whole.greets whole.greeted in
         let begins = start ∙ sym (ap (λ (x : List ℕ). counts (x ++ []) base) fresh) in
-        let turned = went_has base whole.mid whole.turned _ whole.stood whole.went begins in
+        let turned = went_has base whole.mid whole.turned _ whole.stood (open_went Row Does whole.mid whole.turned _ whole.stood whole.went) begins in
         let first = went_has base whole.turned closing.mid whole.stood _ closing.first turned in
         let settled = own closing.mid closing.mid' (Asked (Settles closing.event)) closing.settled ∙ first in
         let ends = went_has base closing.mid' host' _ whole.last closing.rest settled in

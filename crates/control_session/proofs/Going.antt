@@ -15,7 +15,8 @@ use Rattle.control_session.specs.declared.host.Piece.{Piece}
 use Rattle.control_session.specs.Calls.{Chain, HostCall, piece_call}
 use Rattle.control_session.specs.Calls.HostCall.{Released}
 use Rattle.control_session.specs.Rows.{Outcome}
-use Rattle.control_session.specs.Turns.{Carried, Carries, Move, Runs, Situation, Went, concat, release_calls}
+use Rattle.control_session.specs.Turns.{Carried, Carries, Move, Runs, Situation, Went, WhileOpen, concat, release_calls}
+use Rattle.control_session.specs.Turns.Move.{Takes, Tries, Asks, Reads, Ends, Fails, Pays}
 
 module _ {H A S R K : Type 0} (Does : H → HostCall A S R K → H → Type 0) where
   pub chain_more : (a b c : H) (xs ys : List (HostCall A S R K)) → Chain Does a xs b → Chain Does b ys c → Chain Does a (xs ++ ys) c
@@ -38,7 +39,42 @@ module _ {A S R K : Type 0} (Row : Users → Standing → Given K → ℕ → S 
   runs_more before mid after [] ys same rest = subst (λ (x : Situation K). Runs Row ys x after) same rest
   runs_more before mid after (x ∷ xs) ys (next, move, more) rest = (next, move, runs_more next mid after xs ys more rest)
 
+  -- moves of a session that is not over are moves
+  open_move : (before after : Situation K) (calls : List (HostCall A S R K)) → Move (WhileOpen Row) before calls after → Move Row before calls after
+  open_move before after calls (Takes turn) = Takes (record {
+    given = turn.given;
+    moment = turn.moment;
+    users = turn.users;
+    store = turn.store;
+    store' = turn.store';
+    promises = turn.promises;
+    promises' = turn.promises';
+    actions = turn.actions;
+    paid = turn.paid;
+    carried = turn.carried;
+    next = turn.next;
+    row = turn.row.1;
+    owes = turn.owes;
+    carries = turn.carries;
+    closed = turn.closed;
+    heard = turn.heard;
+    trace = turn.trace;
+  })
+  open_move before after calls (Tries given moment users store store' promises came taken next stopped same is) = Tries given moment users store store' promises came taken next stopped.1 same is
+  open_move before after calls (Asks event empty same is) = Asks event empty same is
+  open_move before after calls (Reads octets items idle live unended same is) = Reads octets items idle live unended same is
+  open_move before after calls (Ends idle live unended same is) = Ends idle live unended same is
+  open_move before after calls (Fails idle live unended same is) = Fails idle live unended same is
+  open_move before after calls (Pays user owed owes same is) = Pays user owed owes same is
+
+  open_runs : (moves : List (List (HostCall A S R K))) (before after : Situation K) → Runs (WhileOpen Row) moves before after → Runs Row moves before after
+  open_runs [] before after same = same
+  open_runs (calls ∷ moves) before after (mid, move, more) = (mid, open_move before mid calls move, open_runs moves mid after more)
+
   module _ {H : Type 0} (Does : H → HostCall A S R K → H → Type 0) where
+    pub open_went : (host host' : H) (before after : Situation K) → Went (WhileOpen Row) Does host before host' after → Went Row Does host before host' after
+    open_went host host' before after went = record { moves = went.moves; asked = went.asked; runs = open_runs went.moves before after went.runs }
+
     pub went_none : (host : H) (now : Situation K) → Went Row Does host now host now
     went_none host now = record { moves = []; asked = refl; runs = refl }
 

@@ -25,7 +25,7 @@ use Rattle.control_session.specs.Calls.{Chain, HostCall}
 use Rattle.control_session.specs.Calls.HostCall.{Tried, Read, ReadEnd, ReadFailed, Asked, Released}
 use Rattle.control_session.specs.Rows.{Outcome}
 use Rattle.control_session.specs.Standing.{owed, owed_in}
-use Rattle.control_session.specs.Turns.{Carries, Heard, IsIdle, Next, Situation, StepTried, Stepped, Went, asked_as, at, behind, release_calls}
+use Rattle.control_session.specs.Turns.{Carries, Heard, IsIdle, Next, Situation, StepTried, Stepped, Went, WhileOpen, asked_as, at, behind, release_calls}
 use Rattle.control_session.specs.Turns.Move.{Takes, Tries, Asks, Reads, Ends, Fails, Pays}
 use Rattle.control_session.proofs.Going.{chain_one, or_false, went_more, went_none, went_one}
 
@@ -38,6 +38,13 @@ carries_both {A = A} {S = S} {R = R} {K = K} (x ∷ xs) ys before mid after firs
     (one, more ++ rest, next, ap (λ (e : List (HostCall A S R K)). e ++ rest) is ∙ append_assoc one more rest, carried, carries_both xs ys next mid after more rest carries others)
 
 module _ {H A S R K : Type 0} (Row : Users → Standing → Given K → ℕ → S → S → Promises → Outcome A R K → Type 0) (Does : H → HostCall A S R K → H → Type 0) where
+  -- a step for another input than Closed
+  pub open_stepped : (host host' : H) (v v' : Standing) (given : Given K) (actions : List (Action A R K)) → given ≢ Closed → Stepped Row Does host v given v' actions host' → Stepped (WhileOpen Row) Does host v given v' actions host'
+  open_stepped host host' v v' given actions live (moment, users, store, store', promises, promises', did, row) = (moment, users, store, store', promises, promises', did, live, row)
+
+  pub open_tried : (host host' : H) (v : Standing) (given : Given K) → given ≢ Closed → StepTried Row Does host v given host' → StepTried (WhileOpen Row) Does host v given host'
+  open_tried host host' v given live (moment, users, store, store', promises, did, row) = (moment, users, store, store', promises, did, live, row)
+
   pub turn_went : (host mid host' : H) (v v' : Standing) (came came' : Option (DataEvent K)) (taken taken' : List Item) (heard : Heard) (owes owes' paid : List ℕ) (closed : Bool) (lost lost' : Option TurnFault)
       (input : Given K) (actions : List (Action A R K)) (carried : List (HostCall A S R K))
       → Next (at v came taken heard owes closed lost) input came' taken' → Stepped Row Does host v input v' actions mid

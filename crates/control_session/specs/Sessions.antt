@@ -13,7 +13,7 @@ use Rattle.session_table.specs.declared.settings.Settings.{Settings}
 use Rattle.control_session.specs.Calls.{Chain, HostCall}
 use Rattle.control_session.specs.Rows.{Outcome}
 use Rattle.control_session.specs.Standing.{AllTaken, Closing}
-use Rattle.control_session.specs.Turns.{Carries, Heard, Situation, Went, at}
+use Rattle.control_session.specs.Turns.{Carries, Heard, Situation, Went, WhileOpen, at}
 use Rattle.control_session.specs.declared.turn_fault.TurnFault.{TurnFault}
 use Rattle.control_session.specs.declared.turn_fault.TurnFault.TheVariants as turn
 use Rattle.control_session.specs.declared.fault.ControlFault.{ControlFault}
@@ -46,7 +46,8 @@ module _ {H A S R K T : Type 0}
     (Does : H → HostCall A S R K → H → Type 0)
     (turns : ℕ) (result : Result T ControlFault) (session : Standing) (host host' : H) where
   -- The greeting is written; then there are moves, each with its calls of the host, in this order,
-  -- up to the last situation; then the end.
+  -- none of which closes the session, up to the last situation; then the end, in which it is
+  -- closed.
   pub record IsSession : Type 0 where
     pub actions : List (Action A R K)
     pub said : List (HostCall A S R K)
@@ -58,7 +59,8 @@ module _ {H A S R K T : Type 0}
     pub row : Then session.view actions ≡ greeting session.view
     pub greets : Carries actions None said lost
     pub greeted : Chain Does host said mid
-    pub went : Went Row Does mid (at session None [] nothing [] false lost) turned stood
+    pub went : Went (WhileOpen Row) Does mid (at session None [] nothing [] false lost)
+        turned stood
     pub closing : Closing Row Does turned stood host' last
     -- the session is closed, the events of the data side were given to it, and each floor was
     -- released

@@ -1,5 +1,5 @@
 -- The moves of a control session, one after another, with the calls of the host for each.
-use Rattle.std.specs.Prelude.{ℕ, ◌≡◌, ◌⊎◌, ◌+◌, ◌<◌, ◌≤◌, ◌||◌, List, [], ◌∷◌, ◌++◌, Bool, false, true, length, map, Option, Some, None}
+use Rattle.std.specs.Prelude.{ℕ, ◌≡◌, ◌≢◌, ◌⊎◌, ◌+◌, ◌<◌, ◌≤◌, ◌||◌, List, [], ◌∷◌, ◌++◌, Bool, false, true, length, map, Option, Some, None}
 use Rattle.authorizer.specs.Users.{Users}
 use Rattle.control_session.specs.Sides.{Given}
 use Rattle.control_session.specs.Sides.Given.{Line, Held, Came, Closed}
@@ -123,6 +123,13 @@ module _ {A S R K : Type 0} where
 
   abbrev pub release_calls : List ℕ → List (HostCall A S R K)
   release_calls = map Released
+
+-- the rows of the inputs of a session that is not over: of all but Closed
+abbrev pub WhileOpen : {A S R K : Type 0}
+    → (Users → Standing → Given K → ℕ → S → S → Promises → Outcome A R K → Type 0)
+    → Users → Standing → Given K → ℕ → S → S → Promises → Outcome A R K → Type 0
+WhileOpen Row users session given moment store store' promises outcome =
+    (given ≢ Closed) × Row users session given moment store store' promises outcome
 
 -- Row is the relation of rows: the users, the session, the input, the moment, the store before and
 -- after, the floors, and the outcome of the step.

@@ -4,7 +4,7 @@ ghost use Rattle.std.specs.Prelude.{◌≡◌, ◌⊎◌, ◌<◌, ◌≤◌, �
 ghost use Rattle.control_session.specs.Sessions.{IsLostTo, nothing};
 ghost use Rattle.control_session.specs.Rows.{IsRow};
 ghost use Rattle.control_session.specs.Standing.{AllTaken, stand};
-ghost use Rattle.control_session.specs.Turns.{Heard, Went, due};
+ghost use Rattle.control_session.specs.Turns.{Heard, Went, WhileOpen, due};
 ghost use Rattle.ftp_wire.specs.Items.{Item};
 ghost use Rattle.ftp_wire.specs.Reading.{HasRead};
 
@@ -32,7 +32,7 @@ fn hear<A: Allocator + Clone, H: Host<A>>(
     ensures went { (taken : List Item) (heard : Heard) → AllTaken taken heard
         → HasRead heard.octets heard.items lines.old
         → heard.ended ≡ false → heard.asked ≡ true → (last : List Item) × (heard' : Heard)
-        × Went (IsRow {A = A} {R = H.Source} H.Step) H.Does
+        × Went (WhileOpen (IsRow {A = A} {R = H.Source} H.Step)) H.Does
         host.old (stand talk.old taken heard) host.new (stand talk.new last heard')
         × (heard'.reads ≡ heard.reads + 1)
         × (IsErrOf result ControlFault.ReadFault → heard'.failed ≡ true)
@@ -80,7 +80,7 @@ pub(crate) fn converse<A: Allocator + Clone, H: Host<A>>(
     requires none { talk.old.came ≡ None }
     requires start { HasRead [] [] lines.old }
     ensures went { (last : List Item) × (heard : Heard)
-        × Went (IsRow {A = A} {R = H.Source} H.Step) H.Does
+        × Went (WhileOpen (IsRow {A = A} {R = H.Source} H.Step)) H.Does
         host.old (stand talk.old [] nothing) host.new (stand talk.new last heard)
         × (heard.reads ≤ turns)
         × (IsErrOf result ControlFault.ReadFault

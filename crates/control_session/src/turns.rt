@@ -4,7 +4,7 @@ ghost use Rattle.std.specs.Prelude.{◌≡◌, ◌≤◌, ◌⊎◌, ◌++◌, �
 ghost use Rattle.std.specs.Vec.Iter.{into_iter_items};
 ghost use Rattle.control_session.specs.Rows.{IsRow};
 ghost use Rattle.control_session.specs.Standing.{AllTaken, IsLost, stand};
-ghost use Rattle.control_session.specs.Turns.{Heard, HoldsFewer, Next, Went, asked_as, at, behind, due};
+ghost use Rattle.control_session.specs.Turns.{Heard, HoldsFewer, Next, Went, WhileOpen, asked_as, at, behind, due};
 ghost use Rattle.control_session.specs.Sides.{given_of};
 ghost use Rattle.ftp_wire.specs.Items.{Item};
 ghost use Rattle.ftp_wire.specs.Reading.{item_of, items_of};
@@ -65,7 +65,7 @@ pub(crate) fn turn<A: Allocator + Clone, H: Host<A>>(
         → Next (at talk.old.session came taken heard [] talk.old.closed talk.old.lost)
         (given_of input) talk.old.came taken'
         → (last : List Item) × (heard' : Heard)
-        × Went (IsRow {A = A} {R = H.Source} H.Step) H.Does
+        × Went (WhileOpen (IsRow {A = A} {R = H.Source} H.Step)) H.Does
         host.old (at talk.old.session came taken heard [] talk.old.closed talk.old.lost)
         host.new (stand talk.new last heard')
         × ((last ≡ taken) ⊎ (last ≡ taken')) × OnOk result (last ≡ taken')
@@ -97,7 +97,7 @@ pub(crate) fn look<A: Allocator + Clone, H: Host<A>>(
     requires none { talk.old.came ≡ None }
     requires whole { talk.old.lost ≡ None }
     ensures went { (taken : List Item) (heard : Heard)
-        → Went (IsRow {A = A} {R = H.Source} H.Step) H.Does
+        → Went (WhileOpen (IsRow {A = A} {R = H.Source} H.Step)) H.Does
         host.old (stand talk.old taken heard)
         host.new (stand talk.new taken (asked_as true heard)) }
     ensures none { OnOk result (talk.new.came ≡ None) }
@@ -121,7 +121,7 @@ pub(crate) fn catch_up<A: Allocator + Clone, H: Host<A>>(
     requires none { talk.old.came ≡ None }
     requires whole { talk.old.lost ≡ None }
     ensures went { (taken : List Item) (heard : Heard)
-        → (asked : Bool) × Went (IsRow {A = A} {R = H.Source} H.Step) H.Does
+        → (asked : Bool) × Went (WhileOpen (IsRow {A = A} {R = H.Source} H.Step)) H.Does
         host.old (stand talk.old taken heard) host.new (stand talk.new taken (asked_as asked heard))
         × OnOk result (asked ≡ true) }
     ensures none { OnOk result (talk.new.came ≡ None) }
@@ -151,7 +151,7 @@ fn take_line<A: Allocator + Clone, H: Host<A>>(
     ensures went { (taken rest : List Item) (heard : Heard)
         → heard.items ≡ taken ++ item_of item ∷ rest → heard.asked ≡ true
         → (last : List Item) × (asked : Bool)
-        × Went (IsRow {A = A} {R = H.Source} H.Step) H.Does
+        × Went (WhileOpen (IsRow {A = A} {R = H.Source} H.Step)) H.Does
         host.old (stand talk.old taken heard) host.new (stand talk.new last (asked_as asked heard))
         × OnOk result ((last ≡ taken ++ item_of item ∷ []) × (asked ≡ true)) }
     ensures none { OnOk result (talk.new.came ≡ None) }
@@ -182,7 +182,7 @@ pub(crate) fn take_lines<A: Allocator + Clone, H: Host<A>>(
     requires whole { talk.old.lost ≡ None }
     ensures went { (taken : List Item) (heard : Heard) → heard.items ≡ taken ++ items_of items.items
         → (last : List Item) × (asked : Bool)
-        × Went (IsRow {A = A} {R = H.Source} H.Step) H.Does
+        × Went (WhileOpen (IsRow {A = A} {R = H.Source} H.Step)) H.Does
         host.old (stand talk.old taken heard) host.new (stand talk.new last (asked_as asked heard))
         × OnOk result ((asked ≡ true) × ((talk.new.closed ≡ true) ⊎ AllTaken last heard)) }
     ensures none { OnOk result (talk.new.came ≡ None) }

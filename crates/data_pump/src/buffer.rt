@@ -1,6 +1,7 @@
 //! Wire octets that wait to be written.
 
-ghost use Rattle.std.specs.Prelude.{◌≡◌, ◌+◌, ◌*◌, ◌<◌, ◌≤◌, [], length, take, drop, IfOk, OnErr};
+ghost use Rattle.std.specs.Prelude.{◌≡◌, ◌+◌, ◌*◌, ◌<◌, ◌≤◌, [], length, take, drop, IfOk, IfErr, OnErr};
+ghost use Rattle.virtual_tree.specs.Calls.{IsEndFault};
 ghost use Rattle.std.specs.Io.KnownBytes.{Keeps};
 ghost use Rattle.data_pump.specs.Buffers.{Fills};
 ghost use Rattle.data_pump.specs.Counts.{Counts};
@@ -99,6 +100,7 @@ impl<A: Allocator> WireBuffer<A> {
         ensures kept { OnErr result
             (Keeps (S.remaining source.old.end) (S.remaining source.new.end)) }
         ensures counts { Counts result source.old.calls source.new.calls }
+        ensures refusal { IfErr result (IsEndFault (S.remaining source.old.end)) }
     {
         self.from = 0;
         self.to = 0;
@@ -124,6 +126,7 @@ fn read_octets<S: Source>(
     ensures kept { OnErr result
         (Keeps (S.remaining source.old.end) (S.remaining source.new.end)) }
     ensures counts { Counts result source.old.calls source.new.calls }
+    ensures refusal { IfErr result (IsEndFault (S.remaining source.old.end)) }
 {
     source.fetch(octets)
 }
@@ -143,6 +146,7 @@ fn read_text<S: Source>(
     ensures kept { OnErr result
         (Keeps (S.remaining source.old.end) (S.remaining source.new.end)) }
     ensures counts { Counts result source.old.calls source.new.calls }
+    ensures refusal { IfErr result (IsEndFault (S.remaining source.old.end)) }
 {
     let count = source.fetch(text)?;
     Ok(send_text(&text[..count], octets))

@@ -2,7 +2,8 @@
 //!
 //! No other module can access the end itself, so a contract that compares these counts covers each call that was made.
 
-ghost use Rattle.std.specs.Prelude.{◌≡◌, ◌<◌, ◌≤◌, length, take, IfOk, OnOk, OnErr};
+ghost use Rattle.std.specs.Prelude.{◌≡◌, ◌<◌, ◌≤◌, length, take, IfOk, IfErr, OnOk, OnErr};
+ghost use Rattle.virtual_tree.specs.Calls.{IsEndFault};
 ghost use Rattle.std.specs.Io.KnownBytes.{Appends, ReadConsumes};
 ghost use Rattle.data_pump.specs.Counts.{next, no_calls, with_passed, with_failed, Counts};
 
@@ -116,6 +117,7 @@ impl<S: Source> CountedEnd<S> {
         ensures bound { IfOk result (λ count. count ≤ length buffer.new) }
         ensures octets { ReadConsumes (S.remaining self.old.end) (S.remaining self.new.end)
             result buffer.new }
+        ensures refusal { IfErr result (IsEndFault (S.remaining self.old.end)) }
         ensures counts { Counts result self.old.calls self.new.calls }
     {
         self.made = next_count(self.made);

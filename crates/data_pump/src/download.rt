@@ -1,6 +1,6 @@
 //! Downloads: from a source to a data connection.
 
-ghost use Rattle.std.specs.Prelude.{◌≡◌, ◌⊎◌, ◌-◌, ◌<◌, ◌≤◌, ◌++◌, ℕ, List, length, IsTrue, ◌↔◌, Some, IfOk};
+ghost use Rattle.std.specs.Prelude.{◌≡◌, ◌⊎◌, ◌-◌, ◌<◌, ◌≤◌, ◌++◌, ℕ, List, length, IsTrue, ◌↔◌, Some, IfOk, IfErr};
 ghost use Rattle.grant_ledger.specs.Books.{capped};
 ghost use Rattle.data_pump.specs.Counts.{no_calls, next};
 ghost use Rattle.data_pump.specs.WireText.{sent};
@@ -52,6 +52,8 @@ impl<S: Source, K: Write + Drop, A: Allocator> DataOut<S, K, A> {
             × (out.flow.writes ≡ no_calls)) }
         ensures filled { IfOk result
             (λ out. (0 < length out.flow.waiting) ⊎ HasEnded out.flow) }
+        ensures refused { (octets : List ℕ) → S.remaining source ≡ Some octets
+            → IfErr result (λ fault. fault ≡ OpenFault.Memory) }
         ensures sending { (before octets : List ℕ) → K.contents connection ≡ Some before
             → S.remaining source ≡ Some octets
             → IfOk result (λ out. IsSending S.remaining K.contents before

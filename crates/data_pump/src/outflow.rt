@@ -1,6 +1,6 @@
 //! The flow out of a source: waiting wire octets, written as granted, and read again once none wait.
 
-ghost use Rattle.std.specs.Prelude.{◌≡◌, ◌≢◌, ◌<◌, ◌≤◌, [], length, IsTrue, ◌↔◌, IfOk, false};
+ghost use Rattle.std.specs.Prelude.{◌≡◌, ◌≢◌, ◌<◌, ◌≤◌, ℕ, List, Some, [], length, IsTrue, ◌↔◌, IfOk, false};
 ghost use Rattle.std.specs.Bool.{OnTrue};
 ghost use Rattle.std.specs.Io.KnownBytes.{Keeps, IsAtEnd};
 ghost use Rattle.line_rates.specs.declared.ask.Way.TheVariants.{Down};
@@ -110,6 +110,8 @@ impl<S: Source, K: Write + Drop, A: Allocator> Outflow<S, K, A> {
         ensures writes_failed { FailsAsTold Down result Connection self.old.writes
             self.new.writes }
         ensures own { result ≢ PumpEnd.WriteFault }
+        ensures honest { (octets : List ℕ) → S.remaining self.old.source ≡ Some octets
+            → result ≢ PumpEnd.ReadFault }
     {
         if self.buffer.len() > 0 {
             return PumpEnd::More;

@@ -42,6 +42,8 @@ pub(crate) struct ReloadFile {
     pub numbers: ServerNumbers,
     /// `memory`, or the path of the folder that is served.
     pub root: String,
+    /// The capacity of a store in memory.
+    pub capacity: u64,
     pub known: Mutex<Known>,
     /// The configuration that the server is about to take.
     pub next: Mutex<Option<NextConfig>>,
@@ -103,6 +105,14 @@ pub(crate) fn root_of(store: &ServedStore) -> &str {
     }
 }
 
+/// The capacity of a store in memory, as a configuration states it; 0 for a folder.
+pub(crate) fn capacity_of(store: &ServedStore) -> u64 {
+    match store {
+        ServedStore::Memory(store) => store.capacity(),
+        ServedStore::Folder(_) => 0,
+    }
+}
+
 /// Reads a configuration. `Err` is the reason for which it cannot be had.
 fn read_config(machine: &HostRuntime, path: &str) -> Result<Config, Option<String>> {
     let alloc = machine.alloc();
@@ -139,12 +149,12 @@ impl ReloadFile {
         let old = FixedValues {
             numbers: self.numbers,
             root: self.root.as_str(),
-            capacity: 0,
+            capacity: self.capacity,
         };
         let new = FixedValues {
             numbers: config.numbers,
             root: root_of(&config.store),
-            capacity: 0,
+            capacity: capacity_of(&config.store),
         };
         if let Some(key) = fixed_key(&old, &new) {
             return Some(words(alloc, &key));

@@ -5,7 +5,7 @@ use crate::facts::{Start, facts_of, start_of};
 use crate::log_thread::{QueuedTransfers, serve_with_log};
 use crate::page_thread::serve_with_page;
 use crate::ready_file::MachineReadyFile;
-use crate::reload_file::{Known, ReloadFile, root_of};
+use crate::reload_file::{Known, ReloadFile, capacity_of, root_of};
 use crate::sign_file::SignFile;
 use crate::starting::{Means, Prepared, Unprepared, prepare};
 use crate::status_file::{MachineSigns, StatusFile};
@@ -251,6 +251,7 @@ fn reload_file(
         config,
         numbers: served.numbers,
         root: String::from_str(machine.alloc(), root_of(&served.store))?,
+        capacity: capacity_of(&served.store),
         known: Mutex::new(known),
         next: Mutex::new(None),
         is_stuck: Mutex::new(false),

@@ -96,71 +96,41 @@ fn hindrance_at(machine: &HostRuntime, path: &str) -> Option<Hindrance> {
     }
 }
 
-/// Returns the sign at a path. `Err` is the reason for which no file there could be noticed, with the path.
-fn sign_at(machine: &HostRuntime, path: String) -> Result<SignFile, (String, Hindrance)> {
+/// A sign of the owner's.
+#[derive(Clone, Copy)]
+enum Sign {
+    Stop,
+    Drain,
+    Reload,
+}
+
+/// Returns the fault of a start whose sign could not be noticed at a path.
+fn sign_fault(sign: Sign, path: String, hindrance: Hindrance) -> StartFault {
+    match (sign, hindrance) {
+        (Sign::Stop, Hindrance::There) => StartFault::StopFileThere { path },
+        (Sign::Stop, Hindrance::Told(reason)) => StartFault::StopFileUnseen { path, reason },
+        (Sign::Drain, Hindrance::There) => StartFault::DrainFileThere { path },
+        (Sign::Drain, Hindrance::Told(reason)) => StartFault::DrainFileUnseen { path, reason },
+        (Sign::Reload, Hindrance::There) => StartFault::ReloadFileThere { path },
+        (Sign::Reload, Hindrance::Told(reason)) => StartFault::ReloadFileUnseen { path, reason },
+    }
+}
+
+/// Returns the sign at a path, if there is to be one. `Err` if no file there could be noticed.
+fn sign_if_any(
+    machine: &HostRuntime,
+    sign: Sign,
+    path: Option<String>,
+) -> Result<Option<SignFile>, StartFault> {
+    let Some(path) = path else {
+        return Ok(None);
+    };
     match hindrance_at(machine, path.as_str()) {
-        Some(hindrance) => Err((path, hindrance)),
-        None => Ok(SignFile {
+        Some(hindrance) => Err(sign_fault(sign, path, hindrance)),
+        None => Ok(Some(SignFile {
             machine: *machine,
             path,
-        }),
-    }
-}
-
-fn stop_if_any(
-    machine: &HostRuntime,
-    path: Option<String>,
-) -> Result<Option<SignFile>, StartFault> {
-    let Some(path) = path else {
-        return Ok(None);
-    };
-    match sign_at(machine, path) {
-        Ok(stop) => Ok(Some(stop)),
-        Err(found) => {
-            let (path, hindrance) = found;
-            match hindrance {
-                Hindrance::There => Err(StartFault::StopFileThere { path }),
-                Hindrance::Told(reason) => Err(StartFault::StopFileUnseen { path, reason }),
-            }
-        }
-    }
-}
-
-fn drain_if_any(
-    machine: &HostRuntime,
-    path: Option<String>,
-) -> Result<Option<SignFile>, StartFault> {
-    let Some(path) = path else {
-        return Ok(None);
-    };
-    match sign_at(machine, path) {
-        Ok(drain) => Ok(Some(drain)),
-        Err(found) => {
-            let (path, hindrance) = found;
-            match hindrance {
-                Hindrance::There => Err(StartFault::DrainFileThere { path }),
-                Hindrance::Told(reason) => Err(StartFault::DrainFileUnseen { path, reason }),
-            }
-        }
-    }
-}
-
-fn reload_if_any(
-    machine: &HostRuntime,
-    path: Option<String>,
-) -> Result<Option<SignFile>, StartFault> {
-    let Some(path) = path else {
-        return Ok(None);
-    };
-    match sign_at(machine, path) {
-        Ok(reload) => Ok(Some(reload)),
-        Err(found) => {
-            let (path, hindrance) = found;
-            match hindrance {
-                Hindrance::There => Err(StartFault::ReloadFileThere { path }),
-                Hindrance::Told(reason) => Err(StartFault::ReloadFileUnseen { path, reason }),
-            }
-        }
+        })),
     }
 }
 
@@ -289,9 +259,18 @@ where
         patience,
     } = service;
     let form = part(form_named(log_form), ServeFault::LogForm)?;
-    let stop = part(stop_if_any(machine, stop_file), ServeFault::Stopped)?;
-    let drain = part(drain_if_any(machine, drain_file), ServeFault::Stopped)?;
-    let reload = part(reload_if_any(machine, reload_file), ServeFault::ReloadFile)?;
+    let stop = part(
+        sign_if_any(machine, Sign::Stop, stop_file),
+        ServeFault::Stopped,
+    )?;
+    let drain = part(
+        sign_if_any(machine, Sign::Drain, drain_file),
+        ServeFault::Stopped,
+    )?;
+    let reload = part(
+        sign_if_any(machine, Sign::Reload, reload_file),
+        ServeFault::ReloadFile,
+    )?;
     let ready = part(ready_if_any(machine, ready_file), ServeFault::ReadyFile)?;
     if let Some(start) = folder_fault(machine, &config.store) {
         return Err(not_prepared(ServeFault::Store, start));

@@ -8,6 +8,7 @@
 //! store.make_dir(path)?; // the path is `/in`
 //! holds(rt, store.make_dir(path) == Err(StoreFault::Exists));
 //! holds(rt, store.list(path)?.is_empty());
+//! holds(rt, store.capacity() == 1_000_000);
 //! ```
 #![tactic(auto)]
 

@@ -55,6 +55,13 @@ impl<A: Allocator + Clone> MemStore<A> {
         })
     }
 
+    /// Maximum total of the octets in the files.
+    pub fn capacity(&self) -> u64
+        ensures capacity { result ≡ self.now.capacity }
+    {
+        self.capacity
+    }
+
     /// Another handle to the entry at a spot.
     pub(crate) fn share(&self, spot: &Spot<A>) -> Result<Option<Entry<A>>, AllocError>
         ensures { IfOk result (λ found. found ≡ map.get self.now.tree spot.now) }

@@ -12,6 +12,7 @@ use Rattle.session_table.specs.Steps.{Standing}
 use Rattle.session_table.specs.declared.actions.Action.{Action}
 use Rattle.session_table.specs.declared.actions.Action.TheVariants.{Say, Hook, OpenPassive, ConnectTo, DropData, Start, Abort, CloseControl, ReleaseFloor}
 use Rattle.control_session.proofs.Balance.{chain_split}
+use Rattle.control_session.proofs.Going.{open_went}
 use Rattle.control_session.specs.Calls.{Chain, HostCall}
 use Rattle.control_session.specs.Calls.HostCall.{Asked, Broke, Noted, Read, ReadEnd, ReadFailed, Released, Tried, Wrote}
 use Rattle.control_session.specs.Rows.{Outcome}
@@ -275,7 +276,7 @@ module _ {A S C D R W H Q K : Type 0} (users : Users) (Gives : C → ℕ → C �
           wrote = greeted.1.1;
           lost = λ is. go (lost is);
         } in
-        let stood = went_stands is.mid is.turned begun is.stood is.went start in
+        let stood = went_stands is.mid is.turned begun is.stood (open_went Row Does is.mid is.turned begun is.stood is.went) start in
         let closing = is.closing in
         let closed = at closing.session None is.stood.taken is.stood.heard closing.owes is.stood.closed is.stood.lost in
         let settled = at closing.session closing.event is.stood.taken (asked_as true is.stood.heard) closing.owes is.stood.closed is.stood.lost in

@@ -49,7 +49,7 @@ module _ {G H A S R K : Type 0} (Does : G → HostCall A S R K → G → Type 0)
       → Has old → IsSession Row Does turns result session old new → IsSession Row Sees turns result session (see old) (see new)
   session_seen turns result session old new has is =
       let (greeted, begun) = chain_seen old is.mid is.said has is.greeted in
-      let (went, turned) = went_seen is.mid is.turned _ is.stood begun is.went in
+      let (gone, turned) = chain_seen is.mid is.turned (concat is.went.moves) begun is.went.asked in
       record {
         actions = is.actions;
         said = is.said;
@@ -61,7 +61,7 @@ module _ {G H A S R K : Type 0} (Does : G → HostCall A S R K → G → Type 0)
         row = is.row;
         greets = is.greets;
         greeted = greeted;
-        went = went;
+        went = record { moves = is.went.moves; asked = gone; runs = is.went.runs };
         closing = closing_seen is.turned new is.stood is.last turned is.closing;
         closed_then = is.closed_then;
         answered = is.answered;

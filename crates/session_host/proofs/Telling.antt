@@ -29,7 +29,7 @@ use Rattle.control_session.specs.Told.{text_of, texts}
 use Rattle.control_session.specs.Turns.{Carried, Carries, Heard, IsIdle, IsTurn, Move, Next, Runs, Situation, Went, asked_as, at, behind, concat, release_calls}
 use Rattle.control_session.specs.Turns.Move.{Takes, Tries, Asks, Reads, Ends, Fails, Pays}
 use Rattle.control_session.specs.declared.fault.ControlFault.{ControlFault}
-use Rattle.control_session.proofs.Going.{concat_more}
+use Rattle.control_session.proofs.Going.{concat_more, open_went}
 use Rattle.control_session.specs.declared.turn_fault.TurnFault.{TurnFault}
 use Rattle.control_session.specs.declared.turn_fault.TurnFault.TheVariants.{Write, Memory}
 use Rattle.session_host.specs.Alone.{AloneDoes, Parts}
@@ -593,7 +593,7 @@ module _ {A S C D R W H Q K : Type 0} (users : Users) (Gives : C → ℕ → C �
         let (later, grown) = runs_grow closing.rest.moves settled is.last closing.rest.runs in
         let (serves, greets) = carries_told is.actions None is.lost is.said old is.mid is.greets is.greeted in
         let moved =
-        moved_more items begun is.stood is.last is.mid is.turned new (went_told items later begun is.stood is.mid is.turned grown is.went)
+        moved_more items begun is.stood is.last is.mid is.turned new (went_told items later begun is.stood is.mid is.turned grown (open_went Row Does is.mid is.turned begun is.stood is.went))
         (moved_more items is.stood left is.last is.turned closing.mid new (went_told items later is.stood left is.turned closing.mid grown closing.first)
         (moved_more items left settled is.last closing.mid closing.mid' new (settled_told items left closing.mid closing.mid' closing.event refl closing.closed_then closing.settled)
         (went_told items [] settled is.last closing.mid' new (sym (append-nil items)) closing.rest))) in

@@ -213,7 +213,7 @@ keeps_floors r tick ls ms s i l m a x y here asks =
 
 -- ---- each decision
 
-pub best_in_round : (r : Rates) (w : World) (moment tick total : ℕ) (end : World) → IsDecision r w moment tick total end → AreBestInRound r w tick total
+pub best_in_round : (r : Rates) (w : World) (moment tick total : ℕ) (end : World) → IsDecision r w moment tick total end → AreBestInRound r w tick total end
 best_in_round r w moment tick total end d =
     let posted : EachPosted w.lanes = posted_all w.lanes d.ready.posted in
     let s : IsShared r tick w.lanes end.lanes = d.shared in
@@ -221,11 +221,12 @@ best_in_round r w moment tick total end d =
     let octets : sum (map granted_octets (decided_grants end.lanes)) ≡ sum (map granted_octets s.leaves) =
     sum_by-IsPermutation (λ (n : ℕ). n) (map granted_octets s.leaves) (map granted_octets (decided_grants end.lanes)) (IsPermutation-map granted_octets s.leaves (decided_grants end.lanes) s.all) in
     record {
-      asks = map granted_ask s.leaves;
+      given = s.given;
+      leaves = s.leaves;
+      decided = s.all;
       all = IsPermutation-sym (map granted_ask s.leaves) (map ask_in (in_round w.lanes)) (subst (IsPermutation (map granted_ask s.leaves)) (same_asks 0 w.lanes end.lanes posted s.given) moved);
       tree = s.tree;
       of_tick = s.of_tick;
-      grants = map granted_octets s.leaves;
       best = s.best;
       total_is = d.total_is ∙ sym (all_octets w.lanes end.lanes posted s.given) ∙ octets;
     }

@@ -1,8 +1,11 @@
 -- A run goes on by one event.
-use Rattle.std.proofs.Common.{◌≡◌, ℕ, ◌+◌, ◌<◌, List, [], ◌∷◌, ◌++◌, length, map, take, get_or, refl, sym, ap, ◌∙◌, subst}
+use Rattle.std.proofs.Common.{◌≡◌, ℕ, ◌+◌, ◌<◌, List, [], ◌∷◌, ◌++◌, length, map, take, get_or, refl, sym, ap, ◌∙◌, subst, inl, inr, arith}
 use Rattle.std.proofs.lemmas.List.{take_more, reverse-append}
 use Rattle.std.specs.Prelude.{Result, Ok, Err}
+use Rattle.std.specs.List.{All}
+use Rattle.std.proofs.lemmas.List.Elements.{All-append}
 use Rattle.std.specs.Result.{MatchResult}
+use Rattle.share_world.specs.Stopped.{HadMemory, IsStoppedRun}
 use Rattle.line_rates.specs.Rates.{Rates}
 use Rattle.world_terms.specs.declared.event.Event.{Event}
 use Rattle.world_terms.specs.declared.event.EventAnswer.{EventAnswer}
@@ -32,11 +35,25 @@ run_at r r' start w end events i rs rs' d reply less same more run step =
     subst (λ (xs : List (Result EventAnswer StepFault)). IsRun r start (take (i + 1) events) xs end) (sym more)
     (subst (λ (es : List Event). IsRun r start es (rs ++ reply ∷ []) end) (sym (take_more events i d less)) (run_more r start w end (take i events) rs (get_or events i d) reply run step_r))
 
-pub some_run : (r : Rates) (start end now : World) (events : List Event) (i : ℕ) (replies : List (Result EventAnswer StepFault)) → IsRun r start (take i events) replies end → now ≡ end → IsRunOfSome r start events now
+some_run : (r : Rates) (start end now : World) (events : List Event) (i : ℕ) (replies : List (Result EventAnswer StepFault)) → IsRun r start (take i events) replies end → now ≡ end → IsRunOfSome r start events now
 some_run r start end now events i replies run same = record { done = i; replies = replies; run = subst (IsRun r start (take i events) replies) (sym same) run }
 
-pub none_run : (r : Rates) (start : World) (events : List Event) → IsRunOfSome r start events start
+none_run : (r : Rates) (start : World) (events : List Event) → IsRunOfSome r start events start
 none_run r start events = record { done = 0; replies = []; run = run_none r start }
+
+-- a run that stops before an event
+pub stopped_run : (r : Rates) (start end now : World) (events : List Event) (i : ℕ) (replies : List (Result EventAnswer StepFault)) → IsRun r start (take i events) replies end → now ≡ end → All HadMemory replies → i < length events
+    → IsStoppedRun r start events now
+stopped_run r start end now events i replies run same had less = record { some = some_run r start end now events i replies run same; had = had; left = inl less }
+
+-- a run that stops before its first event
+pub unbegun_run : (r : Rates) (start : World) (events : List Event) → IsStoppedRun r start events start
+unbegun_run r start [] = record { some = none_run r start []; had = tt; left = inr refl }
+unbegun_run r start (e ∷ es) = record { some = none_run r start (e ∷ es); had = tt; left = inl (omega arith) }
+
+-- one reply more
+pub had_more : (replies more : List (Result EventAnswer StepFault)) (reply : Result EventAnswer StepFault) → more ≡ replies ++ reply ∷ [] → All HadMemory replies → HadMemory reply → All HadMemory more
+had_more replies more reply is had one = subst (All HadMemory) (sym is) (All-append HadMemory replies (reply ∷ []) had (one, tt))
 
 -- lack of memory changes nothing
 pub unmoved : (r : Rates) (w : World) (e : Event) (reply : Result EventAnswer StepFault) (f : StepFault) (end : World) → Step r w e reply end → reply ≡ Err f → end ≡ w

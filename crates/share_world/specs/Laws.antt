@@ -4,6 +4,7 @@ use Rattle.limit_tree.specs.Sharing.{LimitTree, IsBest}
 use Rattle.line_rates.specs.declared.ask.Ask.{Ask}
 use Rattle.line_rates.specs.declared.ask.Name.{Name}
 use Rattle.line_rates.specs.declared.ask.Name.TheVariants.{Server}
+use Rattle.line_rates.specs.Granted.{Granted, granted_ask, granted_octets}
 use Rattle.line_rates.specs.Names.{floor_of}
 use Rattle.line_rates.specs.Rates.{Rates, rate_of}
 use Rattle.line_rates.specs.Ticks.{rate_limit}
@@ -13,7 +14,7 @@ use Rattle.world_terms.specs.declared.event.Event.{Event}
 use Rattle.world_terms.specs.declared.event.Event.TheVariants as event
 use Rattle.world_terms.specs.declared.event.EventAnswer.{EventAnswer}
 use Rattle.world_terms.specs.declared.event.EventAnswer.TheVariants as answer
-use Rattle.world_terms.specs.Decisions.{decided_of, in_round}
+use Rattle.world_terms.specs.Decisions.{AreGiven, decided_grants, decided_of, in_round}
 use Rattle.world_terms.specs.Lanes.{Lane, World, amount, new_world}
 use Rattle.world_terms.specs.Runs.{Occasion, Runs, exchanges, last_ask, limits_under, moved_in_all, moved_under}
 use Rattle.world_terms.specs.Steps.{Step}
@@ -83,18 +84,21 @@ OfEachDecision P =
     → Step rates w (event.Decide moment) (Ok (answer.Decided tick total)) w'
     → P rates w tick total w'
 
--- best grants for a tree of the tick over exactly the asks of the lanes in Round, with this total
-pub record AreBestInRound (rates : Rates) (w : World) (tick total : ℕ) : Type 0 where
-  pub asks : List Ask
-  pub all : IsPermutation (map ask_in (in_round w.lanes)) asks
+-- Each lane in Round gets a decided amount, and no other lane does. These amounts, in some order,
+-- are best grants for a tree of the tick, each for the leaf of its lane's ask; the leaves are
+-- exactly the asks of the lanes in Round, and the amounts add up to this total.
+pub record AreBestInRound (rates : Rates) (w : World) (tick total : ℕ) (w' : World) : Type 0 where
+  pub given : AreGiven w.lanes w'.lanes
+  pub leaves : List Granted
+  pub decided : IsPermutation leaves (decided_grants w'.lanes)
+  pub all : IsPermutation (map ask_in (in_round w.lanes)) (map granted_ask leaves)
   pub tree : LimitTree
-  pub of_tick : IsTickTree rates tick asks tree
-  pub grants : List ℕ
-  pub best : IsBest tree grants
-  pub total_is : total ≡ sum grants
+  pub of_tick : IsTickTree rates tick (map granted_ask leaves) tree
+  pub best : IsBest tree (map granted_octets leaves)
+  pub total_is : total ≡ sum (map granted_octets leaves)
 
 abbrev pub DecisionsAreBest : Type 0
-DecisionsAreBest = OfEachDecision (λ rates w tick total w'. AreBestInRound rates w tick total)
+DecisionsAreBest = OfEachDecision AreBestInRound
 
 -- the octets decided for a lane whose ask counts under the name
 abbrev pub decided_under : Rates → Name → Lane → ℕ

@@ -4,3 +4,4 @@ pub mod Turns
 pub mod Limited
 pub mod Codes
 pub mod Shares
+pub mod Stopped

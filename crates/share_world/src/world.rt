@@ -3,7 +3,7 @@
 ghost use Rattle.std.specs.Prelude.{◌≡◌, ◌≤◌, ◌<◌, length, All, false, Ok, Err, IfOk, OnErr, IfErr, IsErrOf};
 ghost use Rattle.grant_ledger.specs.declared.ledger.TheConstants.{MAX_ISSUED};
 ghost use Rattle.world_terms.specs.Lanes.{new_world};
-ghost use Rattle.world_terms.specs.Runs.{IsRun, IsRunOfSome};
+ghost use Rattle.world_terms.specs.Runs.{IsRun};
 ghost use Rattle.world_terms.specs.Steps.{RefusesDecide, Step, lane_of};
 ghost use Rattle.world_terms.specs.Sums.{shares_in};
 ghost use Rattle.world_terms.specs.Decisions.{IsReady, in_round};
@@ -11,6 +11,7 @@ ghost use Rattle.limit_tree.specs.Outline.{limits as seen};
 ghost use Rattle.limit_tree.specs.Sharing.{IsBest};
 ghost use Rattle.line_rates.specs.TickTree.{IsPlan};
 ghost use Rattle.share_world.specs.Shares.{IsUnshared};
+ghost use Rattle.share_world.specs.Stopped.{HadMemory, IsStoppedRun};
 ghost use Rattle.world_terms.specs.declared.event.Event.TheVariants as event;
 ghost use Rattle.share_world.specs.Limited.{lane_at};
 ghost use Rattle.share_world.specs.Turns.{HasAsk, is_collect, is_decide};
@@ -88,15 +89,17 @@ impl<A: Allocator + Clone> World<A> {
         self.turn(event)
     }
 
-    /// Performs the events in order, and returns each with its reply. If memory runs out, the events before are kept.
+    /// Performs the events in order, and returns the reply to each. Fails if memory runs out for one of them, or for the
+    /// replies: the events before that one are kept.
     pub fn run(
         &mut self,
         events: &[Event],
     ) -> Result<Vec<Result<EventAnswer, StepFault>, A>, AllocError>
         ensures run { IfOk result (λ replies.
             IsRun self.old.rates self.old.world events.now replies.items self.new.world) }
+        ensures had { IfOk result (λ replies. All HadMemory replies.items) }
         ensures stopped { OnErr result
-            (IsRunOfSome self.old.rates self.old.world events.now self.new.world) }
+            (IsStoppedRun self.old.rates self.old.world events.now self.new.world) }
         ensures rates { self.new.rates ≡ self.old.rates }
     {
         let mut replies = Vec::new(self.alloc.clone()?);

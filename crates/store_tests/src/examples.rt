@@ -15,6 +15,7 @@ fn memory_store(rt: &(impl Abort + AllocGlobal), path: &VPath) -> Result<(), Sto
     store.make_dir(path)?; // the path is `/in`
     holds(rt, store.make_dir(path) == Err(StoreFault::Exists));
     holds(rt, store.list(path)?.is_empty());
+    holds(rt, store.capacity() == 1_000_000);
     Ok(())
 }
 

@@ -47,7 +47,8 @@ impl<J, A: Allocator> JobBoard<J, A> {
         self.queue.push_as::<Put, R>(rt, &mut pass.pass, job)
     }
 
-    /// Takes the oldest job. Returns `None` only if the board was empty at a moment of the call.
+    /// Takes the oldest job. Returns `None` only if the board was empty at a moment since the pass last pushed or popped, or
+    /// since it was made.
     ///
     /// May wait for a thread that is within a call on the same place.
     pub fn pop<R: Wait>(&self, rt: &R, pass: &mut BoardPass<J>) -> Option<J>

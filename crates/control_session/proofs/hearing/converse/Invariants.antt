@@ -3,7 +3,7 @@ use Rattle.ftp_wire.specs.Items.{Item}
 use Rattle.ftp_wire.specs.Reading.{HasRead}
 use Rattle.control_session.specs.Rows.{IsRow}
 use Rattle.control_session.specs.Standing.{AllTaken, stand}
-use Rattle.control_session.specs.Turns.{Heard, Went, due}
+use Rattle.control_session.specs.Turns.{Heard, Went, WhileOpen, due}
 use Rattle.control_session.specs.Sessions.{nothing}
 use Rattle.control_session.proofs.hearing.converse.Given as goal
 
@@ -14,7 +14,7 @@ invariant-loop-turn g l = record {
   whole : l.talk.lost ≡ None;
   due : due l.talk.session ≡ false;
   room : length l.buffer ≡ length l.fn.buffer;
-  far : (last : List Item) × (heard : Heard) × Went (IsRow {A = g.row.A.Denot} g.H.Host.Step) g.H.Host.Does
+  far : (last : List Item) × (heard : Heard) × Went (WhileOpen (IsRow {A = g.row.A.Denot} g.H.Host.Step)) g.H.Host.Does
       l.fn.host (stand l.fn.talk [] nothing) l.host (stand l.talk last heard)
       × HasRead heard.octets heard.items l.lines
       × (heard.reads ≡ l._turn) × (heard.ended ≡ false)

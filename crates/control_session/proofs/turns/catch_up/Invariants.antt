@@ -2,14 +2,14 @@ use Rattle.std.proofs.Common.{◌≡◌, List, None, length, true}
 use Rattle.ftp_wire.specs.Items.{Item}
 use Rattle.control_session.specs.Rows.{IsRow}
 use Rattle.control_session.specs.Standing.{stand}
-use Rattle.control_session.specs.Turns.{Heard, Went, asked_as}
+use Rattle.control_session.specs.Turns.{Heard, Went, WhileOpen, asked_as}
 use Rattle.control_session.proofs.turns.catch_up.Given as goal
 
 abbrev pub invariant-loop-host : goal.invariant-loop-host
 invariant-loop-host g l = record {
   none : l.talk.came ≡ None;
   whole : l.talk.lost ≡ None;
-  went : (taken : List Item) (heard : Heard) → Went (IsRow {A = g.row.A.Denot} g.H.Host.Step) g.H.Host.Does
+  went : (taken : List Item) (heard : Heard) → Went (WhileOpen (IsRow {A = g.row.A.Denot} g.H.Host.Step)) g.H.Host.Does
       l.fn.host (stand l.fn.talk taken heard) l.host (stand l.talk taken (asked_as true heard));
 }
 

@@ -5,7 +5,7 @@ use Rattle.ftp_wire.specs.Items.{Item}
 use Rattle.ftp_wire.specs.Reading.{item_of, items_of}
 use Rattle.control_session.specs.Rows.{IsRow}
 use Rattle.control_session.specs.Standing.{stand}
-use Rattle.control_session.specs.Turns.{Went, asked_as}
+use Rattle.control_session.specs.Turns.{Went, WhileOpen, asked_as}
 use Rattle.control_session.proofs.Going.{off_ok, went_more}
 use Rattle.control_session.proofs.Turning.{asked_went}
 use Rattle.control_session.proofs.turns.take_lines.Goals as goal
@@ -47,7 +47,7 @@ loop-item-preserved g c =
             far.0 ++ (item_of c.in-Some.item ∷ []),
             items ∙ sym (append_assoc far.0 (item_of c.in-Some.item ∷ []) rest),
             asked_went _ _ _ _ _ _ _ (far.0 ++ (item_of c.in-Some.item ∷ [])) heard _ _ line.1 line.3.1
-                (subst (λ (x : List Item). Went (IsRow {A = g.row.A.Denot} g.H.Host.Step) g.H.Host.Does c.args.host.now (stand c.args.talk.now taken heard) c.take_line.new.host (stand c.take_line.new.talk x (asked_as line.1 heard)))
+                (subst (λ (x : List Item). Went (WhileOpen (IsRow {A = g.row.A.Denot} g.H.Host.Step)) g.H.Host.Does c.args.host.now (stand c.args.talk.now taken heard) c.take_line.new.host (stand c.take_line.new.talk x (asked_as line.1 heard)))
                 line.3.0 (went_more _ _ _ _ _ _ _ _ far.2 line.2)),
           );
     }

@@ -2,7 +2,7 @@ use Rattle.std.proofs.Common.{◌≡◌, ◌<◌, ◌++◌, ◌∷◌, [], lengt
 use Rattle.std.specs.Prelude.{Result}
 use Rattle.world_terms.specs.declared.event.EventAnswer.{EventAnswer}
 use Rattle.world_terms.specs.declared.fault.StepFault.{StepFault}
-use Rattle.share_world.proofs.Longer.{none_run, on_err, run_at, some_run, unmoved}
+use Rattle.share_world.proofs.Longer.{had_more, on_err, run_at, stopped_run, unbegun_run, unmoved}
 use Rattle.share_world.proofs.world.World.run.Goals as goal
 use Rattle.share_world.proofs.world.World.run.Goals.{in-Err-Memory, in_default, in_default-2}
 
@@ -13,19 +13,20 @@ loop-event-preserved g c =
     record {
       run = run_at c.args.self.now.rates c.loop-event.self.rates c.args.self.now.world c.loop-event.self.world c.step-reply.new.self.world c.args.events.now c.loop-event.event-index c.loop-event.replies.items c.push_reserved.new.self.items
           _ c.step-reply.result less c.loop-event.invariant.rates more c.loop-event.invariant.run c.step-reply.ensures.step;
+      had = had_more c.loop-event.replies.items c.push_reserved.new.self.items c.step-reply.result more c.loop-event.invariant.had (cc);
       rates = c.step-reply.ensures.rates ∙ c.loop-event.invariant.rates;
     }
 
 pub returns-in_err-clone-clause-stopped : goal.returns-in_err-clone-clause-stopped
-returns-in_err-clone-clause-stopped g c = on_err _ c.from_residual.result (none_run c.args.self.now.rates c.args.self.now.world c.args.events.now)
+returns-in_err-clone-clause-stopped g c = on_err _ c.from_residual.result (unbegun_run c.args.self.now.rates c.args.self.now.world c.args.events.now)
 
 pub returns-in_err-reserve-clause-stopped : goal.returns-in_err-reserve-clause-stopped
-returns-in_err-reserve-clause-stopped g c = on_err _ c.from_residual-in_err-reserve.result (some_run c.args.self.now.rates c.args.self.now.world c.loop-event.self.world c.loop-event.self.world c.args.events.now c.loop-event.event-index c.loop-event.replies.items c.loop-event.invariant.run refl)
+returns-in_err-reserve-clause-stopped g c = on_err _ c.from_residual-in_err-reserve.result (stopped_run c.args.self.now.rates c.args.self.now.world c.loop-event.self.world c.loop-event.self.world c.args.events.now c.loop-event.event-index c.loop-event.replies.items c.loop-event.invariant.run refl c.loop-event.invariant.had (omega arith))
 
 pub returns-then-matches-clause-stopped : goal.returns-then-matches-clause-stopped
 returns-then-matches-clause-stopped g c = elim c.match-matches.branch [
-  | in-Err-Memory w ↦ some_run c.args.self.now.rates c.args.self.now.world c.loop-event.self.world c.step-reply.new.self.world c.args.events.now c.loop-event.event-index c.loop-event.replies.items c.loop-event.invariant.run
-      (unmoved c.loop-event.self.rates c.loop-event.self.world _ c.step-reply.result _ c.step-reply.new.self.world c.step-reply.ensures.step w.in-Err-Memory.is)
+  | in-Err-Memory w ↦ stopped_run c.args.self.now.rates c.args.self.now.world c.loop-event.self.world c.step-reply.new.self.world c.args.events.now c.loop-event.event-index c.loop-event.replies.items c.loop-event.invariant.run
+      (unmoved c.loop-event.self.rates c.loop-event.self.world _ c.step-reply.result _ c.step-reply.new.self.world c.step-reply.ensures.step w.in-Err-Memory.is) c.loop-event.invariant.had (omega arith)
   | in_default w ↦ absurd (cc)
   | in_default-2 w ↦ absurd (cc)
 ]

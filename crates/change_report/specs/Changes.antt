@@ -1,7 +1,7 @@
 -- The differences of two configurations: settings, rates and guarantees that have another value,
 -- groups and users that only one of the two has, and users whose terms differ. Groups and users are
 -- the same if their names are.
-use Rattle.std.specs.Prelude.{ℕ, Bool, true, false, ◌&&◌, ◌||◌, cond, if◌then◌else◌, nat_eq, not, List, [], ◌∷◌, ◌++◌, bytes_eq, codes, is_some, Option, Some, None, Vec}
+use Rattle.std.specs.Prelude.{ℕ, Bool, true, false, ◌&&◌, ◌||◌, cond, if◌then◌else◌, nat_eq, not, List, [], ◌∷◌, ◌++◌, bytes_eq, codes, Option, Some, None, Vec}
 use Rattle.std.specs.Borrow.{Bor}
 use Rattle.std.specs.List.{flat_map}
 use Rattle.std.specs.Net.Addr.{ipv4_bits}
@@ -158,21 +158,23 @@ limit_changes old new =
 
 -- ---- groups and users that only one file has
 
+-- the change, unless there is one of that name
+abbrev pub unless_named : {X : Type 0} → Option X → NameChange → List NameChange
+unless_named None change = change ∷ []
+unless_named (Some found) change = []
+
 abbrev pub added_group : List GroupTable → GroupTable → List NameChange
-added_group old group =
-    if is_some (group_named old group.name.now) then [] else name.GroupAdded group.name ∷ []
+added_group old group = unless_named (group_named old group.name.now) (name.GroupAdded group.name)
 
 abbrev pub gone_group : List GroupTable → GroupTable → List NameChange
 gone_group new group =
-    if is_some (group_named new group.name.now) then [] else name.GroupTakenOut group.name ∷ []
+    unless_named (group_named new group.name.now) (name.GroupTakenOut group.name)
 
 abbrev pub added_user : List UserTable → UserTable → List NameChange
-added_user old user =
-    if is_some (user_named old user.name.now) then [] else name.UserAdded user.name ∷ []
+added_user old user = unless_named (user_named old user.name.now) (name.UserAdded user.name)
 
 abbrev pub gone_user : List UserTable → UserTable → List NameChange
-gone_user new user =
-    if is_some (user_named new user.name.now) then [] else name.UserTakenOut user.name ∷ []
+gone_user new user = unless_named (user_named new user.name.now) (name.UserTakenOut user.name)
 
 -- ---- the terms of users that both files have
 

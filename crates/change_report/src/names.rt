@@ -1,6 +1,6 @@
 //! Groups and users that are added, that are taken out, and users whose terms change.
 
-ghost use Rattle.std.specs.Prelude.{◌≡◌, ◌++◌, OnOk, is_none, length};
+ghost use Rattle.std.specs.Prelude.{◌≡◌, ◌++◌, OnOk, length};
 ghost use Rattle.std.specs.List.{flat_map};
 ghost use Rattle.change_report.specs.Changes.{added_group, added_user, gone_group, gone_user, key_change, key_text, name_changes, same_name, same_password, stated_terms, term_changes, access_terms, message_terms, when_text};
 
@@ -58,66 +58,130 @@ pub(crate) enum NameChange<'a> {
     UserChanged { name: &'a str, key: TermKey },
 }
 
+/// Adds the addition of a group, unless the old file has one of its name.
+fn push_added_group<'a>(
+    found: &mut Vec<NameChange<'a>>,
+    old: &[GroupTable<'_>],
+    group: &GroupTable<'a>,
+) -> Result<(), AllocError>
+    ensures change { OnOk result
+        (found.new.items ≡ found.old.items ++ added_group old.now group.now) }
+{
+    match group_named(old, group.name) {
+        Some(_) => Ok(()),
+        None => {
+            found.push(NameChange::GroupAdded { name: group.name })?;
+            Ok(())
+        }
+    }
+}
+
 fn push_added_groups<'a>(
     found: &mut Vec<NameChange<'a>>,
     old: &[GroupTable<'_>],
-    new: &[GroupTable<'a>],
+    groups: &[GroupTable<'a>],
 ) -> Result<(), AllocError>
     ensures changes { OnOk result
-        (found.new.items ≡ found.old.items ++ flat_map (added_group old.now) new.now) }
+        (found.new.items ≡ found.old.items ++ flat_map (added_group old.now) groups.now) }
 {
-    for group in new {
-        if group_named(old, group.name).is_none() {
-            found.push(NameChange::GroupAdded { name: group.name })?;
-        }
+    for group in groups {
+        push_added_group(found, old, group)?;
     }
     Ok(())
 }
 
-fn push_gone_groups<'a>(
+/// Adds the removal of a group, unless the new file has one of its name.
+fn push_gone_group<'a>(
     found: &mut Vec<NameChange<'a>>,
-    old: &[GroupTable<'a>],
     new: &[GroupTable<'_>],
+    group: &GroupTable<'a>,
 ) -> Result<(), AllocError>
-    ensures changes { OnOk result
-        (found.new.items ≡ found.old.items ++ flat_map (gone_group new.now) old.now) }
+    ensures change { OnOk result
+        (found.new.items ≡ found.old.items ++ gone_group new.now group.now) }
 {
-    for group in old {
-        if group_named(new, group.name).is_none() {
+    match group_named(new, group.name) {
+        Some(_) => Ok(()),
+        None => {
             found.push(NameChange::GroupTakenOut { name: group.name })?;
+            Ok(())
         }
     }
+}
+
+fn push_gone_groups<'a>(
+    found: &mut Vec<NameChange<'a>>,
+    new: &[GroupTable<'_>],
+    groups: &[GroupTable<'a>],
+) -> Result<(), AllocError>
+    ensures changes { OnOk result
+        (found.new.items ≡ found.old.items ++ flat_map (gone_group new.now) groups.now) }
+{
+    for group in groups {
+        push_gone_group(found, new, group)?;
+    }
     Ok(())
+}
+
+/// Adds the addition of a user, unless the old file has one of that name.
+fn push_added_user<'a>(
+    found: &mut Vec<NameChange<'a>>,
+    old: &[UserTable<'_>],
+    user: &UserTable<'a>,
+) -> Result<(), AllocError>
+    ensures change { OnOk result
+        (found.new.items ≡ found.old.items ++ added_user old.now user.now) }
+{
+    match user_named(old, user.name) {
+        Some(_) => Ok(()),
+        None => {
+            found.push(NameChange::UserAdded { name: user.name })?;
+            Ok(())
+        }
+    }
 }
 
 fn push_added_users<'a>(
     found: &mut Vec<NameChange<'a>>,
     old: &[UserTable<'_>],
-    new: &[UserTable<'a>],
+    users: &[UserTable<'a>],
 ) -> Result<(), AllocError>
     ensures changes { OnOk result
-        (found.new.items ≡ found.old.items ++ flat_map (added_user old.now) new.now) }
+        (found.new.items ≡ found.old.items ++ flat_map (added_user old.now) users.now) }
 {
-    for user in new {
-        if user_named(old, user.name).is_none() {
-            found.push(NameChange::UserAdded { name: user.name })?;
-        }
+    for user in users {
+        push_added_user(found, old, user)?;
     }
     Ok(())
 }
 
+/// Adds the removal of a user, unless the new file has one of that name.
+fn push_gone_user<'a>(
+    found: &mut Vec<NameChange<'a>>,
+    new: &[UserTable<'_>],
+    user: &UserTable<'a>,
+) -> Result<(), AllocError>
+    ensures change { OnOk result
+        (found.new.items ≡ found.old.items ++ gone_user new.now user.now) }
+{
+    match user_named(new, user.name) {
+        Some(_) => Ok(()),
+        None => {
+            found.push(NameChange::UserTakenOut { name: user.name })?;
+            Ok(())
+        }
+    }
+}
+
 fn push_gone_users<'a>(
     found: &mut Vec<NameChange<'a>>,
-    old: &[UserTable<'a>],
     new: &[UserTable<'_>],
+    users: &[UserTable<'a>],
 ) -> Result<(), AllocError>
     ensures changes { OnOk result
-        (found.new.items ≡ found.old.items ++ flat_map (gone_user new.now) old.now) }
+        (found.new.items ≡ found.old.items ++ flat_map (gone_user new.now) users.now) }
 {
-    for user in old {
-        if user_named(new, user.name).is_none() {
-            found.push(NameChange::UserTakenOut { name: user.name })?;
-        }
+    for user in users {
+        push_gone_user(found, new, user)?;
     }
     Ok(())
 }
@@ -263,9 +327,9 @@ pub(crate) fn push_names<'a>(
         (found.new.items ≡ found.old.items ++ name_changes old.now new.now) }
 {
     push_added_groups(found, old.groups.as_slice(), new.groups.as_slice())?;
-    push_gone_groups(found, old.groups.as_slice(), new.groups.as_slice())?;
+    push_gone_groups(found, new.groups.as_slice(), old.groups.as_slice())?;
     push_added_users(found, old.users.as_slice(), new.users.as_slice())?;
-    push_gone_users(found, old.users.as_slice(), new.users.as_slice())?;
+    push_gone_users(found, new.users.as_slice(), old.users.as_slice())?;
     push_changed(found, old, new, new.users.as_slice())?;
     Ok(())
 }

@@ -4,4 +4,4 @@ use Rattle.change_report.specs.Changes.{gone_group}
 use Rattle.change_report.proofs.names.push_gone_groups.Given as goal
 
 abbrev pub invariant-loop-group : goal.invariant-loop-group
-invariant-loop-group l = l.found.items ≡ l.fn.found.items ++ flat_map (gone_group l.new) (take l.group-index l.old)
+invariant-loop-group l = l.found.items ≡ l.fn.found.items ++ flat_map (gone_group l.new) (take l.group-index l.groups)

@@ -53,9 +53,10 @@ def term(user, key):
 
 def names(old, new):
     """What becomes of groups and users: whether it is a group or a user, its name, the change, and the key of a user that changes."""
-    for kind, before, after in (("group", old.groups, new.groups), ("user", old.users, new.users)):
-        yield from ((kind, name, "added", None) for name in by_name(after) if name not in by_name(before))
-        yield from ((kind, name, "taken out", None) for name in by_name(before) if name not in by_name(after))
+    for kind, old_rows, new_rows in (("group", old.groups, new.groups), ("user", old.users, new.users)):
+        before, after = by_name(old_rows), by_name(new_rows)
+        yield from ((kind, name, "added", None) for name in after if name not in before)
+        yield from ((kind, name, "taken out", None) for name in before if name not in after)
     earlier = by_name(old.users)
     for user in new.users:
         if user["name"] in earlier:
@@ -65,8 +66,9 @@ def names(old, new):
 def limits(old, new):
     """The rates and guarantees that differ: whose, its name, the key, and both values."""
     pairs = [("server", None, old.server, new.server, OF_A_SERVER)]
-    for kind, before, after, keys in (("group", old.groups, new.groups, OF_A_GROUP), ("user", old.users, new.users, OF_A_USER)):
-        pairs += [(kind, row["name"], by_name(before)[row["name"]], row, keys) for row in after if row["name"] in by_name(before)]
+    for kind, old_rows, new_rows, keys in (("group", old.groups, new.groups, OF_A_GROUP), ("user", old.users, new.users, OF_A_USER)):
+        before = by_name(old_rows)
+        pairs += [(kind, row["name"], before[row["name"]], row, keys) for row in new_rows if row["name"] in before]
     return [(kind, name, key, before[key], after[key]) for kind, name, before, after, keys in pairs for key in keys if before[key] != after[key]]
 
 

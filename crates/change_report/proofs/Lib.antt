@@ -1,2 +1,3 @@
 mod Depths
 mod Joined
+pub mod Rules

@@ -15,6 +15,7 @@ use Rattle.change_report.specs.declared.limits.Owner.{Owner}
 use Rattle.change_report.specs.declared.limits.Owner.TheVariants as owner
 use Rattle.change_report.specs.declared.names.NameChange.{NameChange}
 use Rattle.change_report.specs.declared.names.NameChange.TheVariants as name
+use Rattle.change_report.specs.declared.names.TermKey.{TermKey}
 use Rattle.change_report.specs.declared.reason.Reason.{Reason}
 use Rattle.change_report.specs.declared.settings.SettingChange.{SettingChange}
 use Rattle.change_report.specs.declared.settings.SettingChange.TheVariants as setting
@@ -55,33 +56,34 @@ flag_text true = codes "true"
 flag_text false = codes "false"
 
 -- a key with its values before and after
-abbrev pub becomes : SettingKey → List ℕ → List ℕ → List ℕ
-becomes key old new =
-    setting_text key ++ codes ": " ++ old ++ codes " becomes " ++ new ++ start_text key
-
-abbrev pub change_text : SettingChange → List ℕ
-change_text (setting.Text key old new) = becomes key old.now new.now
-change_text (setting.Number key old new) = becomes key (decimal old) (decimal new)
-change_text (setting.Flag key old new) = becomes key (flag_text old) (flag_text new)
-change_text (setting.Address key old new) = becomes key (address_text old) (address_text new)
+abbrev pub becomes_line : SettingKey → List ℕ → List ℕ → List ℕ
+becomes_line key old new =
+    setting_text key ++ codes ": " ++ old ++ codes " becomes " ++ new ++ start_text key ++ 10 ∷ []
 
 abbrev pub setting_line : SettingChange → List ℕ
-setting_line change = change_text change ++ 10 ∷ []
+setting_line (setting.Text key old new) = becomes_line key old.now new.now
+setting_line (setting.Number key old new) = becomes_line key (decimal old) (decimal new)
+setting_line (setting.Flag key old new) = becomes_line key (flag_text old) (flag_text new)
+setting_line (setting.Address key old new) =
+    becomes_line key (address_text old) (address_text new)
 
 -- ---- groups and users
 
-abbrev pub name_text : NameChange → List ℕ
-name_text (name.GroupAdded group) = codes "group " ++ group.now ++ codes " is added"
-name_text (name.GroupTakenOut group) = codes "group " ++ group.now ++ codes " is taken out"
-name_text (name.UserAdded user) = codes "user " ++ user.now ++ codes " is added"
-name_text (name.UserTakenOut user) =
-    codes "user " ++ user.now
-    ++ codes " is taken out: no login, and 421 for each session once no transfer of it runs"
-name_text (name.UserChanged user key) =
-    codes "user " ++ user.now ++ codes ": " ++ key_text key ++ codes " changes " ++ when_text key
+abbrev pub term_line : List ℕ → TermKey → List ℕ
+term_line user key =
+    codes "user " ++ user ++ codes ": " ++ key_text key ++ codes " changes " ++ when_text key
+    ++ 10 ∷ []
 
 abbrev pub name_line : NameChange → List ℕ
-name_line change = name_text change ++ 10 ∷ []
+name_line (name.GroupAdded group) = codes "group " ++ group.now ++ codes " is added" ++ 10 ∷ []
+name_line (name.GroupTakenOut group) =
+    codes "group " ++ group.now ++ codes " is taken out" ++ 10 ∷ []
+name_line (name.UserAdded user) = codes "user " ++ user.now ++ codes " is added" ++ 10 ∷ []
+name_line (name.UserTakenOut user) =
+    codes "user " ++ user.now
+    ++ codes " is taken out: no login, and 421 for each session once no transfer of it runs"
+    ++ 10 ∷ []
+name_line (name.UserChanged user key) = term_line user.now key
 
 -- ---- rates and guarantees
 

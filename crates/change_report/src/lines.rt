@@ -1,87 +1,18 @@
 //! The lines of the report on a change.
 
 ghost use Rattle.std.specs.Prelude.{◌≡◌, ◌++◌, IfOk, OnOk, string_bytes};
+ghost use Rattle.std.specs.Fmt.{decimal};
 ghost use Rattle.std.specs.List.{flat_map};
 ghost use Rattle.config_report.specs.Lines.{rate_column};
-ghost use Rattle.change_report.specs.Lines.{key_column, limit_line, lines_text, name_line, outcome_line, owner_column, rates_table, refused_line, setting_line, table_head, taken_line};
+ghost use Rattle.change_report.specs.Lines.{address_text, becomes_line, flag_text, key_column, limit_line, lines_text, name_line, outcome_line, owner_column, rates_table, refused_line, setting_line, table_head, taken_line, term_line};
 
 use crate::changes::Changes;
 use crate::limits::{LimitChange, Owner};
-use crate::names::NameChange;
+use crate::names::{NameChange, TermKey};
 use crate::reason::Reason;
-use crate::settings::SettingChange;
+use crate::settings::{SettingChange, SettingKey};
 use std::alloc::{AllocError, Global};
-use std::fmt;
 use std::net::Ipv4Addr;
-
-/// An address, printed as `none` if there is none.
-#[derive(Clone, Copy)]
-struct AddressText(Option<Ipv4Addr>);
-
-impl fmt::Display for AddressText {
-    ghost use Rattle.std.specs.Prelude.{Some};
-    ghost use Rattle.change_report.specs.Lines.{address_text};
-
-    ghost output = { λ a. Some (address_text a.0) };
-
-    fn fmt<W: fmt::Write>(&self, f: &mut fmt::Formatter<W>) -> fmt::Result {
-        match self.0 {
-            Some(address) => write!(f, "{address}"),
-            None => write!(f, "none"),
-        }
-    }
-}
-
-impl fmt::Display for SettingChange<'_> {
-    ghost use Rattle.std.specs.Prelude.{Some};
-    ghost use Rattle.change_report.specs.Lines.{change_text};
-
-    ghost output = { λ change. Some (change_text change) };
-
-    fn fmt<W: fmt::Write>(&self, f: &mut fmt::Formatter<W>) -> fmt::Result {
-        match self {
-            SettingChange::Text { key, old, new } => {
-                write!(f, "{}: {old} becomes {new}{}", key.text(), key.start())
-            }
-            SettingChange::Number { key, old, new } => {
-                write!(f, "{}: {old} becomes {new}{}", key.text(), key.start())
-            }
-            SettingChange::Flag { key, old, new } => {
-                write!(f, "{}: {old} becomes {new}{}", key.text(), key.start())
-            }
-            SettingChange::Address { key, old, new } => write!(
-                f,
-                "{}: {} becomes {}{}",
-                key.text(),
-                AddressText(*old),
-                AddressText(*new),
-                key.start()
-            ),
-        }
-    }
-}
-
-impl fmt::Display for NameChange<'_> {
-    ghost use Rattle.std.specs.Prelude.{Some};
-    ghost use Rattle.change_report.specs.Lines.{name_text};
-
-    ghost output = { λ change. Some (name_text change) };
-
-    fn fmt<W: fmt::Write>(&self, f: &mut fmt::Formatter<W>) -> fmt::Result {
-        match self {
-            NameChange::GroupAdded { name } => write!(f, "group {name} is added"),
-            NameChange::GroupTakenOut { name } => write!(f, "group {name} is taken out"),
-            NameChange::UserAdded { name } => write!(f, "user {name} is added"),
-            NameChange::UserTakenOut { name } => write!(
-                f,
-                "user {name} is taken out: no login, and 421 for each session once no transfer of it runs"
-            ),
-            NameChange::UserChanged { name, key } => {
-                write!(f, "user {name}: {} changes {}", key.text(), key.when())
-            }
-        }
-    }
-}
 
 /// Writes what becomes of a reload.
 fn write_outcome(text: &mut String, changes: &Changes<'_>) -> Result<(), AllocError>
@@ -98,7 +29,10 @@ fn write_refused(text: &mut String, reason: &Reason<'_>) -> Result<(), AllocErro
     ensures line { OnOk result
         (string_bytes text.new ≡ string_bytes text.old ++ refused_line reason.now) }
 {
-    writeln!(text, "a reload would be refused: {reason}")
+    match reason {
+        Reason::Key(key) => writeln!(text, "a reload would be refused: {key}"),
+        Reason::Count(fault) => writeln!(text, "a reload would be refused: {fault}"),
+    }
 }
 
 fn write_taken(text: &mut String, is_unchanged: bool) -> Result<(), AllocError>
@@ -115,14 +49,108 @@ fn write_taken(text: &mut String, is_unchanged: bool) -> Result<(), AllocError>
     }
 }
 
-fn write_settings(text: &mut String, changes: &[SettingChange<'_>]) -> Result<(), AllocError>
+fn flag_word(flag: bool) -> &'static str
+    ensures word { result.now ≡ flag_text flag }
+{
+    if flag { "true" } else { "false" }
+}
+
+/// An address; `none` if there is none.
+fn address_text(alloc: Global, address: Option<Ipv4Addr>) -> Result<String, AllocError>
+    ensures text { IfOk result (λ text. string_bytes text ≡ address_text address) }
+{
+    match address {
+        Some(address) => format!(in alloc; "{address}"),
+        None => String::from_str(alloc, "none"),
+    }
+}
+
+/// Writes a key with its values before and after.
+fn write_becomes(text: &mut String, key: SettingKey, old: &str, new: &str) -> Result<(), AllocError>
+    ensures line { OnOk result
+        (string_bytes text.new ≡ string_bytes text.old ++ becomes_line key old.now new.now) }
+{
+    let (word, start) = (key.text(), key.start());
+    writeln!(text, "{word}: {old} becomes {new}{start}")
+}
+
+fn write_counts(text: &mut String, key: SettingKey, old: u64, new: u64) -> Result<(), AllocError>
+    ensures line { OnOk result (string_bytes text.new
+        ≡ string_bytes text.old ++ becomes_line key (decimal old) (decimal new)) }
+{
+    let (word, start) = (key.text(), key.start());
+    writeln!(text, "{word}: {old} becomes {new}{start}")
+}
+
+fn write_addresses(
+    alloc: Global,
+    text: &mut String,
+    key: SettingKey,
+    old: Option<Ipv4Addr>,
+    new: Option<Ipv4Addr>,
+) -> Result<(), AllocError>
+    ensures line { OnOk result (string_bytes text.new
+        ≡ string_bytes text.old ++ becomes_line key (address_text old) (address_text new)) }
+{
+    let before = address_text(alloc, old)?;
+    let after = address_text(alloc, new)?;
+    write_becomes(text, key, before.as_str(), after.as_str())
+}
+
+fn write_setting(
+    alloc: Global,
+    text: &mut String,
+    change: SettingChange<'_>,
+) -> Result<(), AllocError>
+    ensures line { OnOk result
+        (string_bytes text.new ≡ string_bytes text.old ++ setting_line change) }
+{
+    match change {
+        SettingChange::Text { key, old, new } => write_becomes(text, key, old, new),
+        SettingChange::Number { key, old, new } => write_counts(text, key, old, new),
+        SettingChange::Flag { key, old, new } => {
+            write_becomes(text, key, flag_word(old), flag_word(new))
+        }
+        SettingChange::Address { key, old, new } => write_addresses(alloc, text, key, old, new),
+    }
+}
+
+fn write_settings(
+    alloc: Global,
+    text: &mut String,
+    changes: &[SettingChange<'_>],
+) -> Result<(), AllocError>
     ensures lines { OnOk result
         (string_bytes text.new ≡ string_bytes text.old ++ flat_map setting_line changes.now) }
 {
     for change in changes {
-        writeln!(text, "{change}")?;
+        write_setting(alloc, text, *change)?;
     }
     Ok(())
+}
+
+fn write_term(text: &mut String, name: &str, key: TermKey) -> Result<(), AllocError>
+    ensures line { OnOk result
+        (string_bytes text.new ≡ string_bytes text.old ++ term_line name.now key) }
+{
+    let (word, when) = (key.text(), key.when());
+    writeln!(text, "user {name}: {word} changes {when}")
+}
+
+fn write_name(text: &mut String, change: NameChange<'_>) -> Result<(), AllocError>
+    ensures line { OnOk result
+        (string_bytes text.new ≡ string_bytes text.old ++ name_line change) }
+{
+    match change {
+        NameChange::GroupAdded { name } => writeln!(text, "group {name} is added"),
+        NameChange::GroupTakenOut { name } => writeln!(text, "group {name} is taken out"),
+        NameChange::UserAdded { name } => writeln!(text, "user {name} is added"),
+        NameChange::UserTakenOut { name } => writeln!(
+            text,
+            "user {name} is taken out: no login, and 421 for each session once no transfer of it runs"
+        ),
+        NameChange::UserChanged { name, key } => write_term(text, name, key),
+    }
 }
 
 fn write_names(text: &mut String, changes: &[NameChange<'_>]) -> Result<(), AllocError>
@@ -130,7 +158,7 @@ fn write_names(text: &mut String, changes: &[NameChange<'_>]) -> Result<(), Allo
         (string_bytes text.new ≡ string_bytes text.old ++ flat_map name_line changes.now) }
 {
     for change in changes {
-        writeln!(text, "{change}")?;
+        write_name(text, *change)?;
     }
     Ok(())
 }
@@ -216,7 +244,7 @@ pub(crate) fn lines_of(alloc: Global, changes: &Changes<'_>) -> Result<String, A
 {
     let mut text = String::new(alloc);
     write_outcome(&mut text, changes)?;
-    write_settings(&mut text, changes.settings.as_slice())?;
+    write_settings(alloc, &mut text, changes.settings.as_slice())?;
     write_names(&mut text, changes.names.as_slice())?;
     write_table(&mut text, changes.limits.as_slice())?;
     Ok(text)

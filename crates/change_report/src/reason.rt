@@ -6,7 +6,6 @@ ghost use Rattle.change_report.specs.Reasons.{AreFixed, IsReason, store_capacity
 use config_change::{CountFault, FixedKey, FixedValues, count_fault, fixed_key};
 use config_file::ServerTable;
 use server_config::ServerNumbers;
-use std::fmt;
 
 /// The reason for which a server would refuse a configuration, whoever is connected.
 #[derive(Clone, Copy, Debug)]
@@ -15,20 +14,6 @@ pub(crate) enum Reason<'a> {
     Key(FixedKey<'a>),
     /// The maximum number of connections is above that of the start.
     Count(CountFault),
-}
-
-impl fmt::Display for Reason<'_> {
-    ghost use Rattle.std.specs.Prelude.{Some};
-    ghost use Rattle.change_report.specs.Reasons.{reason_text};
-
-    ghost output = { λ reason. Some (reason_text reason) };
-
-    fn fmt<W: fmt::Write>(&self, f: &mut fmt::Formatter<W>) -> fmt::Result {
-        match self {
-            Reason::Key(key) => write!(f, "{key}"),
-            Reason::Count(fault) => write!(f, "{fault}"),
-        }
-    }
 }
 
 /// The capacity of a store in memory; 0 for a folder.

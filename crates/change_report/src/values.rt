@@ -4,6 +4,7 @@ ghost use Rattle.std.specs.Prelude.{◌≡◌, IfOk, map, string_bytes};
 ghost use Rattle.std.specs.Net.Addr.{ipv4_octets};
 ghost use Rattle.std.specs.Net.Text.{ipv4_text};
 ghost use Rattle.serde_json.specs.View.{view};
+ghost use Rattle.config_change.specs.Words.{count_text, key_text};
 ghost use Rattle.config_report.specs.ReportData.{IsJsonOf, masquerade_data, rate_data};
 ghost use Rattle.change_report.specs.ChangeData.{change_data, limit_data, limit_row, name_data, name_row, outcome_word, pair_data, reason_data, setting_data, text_data, whole_data};
 
@@ -12,6 +13,7 @@ use crate::limits::{LimitChange, Owner};
 use crate::names::NameChange;
 use crate::reason::Reason;
 use crate::settings::SettingChange;
+use config_change::{CountFault, FixedKey};
 use serde_json::{Value, json};
 use std::alloc::{AllocError, Global};
 use std::net::Ipv4Addr;
@@ -190,13 +192,29 @@ fn limit_values(alloc: Global, changes: &[LimitChange<'_>]) -> Result<Vec<Value>
     Ok(values)
 }
 
+fn key_words(alloc: Global, key: &FixedKey<'_>) -> Result<String, AllocError>
+    ensures words { IfOk result (λ text. string_bytes text ≡ key_text key.now) }
+{
+    format!(in alloc; "{key}")
+}
+
+fn count_words(alloc: Global, fault: &CountFault) -> Result<String, AllocError>
+    ensures words { IfOk result (λ text. string_bytes text ≡ count_text fault.now) }
+{
+    format!(in alloc; "{fault}")
+}
+
 /// The words of a reason, or null for none.
 fn reason_value(alloc: Global, reason: Option<Reason<'_>>) -> Result<Value, AllocError>
     ensures reason { IfOk result (λ v. view v ≡ reason_data reason) }
 {
     match reason {
-        Some(reason) => {
-            let text = format!(in alloc; "{reason}")?;
+        Some(Reason::Key(key)) => {
+            let text = key_words(alloc, &key)?;
+            Ok(Value::from(text))
+        }
+        Some(Reason::Count(fault)) => {
+            let text = count_words(alloc, &fault)?;
             Ok(Value::from(text))
         }
         None => Ok(Value::Null),

@@ -10,32 +10,39 @@ use Rattle.config_change.specs.declared.fixed.FixedKey.TheVariants.{Address, Por
 
 abbrev pub key_text : FixedKey → List ℕ
 key_text (Address old new) =
-    codes "`address` cannot change while the server runs: it is " ++ ipv4_text (ipv4_octets old)
-    ++ codes "; restart the server to listen on " ++ ipv4_text (ipv4_octets new)
+    codes "`address` cannot change while the server runs: it is "
+    ++ (ipv4_text (ipv4_octets old)
+    ++ (codes "; restart the server to listen on " ++ ipv4_text (ipv4_octets new)))
 key_text (Port old new) =
-    codes "`port` cannot change while the server runs: it is " ++ decimal old
-    ++ codes "; restart the server to serve on " ++ decimal new
+    codes "`port` cannot change while the server runs: it is "
+    ++ (decimal old ++ (codes "; restart the server to serve on " ++ decimal new))
 key_text (Root old new) =
-    codes "`root` cannot change while the server runs: it is " ++ old.now
-    ++ codes "; restart the server to serve " ++ new.now
+    codes "`root` cannot change while the server runs: it is "
+    ++ (old.now ++ (codes "; restart the server to serve " ++ new.now))
 key_text (Capacity old new) =
-    codes "`capacity` cannot change while the server runs: it is " ++ decimal old
-    ++ codes "; restart the server to keep " ++ decimal new ++ codes " octets"
+    codes "`capacity` cannot change while the server runs: it is "
+    ++ (decimal old
+    ++ (codes "; restart the server to keep " ++ (decimal new ++ codes " octets")))
 key_text (PassiveFirst old new) =
-    codes "`passive_first` cannot change while the server runs: it is " ++ decimal old
-    ++ codes "; restart the server for ports from " ++ decimal new
+    codes "`passive_first` cannot change while the server runs: it is "
+    ++ (decimal old ++ (codes "; restart the server for ports from " ++ decimal new))
 key_text (PassiveLast old new) =
-    codes "`passive_last` cannot change while the server runs: it is " ++ decimal old
-    ++ codes "; restart the server for ports up to " ++ decimal new
+    codes "`passive_last` cannot change while the server runs: it is "
+    ++ (decimal old ++ (codes "; restart the server for ports up to " ++ decimal new))
 key_text (Lanes old new) =
-    codes "`lanes` cannot change while the server runs: it is " ++ decimal old
-    ++ codes "; restart the server for " ++ decimal new ++ codes " transfers at once"
+    codes "`lanes` cannot change while the server runs: it is "
+    ++ (decimal old
+    ++ (codes "; restart the server for " ++ (decimal new ++ codes " transfers at once")))
 
 abbrev pub count_text : CountFault → List ℕ
 count_text (NoRoom room stated) =
-    codes "`max_cons` cannot be above " ++ decimal room
-    ++ codes " while the server runs: restart the server to take " ++ decimal stated
-    ++ codes " connections"
+    codes "`max_cons` cannot be above "
+    ++ (decimal room
+    ++ (codes " while the server runs: restart the server to take "
+    ++ (decimal stated ++ codes " connections")))
 count_text (TooMany connected stated) =
-    codes "`max_cons` cannot be " ++ decimal stated ++ codes " now: " ++ decimal connected
-    ++ codes " clients are connected; reload again when fewer are, or restart the server"
+    codes "`max_cons` cannot be "
+    ++ (decimal stated
+    ++ (codes " now: "
+    ++ (decimal connected
+    ++ codes " clients are connected; reload again when fewer are, or restart the server")))

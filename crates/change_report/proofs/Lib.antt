@@ -1,3 +1,3 @@
 mod Depths
 mod Joined
-pub mod Rules
+pub mod Steps

@@ -62,7 +62,7 @@ fn push_rate<'a>(
     new: u64,
 ) -> Result<(), AllocError>
     ensures change { OnOk result
-        (found.new.items ≡ found.old.items ++ rate_change owner key old new) }
+        (found.new.items ≡ found.old.items ++ rate_change owner.entry key old new) }
 {
     if old != new {
         found.push(LimitChange {

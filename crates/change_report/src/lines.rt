@@ -103,7 +103,7 @@ fn write_setting(
     change: SettingChange<'_>,
 ) -> Result<(), AllocError>
     ensures line { OnOk result
-        (string_bytes text.new ≡ string_bytes text.old ++ setting_line change) }
+        (string_bytes text.new ≡ string_bytes text.old ++ setting_line change.entry) }
 {
     match change {
         SettingChange::Text { key, old, new } => write_becomes(text, key, old, new),
@@ -139,7 +139,7 @@ fn write_term(text: &mut String, name: &str, key: TermKey) -> Result<(), AllocEr
 
 fn write_name(text: &mut String, change: NameChange<'_>) -> Result<(), AllocError>
     ensures line { OnOk result
-        (string_bytes text.new ≡ string_bytes text.old ++ name_line change) }
+        (string_bytes text.new ≡ string_bytes text.old ++ name_line change.entry) }
 {
     match change {
         NameChange::GroupAdded { name } => writeln!(text, "group {name} is added"),
@@ -166,7 +166,7 @@ fn write_names(text: &mut String, changes: &[NameChange<'_>]) -> Result<(), Allo
 /// Writes the table that states a rate, in its column.
 fn write_owner(text: &mut String, owner: Owner<'_>) -> Result<(), AllocError>
     ensures column { OnOk result
-        (string_bytes text.new ≡ string_bytes text.old ++ owner_column owner) }
+        (string_bytes text.new ≡ string_bytes text.old ++ owner_column owner.entry) }
 {
     match owner {
         Owner::Server => write!(text, "{:<24}", "server"),

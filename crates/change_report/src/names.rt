@@ -211,7 +211,7 @@ fn same_password(old: &UserTable<'_>, new: &UserTable<'_>) -> bool
 
 /// Returns whether two names are the same, or both are none.
 fn same_name(old: Option<&str>, new: Option<&str>) -> bool
-    ensures same { result ≡ same_name old new }
+    ensures same { result ≡ same_name old.entry new.entry }
 {
     match (old, new) {
         (None, None) => true,

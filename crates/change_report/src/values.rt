@@ -67,7 +67,7 @@ fn pair_value(alloc: Global, key: &str, old: Value, new: Value) -> Result<Value,
 }
 
 fn setting_value(alloc: Global, change: SettingChange<'_>) -> Result<Value, AllocError>
-    ensures setting { IfOk result (λ v. view v ≡ setting_data change) }
+    ensures setting { IfOk result (λ v. view v ≡ setting_data change.entry) }
 {
     match change {
         SettingChange::Text { key, old, new } => {
@@ -120,7 +120,7 @@ fn row_value(
 }
 
 fn name_value(alloc: Global, change: NameChange<'_>) -> Result<Value, AllocError>
-    ensures name { IfOk result (λ v. view v ≡ name_data change) }
+    ensures name { IfOk result (λ v. view v ≡ name_data change.entry) }
 {
     match change {
         NameChange::GroupAdded { name } => row_value(alloc, "group", name, "added", Value::Null),
@@ -206,7 +206,7 @@ fn count_words(alloc: Global, fault: &CountFault) -> Result<String, AllocError>
 
 /// The words of a reason, or null for none.
 fn reason_value(alloc: Global, reason: Option<Reason<'_>>) -> Result<Value, AllocError>
-    ensures reason { IfOk result (λ v. view v ≡ reason_data reason) }
+    ensures reason { IfOk result (λ v. view v ≡ reason_data reason.entry) }
 {
     match reason {
         Some(Reason::Key(key)) => {

@@ -91,6 +91,14 @@ fn new_users<A: Allocator>(alloc: A, rows: &[UserRate]) -> Result<Vec<UserPace, 
                 rate: row.up,
                 left: 0,
             },
+            session_down: Credit {
+                rate: row.session_down,
+                left: 0,
+            },
+            session_up: Credit {
+                rate: row.session_up,
+                left: 0,
+            },
         })?;
     }
     Ok(users)

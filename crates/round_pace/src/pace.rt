@@ -209,8 +209,8 @@ impl<A: Allocator> Pace<A> {
         &self.offered
     }
 
-    /// Subtracts octets granted to a user from what is left under the rates of the server, the way, the user and their
-    /// group.
+    /// Subtracts octets granted to a user from what is left under the rates of the server, the way, the user, their
+    /// group and their sessions.
     pub fn took(&mut self, way: Way, user: u32, octets: u64)
         ensures taken { self.new ≡ take_octets way user octets self.old }
     {

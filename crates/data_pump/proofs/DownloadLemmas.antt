@@ -26,10 +26,10 @@ low_image false b c e = absurd (clash (sym e))
 
 -- the octets of a read were the first to come of the source
 to_come-filled : (d : DataType) (waiting read new : List ℕ) (a b : Option (List ℕ)) → is_image d ≡ true → new ≡ waiting ++ read → Consumes a b read → Keeps (still_to_come d waiting a) (still_to_come d new b)
-to_come-filled Ascii waiting read new a b no e h = absurd (clash (sym no))
-to_come-filled Image waiting read new None b yes e h = tt
-to_come-filled Image waiting read new (Some xs) None yes e h = absurd h
-to_come-filled Image waiting read new (Some xs) (Some ys) yes e h =
+to_come-filled Ascii waiting read new a b high e h = absurd (clash (sym high))
+to_come-filled Image waiting read new None b low e h = tt
+to_come-filled Image waiting read new (Some xs) None low e h = absurd h
+to_come-filled Image waiting read new (Some xs) (Some ys) low e h =
     ap (λ l. l ++ ys) e ∙ append_assoc waiting read ys ∙ ap (λ l. waiting ++ l) (sym h)
 
 to_come-kept : (d : DataType) (waiting new : List ℕ) (a b : Option (List ℕ)) → new ≡ waiting → Keeps a b → Keeps (still_to_come d waiting a) (still_to_come d new b)
@@ -78,12 +78,12 @@ module _ {S K : Type 0} (remaining : S → Option (List ℕ)) (contents : K → 
 -- topping up: nothing is done, a read appended octets, or a read failed
 module _ {S K : Type 0} (remaining : S → Option (List ℕ)) where
   pub tops_none : (flow : OutFlow S K) → is_low flow ≡ false → TopsUp remaining flow flow
-  tops_none flow no = record {
+  tops_none flow high = record {
     same = λ _. refl;
-    once = λ yes. absurd (clash (sym yes ∙ no));
+    once = λ low. absurd (clash (sym low ∙ high));
     read = [];
     waiting = sym (append-nil flow.waiting);
-    none = λ yes _. absurd (clash (sym yes ∙ no));
+    none = λ low _. absurd (clash (sym low ∙ high));
     come = Keeps-refl (to_come remaining flow);
     connection = (refl, refl);
     data_type = refl;
@@ -103,7 +103,7 @@ module _ {S K : Type 0} (remaining : S → Option (List ℕ)) where
   pub tops_read : (flow : OutFlow S K) (source : S) (count : ℕ) (more : List ℕ) (over : Bool) → is_low flow ≡ true → FillsUp (remaining flow.source) (remaining source) count flow.waiting more → (count ≡ 0 → over ≡ true)
       → TopsUp remaining flow (filled_flow flow source (with_passed flow.reads) more over)
   tops_read flow source count more over low fills ends = record {
-    same = λ no. absurd (clash (sym low ∙ no));
+    same = λ high. absurd (clash (sym low ∙ high));
     once = λ _. refl;
     read = fills.read;
     waiting = fills.appended;
@@ -116,7 +116,7 @@ module _ {S K : Type 0} (remaining : S → Option (List ℕ)) where
   pub tops_failed : (flow : OutFlow S K) (source : S) (waiting : List ℕ) → is_low flow ≡ true → waiting ≡ flow.waiting → Keeps (remaining flow.source) (remaining source)
       → TopsUp remaining flow (filled_flow flow source (with_failed flow.reads) waiting flow.is_over)
   tops_failed flow source waiting low same kept = record {
-    same = λ no. absurd (clash (sym low ∙ no));
+    same = λ high. absurd (clash (sym low ∙ high));
     once = λ _. refl;
     read = [];
     waiting = same ∙ sym (append-nil flow.waiting);

@@ -140,7 +140,8 @@ impl<S: Source, K: Write + Drop, A: Allocator> Outflow<S, K, A> {
         }
         match self.buffer.fill_up(&mut self.source) {
             Ok(0) => self.is_over = true,
-            Ok(_) | Err(_) => {}
+            Ok(_) => {}
+            Err(_) => {}
         }
     }
 

@@ -72,6 +72,28 @@ def colliding(draw):
     return lines
 
 
+def crowded(draw):
+    """As many limits as a sheet may have, whose names are all in one bucket of the product's table of kids: their marks, the
+    digits of a number to base 131, are equal but for multiples of the number of buckets, which is that of octets / 24 + 1."""
+    signs = "0123456789ABCDEFGHIJKLMNOPQRSTUVWXYZabcdefghijklmnopqrstuvwxyz-_"
+    value = lambda name: sum(ord(sign) * 131**at for at, sign in enumerate(reversed(name)))
+    each = len(limit("/" + 8 * "0", "-\n"))
+    count = MOST_OCTETS // each
+    buckets = count * each // 24 + 1
+    ends = {}
+    for number in range(64**3):
+        end = "".join(signs[number // 64**at % 64] for at in range(3))
+        ends.setdefault(value(end) % buckets, end)
+    names, number = [], 0
+    while len(names) < count:
+        front = "".join(signs[number // 64**at % 64] for at in range(5))
+        end = ends.get(-value(front) * 131**3 % buckets)
+        names += [front + end] if end else []
+        number += 1
+    draw.shuffle(names)
+    return [limit("/" + name, "-") for name in names]
+
+
 def nested(draw):
     """Limits inside one another, down to depth 14, each of which holds back the wants beside the next one."""
     beside, room = [], 0
@@ -98,6 +120,7 @@ def made():
     yield "nested", nested(draw)
     yield "largest", groups(draw, MOST_WANT)
     yield "colliding", colliding(draw)
+    yield "crowded", crowded(draw)
 
 
 def mentioned(lines):

@@ -12,7 +12,7 @@ import sys
 
 from clock import least, tell
 
-NAMES = ["empty", "groups", "deep", "large", "nested", "largest", "colliding"]
+NAMES = ["empty", "groups", "deep", "large", "nested", "largest", "colliding", "crowded"]
 HEAD = ["sheet", "octets", "lines", "nodes", "wants", "whole", "open", "bare", "reading", "sharing", "printing", "check", "yardstick", "MB"]
 
 # How many nodes the large tree has, and how often it is shared and checked.

@@ -1,38 +1,45 @@
 //! The yardstick of the bench: the whole job of `sheets share` in plain Rust, with nothing but Rust's own library. It reads
 //! a sheet, makes its tree, searches the levels, gives the remainders, and prints the same octets. It proves nothing,
-//! and tells no fault apart: where a line is not as it must be, it stops.
+//! and tells no fault apart: where a line is not as it must be, it stops. A sheet that is made to collide under its hash
+//! would take it quadratic time.
 
-use std::collections::HashMap;
-use std::fmt::Write as _;
-use std::hash::{BuildHasherDefault, Hasher};
 use std::io::Write as _;
 use std::{env, fs, process};
 
 const NO_LIMIT: u64 = u64::MAX;
 const MAX_WANT: u64 = u32::MAX as u64;
+const MAX_DEPTH: usize = 16;
+const NOBODY: u32 = u32::MAX;
 
-/// A quick hash, eight octets at a time.
-#[derive(Default)]
-struct Quick(u64);
+/// The octets of names, and `/`.
+static KINDS: [u8; 256] = kinds();
 
-impl Hasher for Quick {
-    fn write(&mut self, octets: &[u8]) {
-        for piece in octets.chunks(8) {
-            let mut word = [0; 8];
-            word[..piece.len()].copy_from_slice(piece);
-            self.0 = (self.0.rotate_left(5) ^ u64::from_le_bytes(word)).wrapping_mul(0x517c_c1b7_2722_0a95);
+const fn kinds() -> [u8; 256] {
+    let mut kinds = [0; 256];
+    let mut at = 0;
+    while at < 256 {
+        let octet = at as u8;
+        if octet.is_ascii_alphanumeric() || matches!(octet, b'-' | b'_' | b'.') {
+            kinds[at] = 1;
         }
+        at += 1;
     }
-    fn write_u8(&mut self, octet: u8) {
-        self.0 = (self.0.rotate_left(5) ^ u64::from(octet)).wrapping_mul(0x517c_c1b7_2722_0a95);
-    }
-    // (the upper bits of a product are the ones that depend on all of its factors)
-    fn finish(&self) -> u64 {
-        self.0.rotate_left(26)
-    }
+    kinds[b'/' as usize] = 2;
+    kinds
 }
 
-type Places<'t> = HashMap<&'t str, u32, BuildHasherDefault<Quick>>;
+/// A quick hash of a name beneath a node, eight octets at a time.
+fn hash(parent: u32, name: &[u8]) -> usize {
+    let mut state = u64::from(parent).wrapping_mul(0x517c_c1b7_2722_0a95);
+    for piece in name.chunks(8) {
+        let mut word = 0;
+        for octet in piece {
+            word = word << 8 | u64::from(*octet);
+        }
+        state = (state.rotate_left(5) ^ word).wrapping_mul(0x517c_c1b7_2722_0a95);
+    }
+    state.rotate_left(26) as usize
+}
 
 #[derive(Clone, Copy, PartialEq)]
 enum Kind {
@@ -43,6 +50,7 @@ enum Kind {
 /// A node of the sheet, in order of first mention; its kids hang on it as a list.
 struct Node<'t> {
     path: &'t str,
+    parent: u32,
     kind: Kind,
     stated: bool,
     first_kid: u32,
@@ -50,10 +58,15 @@ struct Node<'t> {
     next: u32,
 }
 
+/// The nodes, a table of them by parent and name without a gap in the run from a hash on, and the path of the last line
+/// with the nodes along it and the octets before each of its slashes.
 struct Sheet<'t> {
     nodes: Vec<Node<'t>>,
-    places: Places<'t>,
+    table: Vec<u32>,
     wants: Vec<u32>,
+    last: &'t str,
+    way: [(u32, usize); MAX_DEPTH + 1],
+    depth: usize,
 }
 
 fn stop(why: &str) -> ! {
@@ -65,8 +78,7 @@ impl<'t> Sheet<'t> {
     fn push(&mut self, path: &'t str, parent: u32) -> u32 {
         let number = self.nodes.len() as u32;
         let kind = Kind::Branch { limit: NO_LIMIT };
-        self.nodes.push(Node { path, kind, stated: false, first_kid: 0, last_kid: 0, next: 0 });
-        self.places.insert(path, number);
+        self.nodes.push(Node { path, parent, kind, stated: false, first_kid: 0, last_kid: 0, next: 0 });
         if number > 0 {
             let above = &mut self.nodes[parent as usize];
             if matches!(above.kind, Kind::Leaf { .. }) {
@@ -82,36 +94,66 @@ impl<'t> Sheet<'t> {
         number
     }
 
-    /// The node at a path, made with those above it where it is not there.
-    fn mention(&mut self, path: &'t str, levels: usize) -> u32 {
-        if let Some(&node) = self.places.get(path) {
-            return node;
+    /// The kid of a node with the name that a path has from `start` on, made if it is not there.
+    fn kid(&mut self, parent: u32, path: &'t str, start: usize) -> u32 {
+        let name = &path.as_bytes()[start..];
+        let mask = self.table.len() - 1;
+        let mut at = hash(parent, name) & mask;
+        while self.table[at] != NOBODY {
+            let node = &self.nodes[self.table[at] as usize];
+            if node.parent == parent && node.path.len() == path.len() && &node.path.as_bytes()[start..] == name {
+                return self.table[at];
+            }
+            at = (at + 1) & mask;
         }
-        if levels == 0 {
-            stop("a path is too deep");
+        let number = self.push(path, parent);
+        self.table[at] = number;
+        number
+    }
+
+    /// The node at a path, made with those above it if it is not there. Only the names that the path of the line before
+    /// has not are looked up.
+    fn mention(&mut self, path: &'t str) -> u32 {
+        let octets = path.as_bytes();
+        let last = self.last.as_bytes();
+        let mut depth = 0;
+        while depth < self.depth {
+            let (from, end) = (self.way[depth].1, self.way[depth + 1].1);
+            let is_whole = octets.len() == end || (octets.len() > end && octets[end] == b'/');
+            if !is_whole || octets[from..end] != last[from..end] {
+                break;
+            }
+            depth += 1;
         }
-        let above = match path.rfind('/') {
-            Some(0) | None => 0,
-            Some(at) => self.mention(&path[..at], levels - 1),
-        };
-        self.push(path, above)
+        let (mut node, mut at) = self.way[depth];
+        while at < octets.len() && octets.len() > 1 {
+            let end = octets[at + 1..].iter().position(|it| *it == b'/').map_or(octets.len(), |it| at + 1 + it);
+            if depth == MAX_DEPTH {
+                stop("a path is too deep");
+            }
+            node = self.kid(node, &path[..end], at + 1);
+            depth += 1;
+            at = end;
+            self.way[depth] = (node, at);
+        }
+        (self.last, self.depth) = (path, depth);
+        node
     }
 
     fn take(&mut self, line: &'t str) {
-        let mut words = line.split(' ');
-        let (Some(word), Some(path), Some(first)) = (words.next(), words.next(), words.next()) else {
-            stop("a line is too short");
-        };
+        let (word, rest) = cut(line);
+        let (path, rest) = cut(rest.unwrap_or_else(|| stop("a line is too short")));
+        let (first, rest) = cut(rest.unwrap_or_else(|| stop("a line is too short")));
         let kind = match word {
-            "limit" if first == "-" => Kind::Branch { limit: NO_LIMIT },
-            "limit" => Kind::Branch { limit: number(first, 1 << 52) },
-            "want" => Kind::Leaf { want: number(first, MAX_WANT), floor: words.next().map_or(0, |it| number(it, MAX_WANT)) },
+            "limit" if first == "-" && rest.is_none() => Kind::Branch { limit: NO_LIMIT },
+            "limit" if rest.is_none() => Kind::Branch { limit: number(first, 1 << 52) },
+            "want" => Kind::Leaf { want: number(first, MAX_WANT), floor: rest.map_or(0, |it| number(it, MAX_WANT)) },
             _ => stop("a line begins with another word"),
         };
-        if words.next().is_some() || !is_path(path) {
+        if !is_path(path) {
             stop("a line is not as it must be");
         }
-        let node = self.mention(path, 16);
+        let node = self.mention(path);
         let at = &mut self.nodes[node as usize];
         if at.stated || (word == "want" && (at.first_kid > 0 || node == 0)) {
             stop("a path is stated twice, or wants and has kids");
@@ -124,28 +166,53 @@ impl<'t> Sheet<'t> {
     }
 }
 
+/// A text before its first blank, and behind it.
+fn cut(text: &str) -> (&str, Option<&str>) {
+    match text.bytes().position(|it| it == b' ') {
+        Some(at) => (&text[..at], Some(&text[at + 1..])),
+        None => (text, None),
+    }
+}
+
+/// Whether each name of a path has 1 to 64 octets that names have.
 fn is_path(path: &str) -> bool {
-    let is_name = |name: &str| {
-        (1..=64).contains(&name.len())
-            && name.bytes().all(|it| it.is_ascii_alphanumeric() || matches!(it, b'-' | b'_' | b'.'))
-    };
-    path == "/" || path.strip_prefix('/').is_some_and(|names| names.split('/').all(is_name))
+    let octets = path.as_bytes();
+    let mut len = 64;
+    for octet in octets {
+        match KINDS[*octet as usize] {
+            1 if len < 64 => len += 1,
+            2 if len > 0 => len = 0,
+            _ => return false,
+        }
+    }
+    octets.len() == 1 || (octets.len() > 1 && len > 0)
 }
 
 fn number(text: &str, most: u64) -> u64 {
-    let is_decimal = text.len() <= 19 && (text == "0" || !text.starts_with('0')) && text.bytes().all(|it| it.is_ascii_digit());
-    match text.parse() {
-        Ok(number) if is_decimal && number <= most => number,
-        _ => stop("a number is not as it must be"),
+    let mut value = 0u64;
+    for octet in text.bytes() {
+        if !octet.is_ascii_digit() {
+            stop("a number is not as it must be");
+        }
+        value = value.wrapping_mul(10).wrapping_add(u64::from(octet - b'0'));
     }
+    if text.is_empty() || text.len() > 19 || (text.len() > 1 && text.starts_with('0')) || value > most {
+        stop("a number is not as it must be");
+    }
+    value
 }
 
 fn read(text: &str) -> Sheet<'_> {
     let room = text.len() / 24 + 1;
-    let places = Places::with_capacity_and_hasher(room, BuildHasherDefault::default());
-    let mut sheet = Sheet { nodes: Vec::with_capacity(room), places, wants: Vec::new() };
+    let table = vec![NOBODY; (text.len() / 8 + 1).next_power_of_two()];
+    let mut sheet =
+        Sheet { nodes: Vec::with_capacity(room), table, wants: Vec::new(), last: "", way: [(0, 0); MAX_DEPTH + 1], depth: 0 };
     sheet.push("/", 0);
-    for line in text.split('\n') {
+    let mut rest = text;
+    while !rest.is_empty() {
+        let end = rest.bytes().position(|it| it == b'\n').unwrap_or(rest.len());
+        let line = &rest[..end];
+        rest = rest.get(end + 1..).unwrap_or("");
         let line = line.strip_suffix('\r').unwrap_or(line);
         if !line.is_empty() && !line.starts_with('#') {
             sheet.take(line);
@@ -161,33 +228,22 @@ struct Tree {
     above: Vec<u32>,
     size: Vec<u32>,
     kind: Vec<Kind>,
-    /// what is taken in up to a level: room for one probe
-    taken: Vec<u64>,
     grant: Vec<u64>,
 }
 
 impl Tree {
     fn of(sheet: &Sheet) -> Tree {
         let mut has_leaves = vec![false; sheet.nodes.len()];
-        let mut above = vec![0u32; sheet.nodes.len()];
-        for (number, node) in sheet.nodes.iter().enumerate() {
-            let mut kid = node.first_kid;
-            while kid != 0 {
-                above[kid as usize] = number as u32;
-                kid = sheet.nodes[kid as usize].next;
-            }
-        }
         for &want in &sheet.wants {
             let mut node = want as usize;
             while !has_leaves[node] {
                 has_leaves[node] = true;
-                node = above[node] as usize;
+                node = sheet.nodes[node].parent as usize;
             }
         }
         has_leaves[0] = true;
-        let mut tree = Tree { node: vec![], above: vec![], size: vec![], kind: vec![], taken: vec![], grant: vec![] };
+        let mut tree = Tree { node: vec![], above: vec![], size: vec![], kind: vec![], grant: vec![] };
         tree.add(sheet, &has_leaves, 0, 0);
-        tree.taken = vec![0; tree.node.len()];
         tree.grant = vec![0; tree.node.len()];
         tree
     }
@@ -208,32 +264,36 @@ impl Tree {
         self.size[at] = (self.node.len() - at) as u32;
     }
 
-    /// What the kids of a branch take in up to a level.
-    fn below(&mut self, branch: usize, level: u64) -> u64 {
+    /// What the kids of a branch take in up to a level, or more than `most` as soon as they do.
+    fn below(&self, branch: usize, level: u64, most: u64) -> u64 {
         let past = branch + self.size[branch] as usize;
-        self.taken[branch..past].fill(0);
-        for at in (branch + 1..past).rev() {
-            let taken = match self.kind[at] {
+        let (mut at, mut total) = (branch + 1, 0);
+        while at < past && total <= most {
+            total += match self.kind[at] {
                 Kind::Leaf { want, floor } => level.max(floor).min(want),
-                Kind::Branch { limit } => self.taken[at].min(limit),
+                Kind::Branch { limit: NO_LIMIT } => {
+                    at += 1;
+                    continue;
+                }
+                Kind::Branch { limit } => self.below(at, level, limit).min(limit),
             };
-            self.taken[self.above[at] as usize] += taken;
+            at += self.size[at] as usize;
         }
-        self.taken[branch]
+        total
     }
 
     /// The greatest level at which the kids of a branch keep its limit, below one at which they do not.
-    fn level(&mut self, branch: usize, limit: u64, mut high: u64) -> (u64, u64) {
+    fn level(&self, branch: usize, limit: u64, mut high: u64) -> (u64, u64) {
         let mut low = 0;
         while high - low > 1 {
             let middle = low + (high - low) / 2;
-            if self.below(branch, middle) <= limit {
+            if self.below(branch, middle, limit) <= limit {
                 low = middle;
             } else {
                 high = middle;
             }
         }
-        let taken = self.below(branch, low);
+        let taken = self.below(branch, low, limit);
         if taken > limit {
             stop("floors exceed a limit");
         }
@@ -245,7 +305,7 @@ impl Tree {
         let Kind::Branch { limit } = self.kind[branch] else { return spare };
         let (mut level, mut left, mut kept) = (level, spare, 0);
         if limit != NO_LIMIT {
-            let taken = self.below(branch, level);
+            let taken = self.below(branch, level, limit);
             if taken <= limit {
                 left = spare.min(limit - taken);
                 kept = spare - left;
@@ -285,27 +345,48 @@ impl Tree {
     }
 }
 
-fn print(sheet: &Sheet, tree: &Tree) -> String {
+fn print(sheet: &Sheet, tree: &Tree) -> Vec<u8> {
     let full = tree.full();
     let mut place = vec![0u32; sheet.nodes.len()];
     for (at, &node) in tree.node.iter().enumerate() {
         place[node as usize] = at as u32;
     }
-    let mut text = String::with_capacity(64 * sheet.wants.len() + 32);
+    let mut text = Vec::with_capacity(64 * sheet.wants.len() + 32);
     let mut total = 0;
     for &node in &sheet.wants {
         let at = place[node as usize] as usize;
         let Kind::Leaf { want, .. } = tree.kind[at] else { continue };
         let grant = tree.grant[at];
         total += grant;
-        let _ = write!(text, "{} {grant} of {want}", sheet.nodes[node as usize].path);
+        text.extend_from_slice(sheet.nodes[node as usize].path.as_bytes());
+        text.push(b' ');
+        decimal(&mut text, grant);
+        text.extend_from_slice(b" of ");
+        decimal(&mut text, want);
         if grant < want && full[at] != u32::MAX {
-            let _ = write!(text, " full {}", sheet.nodes[tree.node[full[at] as usize] as usize].path);
+            text.extend_from_slice(b" full ");
+            text.extend_from_slice(sheet.nodes[tree.node[full[at] as usize] as usize].path.as_bytes());
         }
-        text.push('\n');
+        text.push(b'\n');
     }
-    let _ = writeln!(text, "total {total}");
+    text.extend_from_slice(b"total ");
+    decimal(&mut text, total);
+    text.push(b'\n');
     text
+}
+
+fn decimal(text: &mut Vec<u8>, mut number: u64) {
+    let mut digits = [0; 20];
+    let mut at = 20;
+    loop {
+        at -= 1;
+        digits[at] = b'0' + (number % 10) as u8;
+        number /= 10;
+        if number == 0 {
+            break;
+        }
+    }
+    text.extend_from_slice(&digits[at..]);
 }
 
 fn main() {
@@ -315,7 +396,7 @@ fn main() {
     let mut tree = Tree::of(&sheet);
     tree.fill(0, MAX_WANT, 0);
     let text = print(&sheet, &tree);
-    if std::io::stdout().write_all(text.as_bytes()).is_err() {
+    if std::io::stdout().write_all(&text).is_err() {
         stop("the output cannot be written");
     }
 }

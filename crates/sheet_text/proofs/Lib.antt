@@ -24,7 +24,7 @@ mod Places
 mod Faults
 mod Sound
 mod Together
-mod Marks
+mod KidTables
 pub mod Taking
 mod Placed
 pub mod Wants

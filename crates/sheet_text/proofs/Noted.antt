@@ -7,7 +7,7 @@ use Rattle.limit_tree.specs.Outline.{is_leaf_kind}
 use Rattle.sheet_text.specs.Paths.{Octets, Path, NoneTwice, is_among, names_of, same_path, text_of}
 use Rattle.sheet_text.proofs.Within.{same_self}
 use Rattle.sheet_text.specs.declared.node.Node.{Node}
-use Rattle.sheet_text.specs.declared.row.Row.{Row}
+use Rattle.sheet_text.specs.declared.kid_table.KidTable.{KidTable}
 use Rattle.sheet_text.specs.Table.{Mention, Table, mention_at, noted, path_at, paths_in, unstated, want_count}
 use Rattle.sheet_text.specs.Mentions.{Entry}
 use Rattle.sheet_text.specs.Inside.{AreBeneath, AreNames, AreNodes, Finds, IsTable, mention_of, parents_of, paths_of, table_of, texts_of}
@@ -117,7 +117,7 @@ field_kept : {Y : Type 0} (f : Node → Y) (nodes : List Node) (node new : Node)
 field_kept f nodes node new place l is same =
     map_set f nodes place new ∙ ap (set (map f nodes) place) (same ∙ ap f is ∙ sym (get_or-map f nodes place node (f node) l)) ∙ set_same (map f nodes) place (f node) (omega (arith, length-map nodes f, l))
 
-pub noted_kept : {A : Type 0} (nodes : List Node) (node new : Node) (table : Table) (names : List (Row A)) (place number wants : ℕ) (kind : NodeKind) → IsNoting nodes node new table place number kind → AreNodes nodes names wants → AreNodes (set nodes place new) names (one_if (is_leaf_kind kind) + wants)
+pub noted_kept : {A : Type 0} (nodes : List Node) (node new : Node) (table : Table) (names : KidTable A) (place number wants : ℕ) (kind : NodeKind) → IsNoting nodes node new table place number kind → AreNodes nodes names wants → AreNodes (set nodes place new) names (one_if (is_leaf_kind kind) + wants)
 noted_kept nodes node new table names place number wants kind is are = record {
   table = subst IsTable (sym view_new) (table_set table place kind number tables is.place_in);
   texts = ap (map text_of) paths ∙ are.texts ∙ sym (field_kept (λ (n : Node). n.path.now) nodes node new place within is.node_is (ap (λ (t : Bor (List ℕ)). t.now) is.path_kept));

@@ -1,8 +1,6 @@
 -- One node more.
-use Rattle.std.proofs.Common.{◌≡◌, ◌∙◌, ℕ, ◌<◌, ◌==◌, ◌||◌, ◌&&◌, Bool, true, false, cond, List, [], ◌∷◌, ◌++◌, length, map, get_or, refl, sym, ap, subst, arith, length-append, Option, Some, None, bytes_eq, inl, inr, eqb-true, eq-eqb, ne_eqb, set, length-set, take, ◌-◌}
-use Rattle.std.specs.Prelude.{slice_get}
+use Rattle.std.proofs.Common.{◌≡◌, ◌∙◌, ℕ, ◌<◌, ◌==◌, ◌||◌, ◌&&◌, Bool, true, false, cond, List, [], ◌∷◌, ◌++◌, length, map, get_or, refl, sym, ap, subst, arith, length-append, Option, Some, None, bytes_eq, inl, inr, eqb-true, eq-eqb, ne_eqb, take, ◌-◌}
 use Rattle.std.proofs.lemmas.Bool.{and_parts, cases_lt, or_cases, or_left, or_right, true≢false}
-use Rattle.std.proofs.lemmas.Option.{slice_get_read}
 use Rattle.std.proofs.lemmas.List.{get_or_append_left, map-append, length-map, take-append-le, take_all}
 use Rattle.std.proofs.lemmas.List.Folds.{list_any-append}
 use Rattle.std.proofs.lemmas.List.Sums.{sum_by-append}
@@ -13,12 +11,12 @@ use Rattle.sheet_text.proofs.Within.{same_name, is_name, same_self, is_same, fro
 use Rattle.sheet_text.proofs.Listing.{found_after, place_none, not_among}
 use Rattle.sheet_text.proofs.Mentioned.{once_push}
 use Rattle.sheet_text.specs.declared.node.Node.{Node}
-use Rattle.sheet_text.specs.declared.row.Row.{Row}
-use Rattle.sheet_text.specs.Named.{named}
+use Rattle.sheet_text.specs.declared.kid_table.KidTable.{KidTable}
+use Rattle.sheet_text.specs.Named.{IsKidTable, Key, named}
 use Rattle.sheet_text.specs.Table.{Table, Mention, mention_at, path_at, paths_in, unstated, want_count}
 use Rattle.sheet_text.specs.Inside.{AreBeneath, AreNames, AreNodes, Finds, IsTable, kid_of, mention_of, parents_of, paths_of, table_of, texts_of}
 use Rattle.sheet_text.proofs.Tables.{count, place_at, there_at}
-use Rattle.sheet_text.proofs.Rows.{push_get, set_get, same_bool}
+use Rattle.sheet_text.proofs.Rows.{same_bool}
 
 both_true : (a b : Bool) → a ≡ true → b ≡ true → (a && b) ≡ true
 both_true a b e f = ap (λ (t : Bool). t && b) e ∙ f
@@ -54,47 +52,16 @@ none_beneath paths path name names absent = go (is_among paths (path ++ name ∷
     go false e = place_none paths (path ++ name ∷ []) e
     go true e = absurd (true≢false (sym (names.closed path (path ++ name ∷ []) (within_front path name) e) ∙ not_among paths path absent))
 
--- a row more, which has no names
-pub finds_row : {A : Type 0} (paths : List Path) (old : List (Row A)) (row : Row A) → ((q : List ℕ) → named row q ≡ None) → Finds paths old → Finds paths (old ++ row ∷ [])
-finds_row {A} paths old row none finds = record {
-  enough = omega (arith, finds.enough, length-append old (row ∷ []));
-  there = λ place names q l at. elim (push_get old row names place at) [
-    | inl before ↦ finds.there place names q l before
-    | inr new ↦ absurd (omega (arith, l, new.0, finds.enough))
-  ];
-  nowhere = λ place names q l at. elim (push_get old row names place at) [
-    | inl before ↦ finds.nowhere place names q l before
-    | inr new ↦ ap (λ (r : Row A). named r q) (sym new.1) ∙ none q
-  ];
-}
-
--- a row that has the same names
-finds_same : {A : Type 0} (paths : List Path) (parent : ℕ) (old : List (Row A)) (before after : Row A) → ((q : List ℕ) → named after q ≡ named before q) → slice_get old parent ≡ Some before → Finds paths old → Finds paths (set old parent after)
-finds_same {A} paths parent old before after entries was finds = record {
-  enough = omega (arith, finds.enough, length-set old parent after);
-  there = λ place names q l at. elim (set_get old parent after names place at) [
-    | inl here ↦ same names q here.1 ∙ finds.there place before q l (ap (slice_get old) (sym here.0) ∙ was)
-    | inr other ↦ finds.there place names q l other.1
-  ];
-  nowhere = λ place names q l at. elim (set_get old parent after names place at) [
-    | inl here ↦ same names q here.1 ∙ finds.nowhere place before q l (ap (slice_get old) (sym here.0) ∙ was)
-    | inr other ↦ finds.nowhere place names q l other.1
-  ];
-}
-  where
-    same : (names : Row A) (q : List ℕ) → after ≡ names → named names q ≡ named before q
-    same names q is = ap (λ (r : Row A). named r q) (sym is) ∙ entries q
-
--- a name more in the row of its parent
-finds_more : {A : Type 0} (paths : List Path) (parent : ℕ) (name : List ℕ) (old : List (Row A)) (before after : Row A) → AreNames paths → parent < length paths → length paths < length old → place_of paths (kid_of paths parent name) ≡ None → slice_get old parent ≡ Some before
-    → ((q : List ℕ) → named after q ≡ cond (bytes_eq name q) (Some (length paths)) (named before q)) → Finds paths old → Finds (paths ++ kid_of paths parent name ∷ []) (set old parent after)
-finds_more {A} paths parent name old before after are l room absent was updates finds = record {
-  enough = omega (arith, room, length-set old parent after, length-append paths (kid_of paths parent name ∷ []));
-  there = λ place names q less at. there place names q less at;
-  nowhere = λ place names q past at. elim (set_get old parent after names place at) [
-    | inl here ↦ absurd (omega (arith, past, l, here.0, length-append paths (kid_of paths parent name ∷ [])))
-    | inr other ↦ finds.nowhere place names q (omega (arith, past, length-append paths (kid_of paths parent name ∷ []))) other.1
-  ];
+-- a name more
+finds_more : {A : Type 0} (paths : List Path) (parent : ℕ) (name : List ℕ) (old new : KidTable A) → AreNames paths → parent < length paths → place_of paths (kid_of paths parent name) ≡ None → IsKidTable new
+    → ((key : Key) → named new key ≡ cond ((parent == key.0) && bytes_eq name key.1.now) (Some (length paths)) (named old key)) → Finds paths old → Finds (paths ++ kid_of paths parent name ∷ []) new
+finds_more {A} paths parent name old new are l absent table updates finds = record {
+  table = table;
+  there = λ key less. there key less;
+  nowhere = λ key past.
+      let other : (parent == key.0) ≡ false = ne_eqb parent key.0 (λ e. absurd (omega (arith, e, l, past, length-append paths (kid_of paths parent name ∷ [])))) in
+      updates key ∙ ap (λ (b : Bool). cond (b && bytes_eq name key.1.now) (Some (length paths)) (named old key)) other
+      ∙ finds.nowhere key (omega (arith, past, length-append paths (kid_of paths parent name ∷ [])));
 }
   where
     found : (place : ℕ) (q : List ℕ) → place < length paths → place_of (paths ++ kid_of paths parent name ∷ []) (kid_of (paths ++ kid_of paths parent name ∷ []) place q) ≡ cond ((parent == place) && bytes_eq name q) (Some (length paths)) (place_of paths (kid_of paths place q))
@@ -110,17 +77,13 @@ finds_more {A} paths parent name old before after are l room absent was updates 
         ∙ ap (λ (t : Bool). cond t (Some (length paths)) (place_of paths (kid_of paths parent name ++ q ∷ []))) (longer (kid_of paths parent name) q)
         ∙ none_beneath paths (kid_of paths parent name) q are absent
 
-    there : (place : ℕ) (names : Row A) (q : List ℕ) → place < length (paths ++ kid_of paths parent name ∷ []) → slice_get (set old parent after) place ≡ Some names
-        → named names q ≡ place_of (paths ++ kid_of paths parent name ∷ []) (kid_of (paths ++ kid_of paths parent name ∷ []) place q)
-    there place names q less at = elim (set_get old parent after names place at) [
-      | inl here ↦
-          ap (λ (r : Row A). named r q) (sym here.1) ∙ updates q
-          ∙ ap (λ (o : Option ℕ). cond (bytes_eq name q) (Some (length paths)) o) (finds.there parent before q l was ∙ ap (λ (n : ℕ). place_of paths (kid_of paths n q)) here.0)
-          ∙ sym (found place q (omega (arith, l, here.0)) ∙ ap (λ (b : Bool). cond (b && bytes_eq name q) (Some (length paths)) (place_of paths (kid_of paths place q))) (eq-eqb parent place here.0))
-      | inr other ↦ elim (cases_lt place (length paths)) [
-        | inl early ↦ finds.there place names q early other.1 ∙ sym (found place q early ∙ ap (λ (b : Bool). cond (b && bytes_eq name q) (Some (length paths)) (place_of paths (kid_of paths place q))) (ne_eqb parent place other.0))
-        | inr past ↦ finds.nowhere place names q past other.1 ∙ sym (behind place q (omega (arith, less, past, length-append paths (kid_of paths parent name ∷ []))))
-      ]
+    there : (key : Key) → key.0 < length (paths ++ kid_of paths parent name ∷ []) → named new key ≡ place_of (paths ++ kid_of paths parent name ∷ []) (kid_of (paths ++ kid_of paths parent name ∷ []) key.0 key.1.now)
+    there key less = elim (cases_lt key.0 (length paths)) [
+      | inl early ↦ updates key ∙ ap (λ (o : Option ℕ). cond ((parent == key.0) && bytes_eq name key.1.now) (Some (length paths)) o) (finds.there key early) ∙ sym (found key.0 key.1.now early)
+      | inr past ↦
+          let other : (parent == key.0) ≡ false = ne_eqb parent key.0 (λ e. absurd (omega (arith, e, l, past))) in
+          updates key ∙ ap (λ (b : Bool). cond (b && bytes_eq name key.1.now) (Some (length paths)) (named old key)) other
+          ∙ finds.nowhere key past ∙ sym (behind key.0 key.1.now (omega (arith, less, past, length-append paths (kid_of paths parent name ∷ []))))
     ]
 
 -- what is above one name more is above the rest, or all
@@ -203,14 +166,12 @@ pub paths_in_table : (nodes : List Node) → paths_in (table_of nodes) ≡ paths
 paths_in_table [] = refl
 paths_in_table (node ∷ nodes) = ap (λ (ps : List Path). names_of node.path.now ∷ ps) (paths_in_table nodes)
 
-pub record IsPushed {A : Type 0} (nodes new : List Node) (node : Node) (name : List ℕ) (old names : List (Row A)) (before after : Row A) (place : ℕ) : Type 0 where
+pub record IsPushed {A : Type 0} (nodes new : List Node) (node : Node) (name : List ℕ) (old names : KidTable A) (place : ℕ) : Type 0 where
   pub items : new ≡ nodes ++ node ∷ []
   pub plain : mention_of node ≡ unstated (names_of node.path.now)
   pub place_is : place ≡ length nodes
-  pub room : length nodes < length old
-  pub was : slice_get old node.parent ≡ Some before
-  pub updates : (q : List ℕ) → named after q ≡ cond (bytes_eq name q) (Some place) (named before q)
-  pub names_are : names ≡ set old node.parent after
+  pub table : IsKidTable names
+  pub updates : (key : Key) → named names key ≡ cond ((node.parent == key.0) && bytes_eq name key.1.now) (Some place) (named old key)
 
 -- what the requires of a push say
 pub record IsNext (table : Table) (node : Node) (name : List ℕ) : Type 0 where
@@ -223,18 +184,8 @@ pub table_pushed : (nodes new : List Node) (node : Node) (table : Table) → new
 table_pushed nodes new node table items plain view =
     ap table_of items ∙ map-append mention_of nodes (node ∷ []) ∙ ap (λ (m : Mention). table_of nodes ++ m ∷ []) plain ∙ ap (λ (t : Table). t ++ unstated (names_of node.path.now) ∷ []) view
 
--- rows more leave the nodes as they are
-pub row_kept : {A : Type 0} (nodes : List Node) (old : List (Row A)) (row : Row A) (wants : ℕ) → ((q : List ℕ) → named row q ≡ None) → AreNodes nodes old wants → AreNodes nodes (old ++ row ∷ []) wants
-row_kept nodes old row wants none are = record {
-  table = are.table;
-  texts = are.texts;
-  finds = finds_row (paths_of nodes) old row none are.finds;
-  beneath = are.beneath;
-  counted = are.counted;
-}
-
-pub push_kept : {A : Type 0} (nodes new : List Node) (node : Node) (name : List ℕ) (old names : List (Row A)) (before after : Row A) (place wants : ℕ) (table : Table) → IsPushed nodes new node name old names before after place → AreNodes nodes old wants → table_of nodes ≡ table → IsNext table node name → AreNodes new names wants
-push_kept {A} nodes new node name old names before after place wants table is are view next = record {
+pub push_kept : {A : Type 0} (nodes new : List Node) (node : Node) (name : List ℕ) (old names : KidTable A) (place wants : ℕ) (table : Table) → IsPushed nodes new node name old names place → AreNodes nodes old wants → table_of nodes ≡ table → IsNext table node name → AreNodes new names wants
+push_kept {A} nodes new node name old names place wants table is are view next = record {
   table = subst IsTable (sym (table_pushed nodes new node table is.items is.plain view ∙ ap (λ (p : Path). table ++ unstated p ∷ []) next.path_is))
       (table_push table (path_at table node.parent) name (subst IsTable view are.table) (there_at table node.parent next.parent_in)
       (ap (is_among (paths_in table)) (sym next.path_is) ∙ not_among (paths_in table) (names_of node.path.now) next.absent));
@@ -243,9 +194,8 @@ push_kept {A} nodes new node name old names before after place wants table is ar
       ∙ ap (λ (ts : List (List ℕ)). ts ++ text_of (names_of node.path.now) ∷ []) are.texts ∙ ap (λ (t : List ℕ). texts_of nodes ++ t ∷ []) next.text_is
       ∙ sym (ap texts_of is.items ∙ map-append (λ (n : Node). n.path.now) nodes (node ∷ []));
   finds = subst (λ (ps : List Path). Finds ps names) (sym paths_new)
-      (subst (λ (rows : List (Row A)). Finds (paths_of nodes ++ kid_of (paths_of nodes) node.parent name ∷ []) rows) (sym is.names_are)
-      (finds_more (paths_of nodes) node.parent name old before after table_names within (omega (arith, is.room, many)) none is.was
-      (λ q. is.updates q ∙ ap (λ (n : ℕ). cond (bytes_eq name q) (Some n) (named before q)) count_is) are.finds));
+      (finds_more (paths_of nodes) node.parent name old names table_names within none is.table
+      (λ key. is.updates key ∙ ap (λ (n : ℕ). cond ((node.parent == key.0) && bytes_eq name key.1.now) (Some n) (named old key)) count_is) are.finds);
   beneath = subst (λ (ps : List Path). AreBeneath ps (parents_of new)) (sym paths_new)
       (subst (λ (ups : List ℕ). AreBeneath (paths_of nodes ++ kid_of (paths_of nodes) node.parent name ∷ []) ups) (sym (ap parents_of is.items ∙ map-append (λ (n : Node). n.parent) nodes (node ∷ [])))
       (beneath_push (paths_of nodes) (parents_of nodes) node.parent name (length-map nodes (λ (n : Node). n.parent) ∙ sym (length-map nodes (λ (n : Node). names_of n.path.now))) within are.beneath));
@@ -272,41 +222,27 @@ push_kept {A} nodes new node name old names before after place wants table is ar
     paths_new : paths_of new ≡ paths_of nodes ++ kid_of (paths_of nodes) node.parent name ∷ []
     paths_new = ap paths_of is.items ∙ map-append (λ (n : Node). names_of n.path.now) nodes (node ∷ []) ∙ ap (λ (p : Path). paths_of nodes ++ p ∷ []) path_is
 
-    many : length (paths_of nodes) ≡ length nodes
-    many = length-map nodes (λ (n : Node). names_of n.path.now)
-
     count_is : place ≡ length (paths_of nodes)
     count_is = is.place_is ∙ sym (length-map nodes (λ (n : Node). names_of n.path.now))
 
--- the place of a name in the row of its parent
-pub found_there : {A : Type 0} (nodes : List Node) (rows : List (Row A)) (wants : ℕ) (table : Table) (parent : ℕ) (row : Row A) (name : List ℕ) → AreNodes nodes rows wants → table_of nodes ≡ table → parent < length table → row ≡ get_or rows parent row
-    → named row name ≡ place_of (paths_in table) (path_at table parent ++ name ∷ [])
-found_there nodes rows wants table parent row name are view l is =
+-- the place of a name beneath a place
+pub found_there : {A : Type 0} (nodes : List Node) (names : KidTable A) (wants : ℕ) (table : Table) (key : Key) → AreNodes nodes names wants → table_of nodes ≡ table → key.0 < length table
+    → named names key ≡ place_of (paths_in table) (path_at table key.0 ++ key.1.now ∷ [])
+found_there nodes names wants table key are view l =
     let same : paths_of nodes ≡ paths_in table = sym (paths_in_table nodes) ∙ ap paths_in view in
-    let within : parent < length (paths_of nodes) = omega (arith, l, ap length same, count table) in
-    are.finds.there parent row name within (slice_get_read rows (length rows) parent row refl (omega (arith, within, are.finds.enough)) is)
-    ∙ ap (λ (ps : List Path). place_of ps (kid_of ps parent name)) same
-
--- a row for each place
-pub rows_there : {A : Type 0} (nodes : List Node) (rows : List (Row A)) (wants : ℕ) (table : Table) (parent : ℕ) → AreNodes nodes rows wants → table_of nodes ≡ table → parent < length table → parent < length rows
-rows_there nodes rows wants table parent are view l =
-    let same : paths_of nodes ≡ paths_in table = sym (paths_in_table nodes) ∙ ap paths_in view in
-    omega (arith, l, ap length same, count table, are.finds.enough)
-
--- a row more than places
-pub room_for : {A : Type 0} (nodes : List Node) (old rows : List (Row A)) (row : Row A) (wants : ℕ) → rows ≡ old ++ row ∷ [] → AreNodes nodes old wants → length nodes < length rows
-room_for nodes old rows row wants is are = omega (arith, ap length is, length-append old (row ∷ []), are.finds.enough, length-map nodes (λ (n : Node). names_of n.path.now))
+    are.finds.there key (omega (arith, l, ap length same, count table))
+    ∙ ap (λ (ps : List Path). place_of ps (kid_of ps key.0 key.1.now)) same
 
 -- a push that was taken back
-pub undone : {A : Type 0} (nodes pushed popped : List Node) (node : Node) (n : ℕ) (old names : List (Row A)) (parent : ℕ) (before after : Row A) (wants : ℕ) → pushed ≡ nodes ++ node ∷ [] → popped ≡ take (n - 1) pushed → n ≡ length pushed → ((q : List ℕ) → named after q ≡ named before q) → slice_get old parent ≡ Some before → names ≡ set old parent after
+pub undone : {A : Type 0} (nodes pushed popped : List Node) (node : Node) (n : ℕ) (old names : KidTable A) (wants : ℕ) → pushed ≡ nodes ++ node ∷ [] → popped ≡ take (n - 1) pushed → n ≡ length pushed → IsKidTable names → ((key : Key) → named names key ≡ named old key)
     → AreNodes nodes old wants → AreNodes popped names wants
-undone {A} nodes pushed popped node n old names parent before after wants is rest len entries was names_are are =
+undone {A} nodes pushed popped node n old names wants is rest len table entries are =
     let less : n - 1 ≡ length nodes = omega (arith, len, ap length is, length-append nodes (node ∷ [])) in
     let same : popped ≡ nodes = rest ∙ ap (λ (k : ℕ). take k pushed) less ∙ ap (take (length nodes)) is ∙ take-append-le (length nodes) nodes (node ∷ []) (omega arith) ∙ take_all (length nodes) nodes (omega arith) in
     let kept : AreNodes nodes names wants = record {
       table = are.table;
       texts = are.texts;
-      finds = subst (λ (rows : List (Row A)). Finds (paths_of nodes) rows) (sym names_are) (finds_same (paths_of nodes) parent old before after entries was are.finds);
+      finds = record { table = table; there = λ key l. entries key ∙ are.finds.there key l; nowhere = λ key past. entries key ∙ are.finds.nowhere key past };
       beneath = are.beneath;
       counted = are.counted;
     } in

@@ -1,9 +1,9 @@
 -- The sheet's nodes, as the code represents them.
-use Rattle.std.specs.Prelude.{◌≡◌, ℕ, ◌<◌, ◌≤◌, true, false, List, [], ◌∷◌, ◌++◌, length, map, slice_get, slice_index_or, Some, None}
+use Rattle.std.specs.Prelude.{◌≡◌, ℕ, ◌<◌, ◌≤◌, true, false, List, [], ◌∷◌, ◌++◌, length, map, slice_index_or, Some, None}
 use Rattle.limit_tree.specs.Outline.{is_leaf_kind}
 use Rattle.sheet_text.specs.declared.node.Node.{Node}
-use Rattle.sheet_text.specs.declared.row.Row.{Row}
-use Rattle.sheet_text.specs.Named.{named}
+use Rattle.sheet_text.specs.declared.kid_table.KidTable.{KidTable}
+use Rattle.sheet_text.specs.Named.{IsKidTable, Key, named}
 use Rattle.sheet_text.specs.Paths.{NoneTwice, Octets, Path, is_among, is_within, names_of, place_of, text_of}
 use Rattle.sheet_text.specs.Table.{Mention, Table, mention_at, paths_in, want_count}
 
@@ -40,14 +40,12 @@ pub record IsTable (table : Table) : Type 0 where
   pub branches : (place : ℕ) → place < length table → (mention_at table place).line ≡ None
       → is_leaf_kind (mention_at table place).kind ≡ false
 
--- a place is found by its name among the kids of its parent
-pub record Finds {A : Type 0} (paths : List Path) (kids : List (Row A)) : Type 0 where
-  pub enough : length paths ≤ length kids
-  pub there : (parent : ℕ) (names : Row A) (name : Octets) → parent < length paths
-      → slice_get kids parent ≡ Some names
-      → named names name ≡ place_of paths (kid_of paths parent name)
-  pub nowhere : (parent : ℕ) (names : Row A) (name : Octets) → length paths ≤ parent
-      → slice_get kids parent ≡ Some names → named names name ≡ None
+-- a place is found by its parent and its name
+pub record Finds {A : Type 0} (paths : List Path) (names : KidTable A) : Type 0 where
+  pub table : IsKidTable names
+  pub there : (key : Key) → key.0 < length paths
+      → named names key ≡ place_of paths (kid_of paths key.0 key.1.now)
+  pub nowhere : (key : Key) → length paths ≤ key.0 → named names key ≡ None
 
 -- each path but the root's is one name below that of its parent
 abbrev pub AreBeneath : List Path → List ℕ → Type 0
@@ -55,10 +53,10 @@ AreBeneath paths parents = (place : ℕ) → 0 < place → place < length paths
     → (slice_index_or parents place 0 < length paths) × (name : Octets)
     × (slice_index_or paths place [] ≡ kid_of paths (slice_index_or parents place 0) name)
 
-pub record AreNodes {A : Type 0} (nodes : List Node) (kids : List (Row A))
+pub record AreNodes {A : Type 0} (nodes : List Node) (names : KidTable A)
     (wants : ℕ) : Type 0 where
   pub table : IsTable (table_of nodes)
   pub texts : map text_of (paths_of nodes) ≡ texts_of nodes
-  pub finds : Finds (paths_of nodes) kids
+  pub finds : Finds (paths_of nodes) names
   pub beneath : AreBeneath (paths_of nodes) (parents_of nodes)
   pub counted : wants ≡ want_count (table_of nodes)

@@ -6,7 +6,7 @@ ghost use Rattle.sheet_text.specs.Paths.{Octets, names_of, place_of, text_of};
 ghost use Rattle.sheet_text.specs.Table.{fresh, mention_at, noted, path_at, paths_in, unstated, want_count};
 ghost use Rattle.sheet_text.specs.Inside.{IsTable};
 
-use crate::row::Row;
+use crate::kid_table::{KidTable, place_of_kid};
 use limit_tree::NodeKind;
 use std::alloc::{AllocError, Allocator};
 use std::marker::Model;
@@ -25,8 +25,8 @@ struct Node<'t> {
 #[derive(Drop)]
 pub struct Nodes<'t, A: Allocator> {
     nodes: Vec<Node<'t>, A>,
-    /// The places of each node's kids by their names. There may be rows without names after those of the nodes.
-    names: Vec<Row<'t, A>, A>,
+    /// The places by the place above and the name.
+    names: KidTable<'t, A>,
     wants: usize,
 }
 
@@ -38,7 +38,7 @@ impl<'t, A: Allocator> Model for Nodes<'t, A> {
 
     ghost view = { λ s. table_of s.nodes.items };
 
-    ghost invariant = { λ s. AreNodes s.nodes.items s.names.items s.wants };
+    ghost invariant = { λ s. AreNodes s.nodes.items s.names s.wants };
 }
 
 /// Returns whether a kind is that of a want.
@@ -106,7 +106,7 @@ impl<'t, A: Allocator> Nodes<'t, A> {
         ensures place { result
             ≡ place_of (paths_in self.now) (path_at self.now parent ++ name.now ∷ []) }
     {
-        self.names[parent].place(name)
+        place_of_kid(&self.names, parent, name)
     }
 
     /// Notes the statement of a line about a place without a line.
@@ -133,6 +133,13 @@ impl<'t, A: Allocator + Clone> Nodes<'t, A> {
     pub fn new(alloc: A) -> Result<Nodes<'t, A>, AllocError>
         ensures new { IfOk result (λ nodes. nodes ≡ fresh) }
     {
+        Nodes::of_text(alloc, 0)
+    }
+
+    /// The root alone, with room for the nodes of a text of this number of octets.
+    pub(crate) fn of_text(alloc: A, octets: usize) -> Result<Nodes<'t, A>, AllocError>
+        ensures new { IfOk result (λ nodes. nodes ≡ fresh) }
+    {
         let mut nodes = Vec::new(alloc.clone()?);
         nodes.push(Node {
             path: "",
@@ -140,9 +147,7 @@ impl<'t, A: Allocator + Clone> Nodes<'t, A> {
             kind: NodeKind::Branch { limit: None },
             line: None,
         })?;
-        let mut names = Vec::new(alloc.clone()?);
-        let kids = Row::new(alloc)?;
-        names.push(kids)?;
+        let names = KidTable::new(alloc, octets)?;
         Ok(Nodes {
             nodes,
             names,
@@ -164,15 +169,13 @@ impl<'t, A: Allocator + Clone> Nodes<'t, A> {
         ensures pushed { OnOk result (self.new ≡ self.old ++ unstated (names_of path.now) ∷ []) }
     {
         let place = self.nodes.len();
-        let kids = Row::new(self.nodes.allocator().clone()?)?;
-        self.names.push(kids)?;
         self.nodes.push(Node {
             path,
             parent,
             kind: NodeKind::Branch { limit: None },
             line: None,
         })?;
-        match self.names[parent].add(name, place) {
+        match self.names.add(parent, name, place) {
             Ok(()) => Ok(()),
             Err(_) => {
                 let _ = self.nodes.pop();

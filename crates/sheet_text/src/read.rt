@@ -100,7 +100,7 @@ pub(crate) fn read_lines<'t, A: Allocator + Clone>(
     ensures below { IfOk result
         (λ reading. AreBelow (length reading.nodes) reading.wants.items) }
 {
-    let nodes = Nodes::new(alloc.clone()?)?;
+    let nodes = Nodes::of_text(alloc.clone()?, text.len())?;
     let mut reading = Reading {
         nodes,
         wants: Vec::new(alloc),

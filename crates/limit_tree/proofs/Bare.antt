@@ -27,7 +27,7 @@ bare-kind level ps fuel bare k p got none fits tree (Branch limit) is =
     ∙ ap (cut limit) (bare p.kids (k + 1) p.first (k + p.nodes) (p.first + p.leaves) (tree.branch limit is) (omega (arith, none)) (omega (arith, fits)))
     ∙ cut-zero limit
 
-bare-row : (level : ℕ) (ps : List Place) (fuel : ℕ) → IsShaped ps → AreBare level ps fuel
+pub bare-row : (level : ℕ) (ps : List Place) (fuel : ℕ) → IsShaped ps → AreBare level ps fuel
 bare-row level ps fuel shaped zero at first last past row none fits = refl
 bare-row level ps zero shaped (suc n) at first last past row none fits =
     absurd (omega (arith, fits, (shaped at row.0 row.1).some, row-last ps (at + row.0.nodes) (first + row.0.leaves) n last past row.3))

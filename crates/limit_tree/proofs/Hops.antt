@@ -102,15 +102,19 @@ row-next ps at n m p shaped row is got = go (subst (HasRow ps at) is row)
         some_same : {x y : Place} → Some x ≡ Some y → x ≡ y
         some_same e = cc
 
+-- the first tree of a row begins at the row's first leaf, and the rest of the row ends where the row does
+pub row-onward : (ps : List Place) (at begin n m last past : ℕ) (p : Place) → IsRow ps at begin n last past → n ≡ suc m → slice_get ps at ≡ Some p → (p.first ≡ begin) × IsRow ps (at + p.nodes) (begin + p.leaves) m last past
+row-onward ps at begin n m last past p row is got = go (subst (λ (k : ℕ). IsRow ps at begin k last past) is row)
+  where
+    go : IsRow ps at begin (suc m) last past → (p.first ≡ begin) × IsRow ps (at + p.nodes) (begin + p.leaves) m last past
+    go row =
+        let same : row.0 ≡ p = some_same (sym row.1 ∙ got) in
+        (ap (λ (q : Place). q.first) (sym same) ∙ row.2, subst (λ (q : Place). IsRow ps (at + q.nodes) (begin + q.leaves) m last past) same row.3)
+      where
+        some_same : {x y : Place} → Some x ≡ Some y → x ≡ y
+        some_same e = cc
+
 -- a row that is not empty begins with a node
 pub row-inside : (ps : List Place) (at n : ℕ) → HasRow ps at n → 0 < n → at < length ps
 row-inside ps at zero row some = absurd (omega arith)
 row-inside ps at (suc m) row some = slice_get_within ps at row.3.0 row.3.1
-
--- one tree is a row
-pub row-one : (ps : List Place) (at : ℕ) → at < length ps → HasRow ps at 1
-row-one ps at less = go (slice_get ps at) refl
-  where
-    go : (o : Option Place) → slice_get ps at ≡ o → HasRow ps at 1
-    go None e = absurd (some_within ps at less e)
-    go (Some p) e = (p.first, at + p.nodes, p.first + p.leaves, (p, e, refl, (refl, refl)))

@@ -1,11 +1,11 @@
 //! A tree as an array of nodes in preorder, without pointers.
 
-ghost use Rattle.std.specs.Prelude.{◌≡◌, ◌+◌, ◌*◌, ◌<◌, ◌≤◌, ◌↔◌, length, slice_get, slice_index, sum, IsTrue, Some, IfOk};
+ghost use Rattle.std.specs.Prelude.{◌≡◌, ◌+◌, ◌*◌, ◌<◌, ◌≤◌, ◌↔◌, ℕ, length, slice_get, slice_index, sum, IsTrue, Some, IfOk};
 ghost use Rattle.std.specs.Option.{option_and_then};
 ghost use Rattle.limit_tree.specs.Sharing.{IsWanted, IsLimitTree, Branch, IsBranch, IsFull};
 ghost use Rattle.limit_tree.specs.Outline.{limits, leaves_under, absorbed};
 ghost use Rattle.limit_tree.specs.Laws.{LaterIsInside};
-ghost use Rattle.limit_tree.specs.Flat.{taken_in, taken_below, HasRow, IsFlat};
+ghost use Rattle.limit_tree.specs.Flat.{taken_in, taken_below, IsRow, IsFlat};
 
 use super::absorb::at_most;
 use super::bounds::{MAX_LEAVES, MAX_NODES, MAX_WANT};
@@ -148,7 +148,9 @@ impl<A: Allocator> Flat<A> {
         ensures absorbed { result ≡ absorbed level self.now node }
         ensures most { result ≤ sum (limits self.now).wants }
     {
-        absorb_row(&self.places, node, 1, level)
+        let _leaves = self.leaves();
+        let place = self.place(node);
+        absorb_row(&self.places, node, 1, place.first + place.leaves, level)
     }
 
     /// Sum of what the kids of a node absorb up to a level, in octets. O(nodes below) time.
@@ -157,9 +159,11 @@ impl<A: Allocator> Flat<A> {
         ensures absorbed { result ≡ taken_below level self.now node }
         ensures most { result ≤ sum (limits self.now).wants }
     {
+        let _leaves = self.leaves();
         let place = self.place(node);
+        let past = place.first + place.leaves;
         match place.kind {
-            NodeKind::Branch { .. } => absorb_row(&self.places, node + 1, place.kids, level),
+            NodeKind::Branch { .. } => absorb_row(&self.places, node + 1, place.kids, past, level),
             NodeKind::Leaf { .. } => 0,
         }
     }
@@ -172,22 +176,28 @@ fn place_at(places: &[Place], node: usize) -> Place
     places[node]
 }
 
-// Sum of what `trees` trees side by side absorb up to a level; the first of them is node `first`.
-fn absorb_row(places: &[Place], first: usize, trees: usize, level: u64) -> u64
+// Sum of what `trees` trees side by side absorb up to a level; the first of them is node `first`, and the leaf after
+// their last one is leaf `past`.
+fn absorb_row(places: &[Place], first: usize, trees: usize, past: usize, level: u64) -> u64
     requires flat { IsFlat places.now }
-    requires row { HasRow places.now first trees }
+    requires row { (begin : ℕ) × (last : ℕ) × IsRow places.now first begin trees last past }
     ensures absorbed { result ≡ taken_in level places.now first trees }
 {
     let mut node = first;
     let mut total = 0;
     for _tree in 0..trees {
         let place = place_at(places, node);
+        // (most nodes of a large sheet may be limits with no want below, after those that have one)
+        if place.first >= past {
+            return total;
+        }
         total += match place.kind {
             NodeKind::Leaf { want, floor } => level.max(floor).min(want),
-            // (most nodes of a large sheet may be limits with no want below: no kid of theirs is examined)
+            // (and no kid of such a node is examined)
             NodeKind::Branch { .. } if place.leaves == 0 => 0,
             NodeKind::Branch { limit } => {
-                let below = absorb_row(places, node + 1, place.kids, level);
+                let end = place.first + place.leaves;
+                let below = absorb_row(places, node + 1, place.kids, end, level);
                 at_most(limit, below)
             }
         };

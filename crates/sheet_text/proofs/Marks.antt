@@ -21,3 +21,12 @@ other_more name place marks before after absent updates q = go (bytes_eq name q)
     go true e = subst (λ (n : List ℕ). held_by (marks (mark_of n)) n (after n) ≡ Some place) (is_name name q e)
         (new (marks (mark_of name)) name (before name) (after name) absent (updates name ∙ ap (λ (t : Bool). cond t (Some place) (before name)) (ap (bytes_eq name) (is_name name q e) ∙ e)))
     go false e = ap (λ (o : Option ℕ). held_by (marks (mark_of q)) q o) (updates q ∙ ap (λ (t : Bool). cond t (Some place) (before q)) e)
+
+-- a name that is not there is not that of a further kid
+pub none_further : (first : Option (Bor (List ℕ) × ℕ)) (name : List ℕ) (further : Option ℕ) → held_by first name further ≡ None → further ≡ None
+none_further None name further none = none
+none_further (Some kid) name further none = by (bytes_eq kid.0.now name) none
+  where
+    by : (b : Bool) → cond b (Some kid.1) further ≡ None → further ≡ None
+    by true none = absurd (cc)
+    by false none = none

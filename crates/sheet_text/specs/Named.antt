@@ -16,13 +16,16 @@ marked mark octet = (mark * 31 % 2 ^ 64 + octet) % 2 ^ 64
 abbrev pub mark_of : Octets → ℕ
 mark_of name = fold marked 0 name
 
--- the place of a name: that of the kid with its mark, if the name is that kid's, and otherwise that
--- of another kid
+-- the place of a name: that of a kid, if the name is that kid's, and otherwise that of another
 abbrev pub held_by : Option (Bor (List ℕ) × ℕ) → Octets → Option ℕ → Option ℕ
 held_by None name other = other
 held_by (Some kid) name other = if bytes_eq kid.0.now name then Some kid.1 else other
 
-abbrev pub named : {A : Type 0} → Row A → Octets → Option ℕ
-named row name =
+-- the place of a name after the first kid's
+abbrev pub named_further : {A : Type 0} → Row A → Octets → Option ℕ
+named_further row name =
     held_by (get_by (nat_cmp (mark_of name)) row.marks) name
     (get_by (λ key. slice_cmp nat_cmp name key.now) row.others)
+
+abbrev pub named : {A : Type 0} → Row A → Octets → Option ℕ
+named row name = held_by row.first name (named_further row name)

@@ -2,7 +2,7 @@
 
 ghost use Rattle.std.specs.Prelude.{◌≡◌, IfOk, None, OnErr, OnOk, Some, bytes_eq, if◌then◌else◌};
 ghost use Rattle.sheet_text.specs.Paths.{Octets};
-ghost use Rattle.sheet_text.specs.Named.{mark_of, named};
+ghost use Rattle.sheet_text.specs.Named.{mark_of, named, named_further};
 
 use std::alloc::{AllocError, Allocator};
 use std::collections::BTreeMap;
@@ -10,10 +10,12 @@ use std::collections::BTreeMap;
 /// The factor by which a name's mark is multiplied at each octet.
 const FACTOR: u64 = 31;
 
-/// The places of kids by their names. A number finds a kid in less time than a name does, so a kid is found by the mark
-/// of its name, or among the others if that mark is taken.
+/// The places of kids by their names. Most nodes of a deep sheet have one kid alone, so the first one needs no map. A
+/// number finds a kid in less time than a name does, so a further kid is found by the mark of its name, or among the
+/// others if that mark is taken.
 #[derive(Drop)]
 pub(crate) struct Row<'t, A: Allocator> {
+    pub first: Option<(&'t [u8], usize)>,
     pub marks: BTreeMap<u64, (&'t [u8], usize), A>,
     pub others: BTreeMap<&'t [u8], usize, A>,
 }
@@ -34,6 +36,18 @@ impl<'t, A: Allocator> Row<'t, A> {
     pub fn place(&self, name: &[u8]) -> Option<usize>
         ensures place { result ≡ named self.now name.now }
     {
+        if let Some((kid, place)) = self.first {
+            if kid == name {
+                return Some(place);
+            }
+        }
+        self.further_place(name)
+    }
+
+    /// Returns the place of a name, if a kid after the first has it.
+    fn further_place(&self, name: &[u8]) -> Option<usize>
+        ensures place { result ≡ named_further self.now name.now }
+    {
         let Some((kid, place)) = self.marks.get(&mark_of(name)) else {
             return self.others.get(name).copied();
         };
@@ -51,7 +65,11 @@ impl<'t, A: Allocator + Clone> Row<'t, A> {
     {
         let marks = BTreeMap::new(alloc.clone()?);
         let others = BTreeMap::new(alloc);
-        Ok(Row { marks, others })
+        Ok(Row {
+            first: None,
+            marks,
+            others,
+        })
     }
 
     /// Adds a kid, whose name no other has. If memory runs out, the kids are unchanged.
@@ -61,6 +79,25 @@ impl<'t, A: Allocator + Clone> Row<'t, A> {
             ≡ if bytes_eq name.now other then Some place else named self.old other) }
         ensures kept { OnErr result ((other : Octets)
             → named self.new other ≡ named self.old other) }
+    {
+        if self.first.is_none() {
+            self.first = Some((name, place));
+            return Ok(());
+        }
+        match self.add_further(name, place) {
+            Ok(()) => Ok(()),
+            Err(_) => Err(AllocError),
+        }
+    }
+
+    /// Adds a kid after the first, whose name no other has. If memory runs out, the kids are unchanged.
+    fn add_further(&mut self, name: &'t [u8], place: usize) -> Result<(), AllocError>
+        requires absent { named_further self.old name.now ≡ None }
+        ensures first { self.new.first ≡ self.old.first }
+        ensures added { OnOk result ((other : Octets) → named_further self.new other
+            ≡ if bytes_eq name.now other then Some place else named_further self.old other) }
+        ensures kept { OnErr result ((other : Octets)
+            → named_further self.new other ≡ named_further self.old other) }
     {
         let mark = mark_of(name);
         if self.marks.contains_key(&mark) {

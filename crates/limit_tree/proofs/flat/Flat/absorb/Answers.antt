@@ -1,11 +1,15 @@
-use Rattle.std.proofs.Common.{arith, ◌≡◌, ◌∙◌, List, ap, sym, subst, length, ◌<◌}
+use Rattle.std.proofs.Common.{arith, ◌≡◌, ◌+◌, ◌∙◌, List, ap, sym, subst, refl, Some}
+use Rattle.std.specs.Prelude.{slice_get}
 use Rattle.limit_tree.specs.Flat.{taken_in, IsFlat}
 use Rattle.limit_tree.specs.declared.place.Place.{Place}
-use Rattle.limit_tree.proofs.Hops.{taken-at, taken-wants, row-one}
+use Rattle.limit_tree.proofs.Hops.{taken-at, taken-wants}
 use Rattle.limit_tree.proofs.flat.Flat.absorb.Goals as goal
 
 pub absorb_row-requires-clause-row : goal.absorb_row-requires-clause-row
-absorb_row-requires-clause-row g c = row-one c.deref.result.now c.args.node (subst (λ (ps : List Place). c.args.node < length ps) (sym (c.deref.ensures.value ∙ c.self.view_is)) c.requires.node)
+absorb_row-requires-clause-row g c =
+    let p = c.place-place.result in
+    let got = subst (λ (ps : List Place). slice_get ps c.args.node ≡ Some p) (sym (c.deref.ensures.value ∙ c.self.view_is)) c.place-place.ensures.place in
+    (p.first, c.args.node + p.nodes, (p, got, refl, (refl, refl)))
 
 pub returns-clause-absorbed : goal.returns-clause-absorbed
 returns-clause-absorbed g c =

@@ -1,5 +1,5 @@
 use Rattle.std.proofs.Common.{arith, ◌≡◌, ◌+◌, ◌∙◌, List, ap, sym, subst}
-use Rattle.limit_tree.specs.Flat.{taken_in, HasRow, IsFlat}
+use Rattle.limit_tree.specs.Flat.{taken_in, IsRow, IsFlat}
 use Rattle.limit_tree.specs.declared.place.Place.{Place}
 use Rattle.limit_tree.proofs.Hops.{taken-wants, taken_below-is}
 use Rattle.limit_tree.proofs.flat.Flat.absorb_below.Goals as goal
@@ -10,7 +10,7 @@ absorb_row-requires-clause-row g c =
     let p = c.place-place.result in
     let flat = subst (λ (ps : List Place). IsFlat ps) c.self.view_is c.self.invariant.flat in
     let tree = flat.shaped c.args.node p c.place-place.ensures.place in
-    subst (λ (ps : List Place). HasRow ps (c.args.node + 1) p.kids) (sym same) (p.first, c.args.node + p.nodes, p.first + p.leaves, tree.branch c.in-Branch.limit c.in-Branch.is)
+    (p.first, c.args.node + p.nodes, subst (λ (ps : List Place). IsRow ps (c.args.node + 1) p.first p.kids (c.args.node + p.nodes) (p.first + p.leaves)) (sym same) (tree.branch c.in-Branch.limit c.in-Branch.is))
 
 pub returns-in-Branch-clause-absorbed : goal.returns-in-Branch-clause-absorbed
 returns-in-Branch-clause-absorbed g c =

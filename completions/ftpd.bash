@@ -12,13 +12,14 @@ _ftpd_words() {
     [[ ${COMP_WORDS[1]} == share ]] && options="--svg $options"
     [[ ${COMP_WORDS[1]} == top ]] && options="$4 $options"
     [[ ${COMP_WORDS[1]} == plan || ${COMP_WORDS[1]} == check-config ]] && options="$3 $options"
+    [[ ${COMP_WORDS[1]} == check-config ]] && options="--against $options"
     if [[ ${COMP_WORDS[1]} == help ]]; then
         [[ $COMP_CWORD -gt 2 ]] || mapfile -t COMPREPLY < <(compgen -W "$1" -- "$word")
     elif [[ $before == --*-timeout || $before == --*-delay || $before == --*-seconds || $before == --status-port || $before == --rows ]]; then
         return # a number
     elif [[ $before == --log-form ]]; then
         mapfile -t COMPREPLY < <(compgen -W 'plain journal' -- "$word")
-    elif [[ $word == -* && $before != --*-file && $before != --transfer-log && $before != --status ]]; then
+    elif [[ $word == -* && $before != --*-file && $before != --transfer-log && $before != --status && $before != --against ]]; then
         mapfile -t COMPREPLY < <(compgen -W "$options" -- "$word")
     else
         mapfile -t COMPREPLY < <(compgen -f -- "$word")

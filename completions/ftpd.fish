@@ -25,6 +25,7 @@ complete -c ftpd -n '__fish_seen_subcommand_from serve' -l idle-timeout -x -d 'S
 complete -c ftpd -n '__fish_seen_subcommand_from serve' -l login-delay -x -d 'Seconds before a wrong password is answered'
 complete -c ftpd -n '__fish_seen_subcommand_from serve' -l drain-seconds -x -d 'Seconds that transfers have once the server drains'
 complete -c ftpd -n '__fish_seen_subcommand_from check-config' -l json -d 'Print the report as JSON'
+complete -c ftpd -n '__fish_seen_subcommand_from check-config' -l against -r -F -d 'Print what a server with that configuration would change'
 complete -c ftpd -n '__fish_seen_subcommand_from plan' -l json -d 'Print the plan as JSON'
 complete -c ftpd -n '__fish_seen_subcommand_from top' -l once -d 'Show what the file says once'
 complete -c ftpd -n '__fish_seen_subcommand_from top' -l rows -x -d 'Lines of the screen'

@@ -118,7 +118,8 @@ ftpd_found any words p port lines none stated =
         (
           λ _ is.
               let found = one_found _ _ e _ is (codes "CONFIG") refl refl in
-              (CheckConfig (at_place any found.0) (is_flagged (codes "json") found.1), (found.1, found.2, found.3, refl)),
+              let other = first_of (codes "against") found.1 in
+              (CheckConfig (at_place any found.0) (is_flagged (codes "json") found.1) (option_map (at_place any) other), (found.1, found.2, found.3, refl, if_any any other)),
           (
             λ _ is.
                 let found = one_found _ _ e _ is (codes "CONFIG") refl refl in
@@ -195,7 +196,7 @@ sheet_named : (P : SheetWords → Type 0) (found : Option (Text × List Row)) (c
     → bytes_eq name (codes "top") ≡ false
     → ((words : SheetWords) → IsSheetFound found words → P words) → IsFound found command → IsOfSheets P command
 sheet_named P found (Sheet words) rows name named config migrate script serve plan top holds is = holds words is
-sheet_named P found (CheckConfig config json) rows name named config_apart migrate_apart script_apart serve_apart plan_apart top_apart holds (other, same, given, flag) = absurd (different _ _ _ _ _ config_apart named same)
+sheet_named P found (CheckConfig config json against) rows name named config_apart migrate_apart script_apart serve_apart plan_apart top_apart holds (other, same, given, flag, also) = absurd (different _ _ _ _ _ config_apart named same)
 sheet_named P found (Migrate config) rows name named config_apart migrate_apart script_apart serve_apart plan_apart top_apart holds (other, same, given) = absurd (different _ _ _ _ _ migrate_apart named same)
 sheet_named P found (Script config) rows name named config_apart migrate_apart script_apart serve_apart plan_apart top_apart holds (other, same, given) = absurd (different _ _ _ _ _ script_apart named same)
 sheet_named P found (Serve config files patience) rows name named config_apart migrate_apart script_apart serve_apart plan_apart top_apart holds (other, same, given, path, ready, drain, again, log, form, status, port, also) = absurd (different _ _ _ _ _ serve_apart named same)
@@ -213,12 +214,12 @@ check_of_sheets found command rows word also named first second is =
     sheet_named (IsCheck word also) found command rows (codes "check") named refl refl refl refl refl refl (λ words held. check_is found words rows word also named first second held) is
 
 pub check_config_is : (found : Option (Text × List Row)) (command : Words) (rows : List Row) (word : Text) → found ≡ Some (codes "check-config", rows) → first_of (codes "CONFIG") rows ≡ Some word
-    → IsFound found command → IsCheckConfig word (is_flagged (codes "json") rows) command
+    → IsFound found command → IsCheckConfig word (is_flagged (codes "json") rows) (first_of (codes "against") rows) command
 check_config_is found (Sheet (Share sheet svg)) rows word named first (other, same, given, flag) = absurd (different _ _ _ _ _ refl named same)
 check_config_is found (Sheet (Check sheet grants)) rows word named first (other, same, given, also) = absurd (different _ _ _ _ _ refl named same)
-check_config_is found (CheckConfig config json) rows word named first (other, same, given, flag) =
+check_config_is found (CheckConfig config json against) rows word named first (other, same, given, flag, also) =
     let are = same_rows _ _ _ _ _ named same in
-    (cc, flag ∙ sym (ap (is_flagged (codes "json")) are))
+    (cc, flag ∙ sym (ap (is_flagged (codes "json")) are), cc)
 check_config_is found (Migrate config) rows word named first (other, same, given) = absurd (different _ _ _ _ _ refl named same)
 check_config_is found (Script config) rows word named first (other, same, given) = absurd (different _ _ _ _ _ refl named same)
 check_config_is found (Serve config files patience) rows word named first (other, same, given, path, ready, drain, again, log, form, status, port, also) = absurd (different _ _ _ _ _ refl named same)
@@ -229,7 +230,7 @@ pub migrate_is : (found : Option (Text × List Row)) (command : Words) (rows : L
     → IsFound found command → IsMigrate word command
 migrate_is found (Sheet (Share sheet svg)) rows word named first (other, same, given, flag) = absurd (different _ _ _ _ _ refl named same)
 migrate_is found (Sheet (Check sheet grants)) rows word named first (other, same, given, also) = absurd (different _ _ _ _ _ refl named same)
-migrate_is found (CheckConfig config json) rows word named first (other, same, given, flag) = absurd (different _ _ _ _ _ refl named same)
+migrate_is found (CheckConfig config json against) rows word named first (other, same, given, flag, also) = absurd (different _ _ _ _ _ refl named same)
 migrate_is found (Migrate config) rows word named first (other, same, given) = let are = same_rows _ _ _ _ _ named same in cc
 migrate_is found (Script config) rows word named first (other, same, given) = absurd (different _ _ _ _ _ refl named same)
 migrate_is found (Serve config files patience) rows word named first (other, same, given, path, ready, drain, again, log, form, status, port, also) = absurd (different _ _ _ _ _ refl named same)
@@ -240,7 +241,7 @@ pub script_is : (found : Option (Text × List Row)) (command : Words) (rows : Li
     → IsFound found command → IsScript word command
 script_is found (Sheet (Share sheet svg)) rows word named first (other, same, given, flag) = absurd (different _ _ _ _ _ refl named same)
 script_is found (Sheet (Check sheet grants)) rows word named first (other, same, given, also) = absurd (different _ _ _ _ _ refl named same)
-script_is found (CheckConfig config json) rows word named first (other, same, given, flag) = absurd (different _ _ _ _ _ refl named same)
+script_is found (CheckConfig config json against) rows word named first (other, same, given, flag, also) = absurd (different _ _ _ _ _ refl named same)
 script_is found (Migrate config) rows word named first (other, same, given) = absurd (different _ _ _ _ _ refl named same)
 script_is found (Script config) rows word named first (other, same, given) = let are = same_rows _ _ _ _ _ named same in cc
 script_is found (Serve config files patience) rows word named first (other, same, given, path, ready, drain, again, log, form, status, port, also) = absurd (different _ _ _ _ _ refl named same)
@@ -251,7 +252,7 @@ pub serve_is : (found : Option (Text × List Row)) (command : Words) (rows : Lis
     → IsPatienceIn rows p → IsFound found command → IsServe word (first_of (codes "stop-file") rows) (first_of (codes "ready-file") rows) p command
 serve_is found (Sheet (Share sheet svg)) rows word p named first states (other, same, given, flag) = absurd (different _ _ _ _ _ refl named same)
 serve_is found (Sheet (Check sheet grants)) rows word p named first states (other, same, given, also) = absurd (different _ _ _ _ _ refl named same)
-serve_is found (CheckConfig config json) rows word p named first states (other, same, given, flag) = absurd (different _ _ _ _ _ refl named same)
+serve_is found (CheckConfig config json against) rows word p named first states (other, same, given, flag, also) = absurd (different _ _ _ _ _ refl named same)
 serve_is found (Migrate config) rows word p named first states (other, same, given) = absurd (different _ _ _ _ _ refl named same)
 serve_is found (Script config) rows word p named first states (other, same, given) = absurd (different _ _ _ _ _ refl named same)
 serve_is found (Serve config files patience) rows word p named first states (other, same, given, path, ready, drain, again, log, form, status, port, also) =
@@ -264,7 +265,7 @@ pub logged_is : (found : Option (Text × List Row)) (command : Words) (rows : Li
     → IsFound found command → IsLoggedBy word (first_of (codes "transfer-log") rows) (first_of (codes "log-form") rows) command
 logged_is found (Sheet (Share sheet svg)) rows word named first (other, same, given, flag) = absurd (different _ _ _ _ _ refl named same)
 logged_is found (Sheet (Check sheet grants)) rows word named first (other, same, given, also) = absurd (different _ _ _ _ _ refl named same)
-logged_is found (CheckConfig config json) rows word named first (other, same, given, flag) = absurd (different _ _ _ _ _ refl named same)
+logged_is found (CheckConfig config json against) rows word named first (other, same, given, flag, also) = absurd (different _ _ _ _ _ refl named same)
 logged_is found (Migrate config) rows word named first (other, same, given) = absurd (different _ _ _ _ _ refl named same)
 logged_is found (Script config) rows word named first (other, same, given) = absurd (different _ _ _ _ _ refl named same)
 logged_is found (Serve config files patience) rows word named first (other, same, given, path, ready, drain, again, log, form, status, port, also) =
@@ -277,7 +278,7 @@ pub status_is : (found : Option (Text × List Row)) (command : Words) (rows : Li
     → IsPortIn rows n → IsFound found command → IsStatusBy word (first_of (codes "status") rows) n command
 status_is found (Sheet (Share sheet svg)) rows word n named first states (other, same, given, flag) = absurd (different _ _ _ _ _ refl named same)
 status_is found (Sheet (Check sheet grants)) rows word n named first states (other, same, given, also) = absurd (different _ _ _ _ _ refl named same)
-status_is found (CheckConfig config json) rows word n named first states (other, same, given, flag) = absurd (different _ _ _ _ _ refl named same)
+status_is found (CheckConfig config json against) rows word n named first states (other, same, given, flag, also) = absurd (different _ _ _ _ _ refl named same)
 status_is found (Migrate config) rows word n named first states (other, same, given) = absurd (different _ _ _ _ _ refl named same)
 status_is found (Script config) rows word n named first states (other, same, given) = absurd (different _ _ _ _ _ refl named same)
 status_is found (Serve config files patience) rows word n named first states (other, same, given, path, ready, drain, again, log, form, status, port, also) =
@@ -290,7 +291,7 @@ pub plan_is : (found : Option (Text × List Row)) (command : Words) (rows : List
     → first_of (codes "TRANSFERS") rows ≡ Some stated → IsFound found command → IsPlanWords word stated (is_flagged (codes "json") rows) command
 plan_is found (Sheet (Share sheet svg)) rows word stated named first second (other, same, given, flag) = absurd (different _ _ _ _ _ refl named same)
 plan_is found (Sheet (Check sheet grants)) rows word stated named first second (other, same, given, also) = absurd (different _ _ _ _ _ refl named same)
-plan_is found (CheckConfig config json) rows word stated named first second (other, same, given, flag) = absurd (different _ _ _ _ _ refl named same)
+plan_is found (CheckConfig config json against) rows word stated named first second (other, same, given, flag, also) = absurd (different _ _ _ _ _ refl named same)
 plan_is found (Migrate config) rows word stated named first second (other, same, given) = absurd (different _ _ _ _ _ refl named same)
 plan_is found (Script config) rows word stated named first second (other, same, given) = absurd (different _ _ _ _ _ refl named same)
 plan_is found (Serve config files patience) rows word stated named first second (other, same, given, path, ready, drain, again, log, form, status, port, also) = absurd (different _ _ _ _ _ refl named same)
@@ -303,7 +304,7 @@ pub top_is : (found : Option (Text × List Row)) (command : Words) (rows : List 
     → AreLinesIn rows n → IsFound found command → IsTop word (is_flagged (codes "once") rows) n command
 top_is found (Sheet (Share sheet svg)) rows word n named first states (other, same, given, flag) = absurd (different _ _ _ _ _ refl named same)
 top_is found (Sheet (Check sheet grants)) rows word n named first states (other, same, given, also) = absurd (different _ _ _ _ _ refl named same)
-top_is found (CheckConfig config json) rows word n named first states (other, same, given, flag) = absurd (different _ _ _ _ _ refl named same)
+top_is found (CheckConfig config json against) rows word n named first states (other, same, given, flag, also) = absurd (different _ _ _ _ _ refl named same)
 top_is found (Migrate config) rows word n named first states (other, same, given) = absurd (different _ _ _ _ _ refl named same)
 top_is found (Script config) rows word n named first states (other, same, given) = absurd (different _ _ _ _ _ refl named same)
 top_is found (Serve config files patience) rows word n named first states (other, same, given, path, ready, drain, again, log, form, status, port, also) = absurd (different _ _ _ _ _ refl named same)

@@ -159,6 +159,11 @@ check_config_unflagged : (b : ℕ) (bs : List ℕ) → (b == 45) ≡ false
 unfolding clap_on_literals
 check_config_unflagged b bs ne = simp ne refl
 
+check_config_alone : (b : ℕ) (bs : List ℕ) → (b == 45) ≡ false
+    → first_of (codes "against") (rows_in (subcommand_of ftpd (codes "check-config" ∷ (b ∷ bs) ∷ []))) ≡ None
+unfolding clap_on_literals
+check_config_alone b bs ne = simp ne refl
+
 -- what the parser makes of the words of `check-config`
 pub record ChecksConfig (word : List ℕ) : Type 0 where
   pub rows : List Row
@@ -166,12 +171,13 @@ pub record ChecksConfig (word : List ℕ) : Type 0 where
   pub entered : subcommand_of ftpd (codes "check-config" ∷ word ∷ []) ≡ Some (codes "check-config", rows)
   pub config : first_of (codes "CONFIG") rows ≡ Some word
   pub unflagged : is_flagged (codes "json") rows ≡ false
+  pub alone : first_of (codes "against") rows ≡ None
 
 pub checks_config : (word : List ℕ) → IsPlainWord word → ChecksConfig word
 checks_config [] plain = absurd plain
 checks_config (b ∷ bs) plain =
     let ne = ne_eqb _ _ plain in
-    record { rows = _; taken = check_config_taken b bs ne; entered = check_config_entered b bs ne; config = check_config_first b bs ne; unflagged = check_config_unflagged b bs ne }
+    record { rows = _; taken = check_config_taken b bs ne; entered = check_config_entered b bs ne; config = check_config_first b bs ne; unflagged = check_config_unflagged b bs ne; alone = check_config_alone b bs ne }
 
 -- the words of `check-config` that ask for JSON
 abbrev pub report_words : Text → List Text
@@ -196,6 +202,11 @@ report_flagged : (b : ℕ) (bs : List ℕ) → (b == 45) ≡ false
 unfolding clap_on_literals
 report_flagged b bs ne = simp ne refl
 
+report_alone : (b : ℕ) (bs : List ℕ) → (b == 45) ≡ false
+    → first_of (codes "against") (rows_in (subcommand_of ftpd (report_words (b ∷ bs)))) ≡ None
+unfolding clap_on_literals
+report_alone b bs ne = simp ne refl
+
 -- what the parser makes of those words
 pub record ReportsJson (word : List ℕ) : Type 0 where
   pub rows : List Row
@@ -203,12 +214,13 @@ pub record ReportsJson (word : List ℕ) : Type 0 where
   pub entered : subcommand_of ftpd (report_words word) ≡ Some (codes "check-config", rows)
   pub config : first_of (codes "CONFIG") rows ≡ Some word
   pub flagged : is_flagged (codes "json") rows ≡ true
+  pub alone : first_of (codes "against") rows ≡ None
 
 pub reports_json : (word : List ℕ) → IsPlainWord word → ReportsJson word
 reports_json [] plain = absurd plain
 reports_json (b ∷ bs) plain =
     let ne = ne_eqb _ _ plain in
-    record { rows = _; taken = report_taken b bs ne; entered = report_entered b bs ne; config = report_first b bs ne; flagged = report_flagged b bs ne }
+    record { rows = _; taken = report_taken b bs ne; entered = report_entered b bs ne; config = report_first b bs ne; flagged = report_flagged b bs ne; alone = report_alone b bs ne }
 
 migrate_taken : (b : ℕ) (bs : List ℕ) → (b == 45) ≡ false → takes ftpd (codes "migrate" ∷ (b ∷ bs) ∷ []) ≡ true
 unfolding clap_on_literals

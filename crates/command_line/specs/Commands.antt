@@ -31,11 +31,15 @@ check =
     with_rule (with_rule (bare (codes "check")) (file_rule (codes "SHEET")))
     (file_rule (codes "GRANTS"))
 
--- `check-config CONFIG [--json]`
+-- `check-config CONFIG [--json] [--against PATH]`
 abbrev pub check_config : App
 check_config =
-    with_rule (with_rule (bare (codes "check-config")) (file_rule (codes "CONFIG")))
-    (flag_rule (codes "json"))
+    with_rule
+    (with_rule
+    (with_rule
+    (bare
+    (codes "check-config")) (file_rule (codes "CONFIG"))) (flag_rule (codes "json")))
+    (value_rule (codes "against"))
 
 -- `migrate CONFIG`
 abbrev pub migrate : App

@@ -36,27 +36,38 @@ IsCheck first second (Check sheet grants) = (sheet.now ≡ first) × (grants.now
 -- a command on a sheet with that property
 abbrev pub IsOfSheets : (SheetWords → Type 0) → Words → Type 0
 IsOfSheets P (Sheet words) = P words
-IsOfSheets P (CheckConfig config json) = ⊥
+IsOfSheets P (CheckConfig config json against) = ⊥
 IsOfSheets P (Migrate config) = ⊥
 IsOfSheets P (Script config) = ⊥
 IsOfSheets P (Serve config files patience) = ⊥
 IsOfSheets P (Plan config transfers json) = ⊥
 IsOfSheets P (Top status once rows) = ⊥
 
--- the command `check-config` of that configuration, as JSON or not
-abbrev pub IsCheckConfig : List ℕ → Bool → Words → Type 0
-IsCheckConfig word as_json (Sheet words) = ⊥
-IsCheckConfig word as_json (CheckConfig config json) = (config.now ≡ word) × (json ≡ as_json)
-IsCheckConfig word as_json (Migrate config) = ⊥
-IsCheckConfig word as_json (Script config) = ⊥
-IsCheckConfig word as_json (Serve config files patience) = ⊥
-IsCheckConfig word as_json (Plan config transfers json) = ⊥
-IsCheckConfig word as_json (Top status once rows) = ⊥
+-- the command `check-config` of that configuration, as JSON or not, against that other one, if any
+abbrev pub IsCheckConfig : List ℕ → Bool → Option (List ℕ) → Words → Type 0
+IsCheckConfig word as_json other (Sheet words) = ⊥
+IsCheckConfig word as_json other (CheckConfig config json against) =
+    (config.now ≡ word) × (json ≡ as_json) × (option_map (λ w. w.now) against ≡ other)
+IsCheckConfig word as_json other (Migrate config) = ⊥
+IsCheckConfig word as_json other (Script config) = ⊥
+IsCheckConfig word as_json other (Serve config files patience) = ⊥
+IsCheckConfig word as_json other (Plan config transfers json) = ⊥
+IsCheckConfig word as_json other (Top status once rows) = ⊥
+
+-- the words of `check-config` with another configuration
+abbrev pub against_words : List ℕ → List ℕ → List Text
+against_words config other =
+    codes "check-config" ∷ config ∷ codes "--against" ∷ other ∷ []
+
+-- the same that ask for JSON
+abbrev pub against_json_words : List ℕ → List ℕ → List Text
+against_json_words config other =
+    codes "check-config" ∷ config ∷ codes "--json" ∷ codes "--against" ∷ other ∷ []
 
 -- the command `migrate` of that configuration
 abbrev pub IsMigrate : List ℕ → Words → Type 0
 IsMigrate word (Sheet words) = ⊥
-IsMigrate word (CheckConfig config json) = ⊥
+IsMigrate word (CheckConfig config json against) = ⊥
 IsMigrate word (Migrate config) = config.now ≡ word
 IsMigrate word (Script config) = ⊥
 IsMigrate word (Serve config files patience) = ⊥
@@ -66,7 +77,7 @@ IsMigrate word (Top status once rows) = ⊥
 -- the command `script` of that configuration
 abbrev pub IsScript : List ℕ → Words → Type 0
 IsScript word (Sheet words) = ⊥
-IsScript word (CheckConfig config json) = ⊥
+IsScript word (CheckConfig config json against) = ⊥
 IsScript word (Migrate config) = ⊥
 IsScript word (Script config) = config.now ≡ word
 IsScript word (Serve config files patience) = ⊥
@@ -77,7 +88,7 @@ IsScript word (Top status once rows) = ⊥
 -- that patience
 abbrev pub IsServe : List ℕ → Option (List ℕ) → Option (List ℕ) → Patience → Words → Type 0
 IsServe word stop ready p (Sheet words) = ⊥
-IsServe word stop ready p (CheckConfig config json) = ⊥
+IsServe word stop ready p (CheckConfig config json against) = ⊥
 IsServe word stop ready p (Migrate config) = ⊥
 IsServe word stop ready p (Script config) = ⊥
 IsServe word stop ready p (Serve config files patience) =
@@ -89,7 +100,7 @@ IsServe word stop ready p (Top status once rows) = ⊥
 -- the command `serve` of that configuration, with that transfer log and that form of notes, if any
 abbrev pub IsLoggedBy : List ℕ → Option (List ℕ) → Option (List ℕ) → Words → Type 0
 IsLoggedBy word path form (Sheet words) = ⊥
-IsLoggedBy word path form (CheckConfig config json) = ⊥
+IsLoggedBy word path form (CheckConfig config json against) = ⊥
 IsLoggedBy word path form (Migrate config) = ⊥
 IsLoggedBy word path form (Script config) = ⊥
 IsLoggedBy word path form (Serve config files patience) =
@@ -104,7 +115,7 @@ IsLogged word path form words = IsLoggedBy word (Some path) (Some form) words
 -- the command `serve` of that configuration, with that status file and that port, if any
 abbrev pub IsStatusBy : List ℕ → Option (List ℕ) → Option ℕ → Words → Type 0
 IsStatusBy word path port (Sheet words) = ⊥
-IsStatusBy word path port (CheckConfig config json) = ⊥
+IsStatusBy word path port (CheckConfig config json against) = ⊥
 IsStatusBy word path port (Migrate config) = ⊥
 IsStatusBy word path port (Script config) = ⊥
 IsStatusBy word path port (Serve config files patience) =
@@ -131,7 +142,7 @@ ready_words config stop ready =
 -- the command `plan` of that configuration and those transfers, as JSON or not
 abbrev pub IsPlanWords : List ℕ → List ℕ → Bool → Words → Type 0
 IsPlanWords word stated as_json (Sheet words) = ⊥
-IsPlanWords word stated as_json (CheckConfig config json) = ⊥
+IsPlanWords word stated as_json (CheckConfig config json against) = ⊥
 IsPlanWords word stated as_json (Migrate config) = ⊥
 IsPlanWords word stated as_json (Script config) = ⊥
 IsPlanWords word stated as_json (Serve config files patience) = ⊥
@@ -142,7 +153,7 @@ IsPlanWords word stated as_json (Top status once rows) = ⊥
 -- the command `top` of that status file, once or again and again, with that number of lines
 abbrev pub IsTop : List ℕ → Bool → ℕ → Words → Type 0
 IsTop word only_once lines (Sheet words) = ⊥
-IsTop word only_once lines (CheckConfig config json) = ⊥
+IsTop word only_once lines (CheckConfig config json against) = ⊥
 IsTop word only_once lines (Migrate config) = ⊥
 IsTop word only_once lines (Script config) = ⊥
 IsTop word only_once lines (Serve config files patience) = ⊥
@@ -181,10 +192,11 @@ IsSheetFound found (Check sheet grants) =
 -- the parser found the command, and the words after it
 abbrev pub IsFound : Option (Text × List Row) → Words → Type 0
 IsFound found (Sheet words) = IsSheetFound found words
-IsFound found (CheckConfig config json) =
+IsFound found (CheckConfig config json against) =
     (rows : List Row) × (found ≡ Some (codes "check-config", rows))
     × (first_of (codes "CONFIG") rows ≡ Some config.now)
     × (json ≡ is_flagged (codes "json") rows)
+    × (first_of (codes "against") rows ≡ option_map (λ w. w.now) against)
 IsFound found (Migrate config) =
     (rows : List Row) × (found ≡ Some (codes "migrate", rows))
     × (first_of (codes "CONFIG") rows ≡ Some config.now)

@@ -49,7 +49,7 @@ const ABOUT_CHECK: &str =
     "SHEET is read whole, and then GRANTS. `yes` goes to standard output, or `no` with the number, the name and the\nfields of the first flaw.\n\nExample: sheets check lunch.sheet lunch.grants\n\nStatus: 0 done, or yes; 1 a fault; 2 refused words; 3 no";
 
 const ABOUT_CHECK_CONFIG: &str =
-    "CONFIG is read whole. What it states goes to standard output, in tables, with a warning of what is of no use. Of a\nfolder, its homes and the file CONFIG the machine is asked: whether they are there, and who may read them.\n\nExample: ftpd check-config office.toml\n\nStatus: 0 done, or yes; 1 a fault; 2 refused words; 3 no";
+    "CONFIG is read whole. What it states goes to standard output, in tables, with a warning of what is of no use. Of a\nfolder, its homes and the file CONFIG the machine is asked: whether they are there, and who may read them.\n\nExamples: ftpd check-config office.toml\n          ftpd check-config new.toml --against office.toml\n\nStatus: 0 done, or yes; 1 a fault; 2 refused words; 3 no";
 
 const ABOUT_MIGRATE: &str =
     "CONFIG is read whole. Its text in the latest version goes to standard output; comments are lost.\n\nExample: ftpd migrate office.toml > office2.toml\n\nStatus: 0 done, or yes; 1 a fault; 2 refused words; 3 no";
@@ -133,6 +133,8 @@ fn check_config_command<'a>(alloc: Global) -> Result<Command<'a>, AllocError>
 {
     let about = "Judge a configuration: print its users, groups, rates and guarantees, and warn";
     let json = "Print the report as JSON, for programs";
+    let against =
+        "File of the configuration that a server has: print what it would change by a reload of CONFIG, if it can";
     let command = config_command(
         alloc,
         "check-config",
@@ -140,7 +142,8 @@ fn check_config_command<'a>(alloc: Global) -> Result<Command<'a>, AllocError>
         ABOUT_CHECK_CONFIG,
         CONFIG_FILE,
     )?;
-    with_flag(alloc, command, "json", json)
+    let command = with_flag(alloc, command, "json", json)?;
+    with_value(alloc, command, "against", "PATH", against)
 }
 
 fn migrate_command<'a>(alloc: Global) -> Result<Command<'a>, AllocError>

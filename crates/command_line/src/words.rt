@@ -3,7 +3,7 @@
 ghost use Rattle.std.specs.Prelude.{◌≡◌, ◌↔◌, ◌∷◌, [], ℕ, List, None, Some, IfOk, IfErr, IfSome, IsTrue, map, codes, false, option_map, true};
 ghost use Rattle.clap.specs.Words.{app_of, fault_of, first_of, found_of, is_simple, is_simple_and_free, kind_of, rows_of, subcommand_of, subcommand_rows_of, takes};
 ghost use Rattle.command_line.specs.Commands.{ftpd, sheets};
-ghost use Rattle.command_line.specs.Given.{GivesOneOrMemory, GivesOrMemory, IsCheck, IsCheckConfig, IsFound, IsHelp, IsLogged, IsMigrate, IsOfSheets, IsPlainWord, IsPlanWords, IsRefusal, IsRefusedAs, IsScript, IsServe, IsSheetFound, IsShare, IsRefusedFor, IsStatusBy, IsTaken, IsTop, entered_rows, is_flagged, logged_words, ready_words, status_words, top_words};
+ghost use Rattle.command_line.specs.Given.{GivesOneOrMemory, GivesOrMemory, IsCheck, IsCheckConfig, IsFound, IsHelp, IsLogged, IsMigrate, IsOfSheets, IsPlainWord, IsPlanWords, IsRefusal, IsRefusedAs, IsScript, IsServe, IsSheetFound, IsShare, IsRefusedFor, IsStatusBy, IsTaken, IsTop, against_json_words, against_words, entered_rows, is_flagged, logged_words, ready_words, status_words, top_words};
 ghost use Rattle.command_line.specs.Numbers.{AreLines, IsPortText};
 ghost use Rattle.command_line.specs.Stated.{IsStatedBy};
 ghost use Rattle.command_line.specs.declared.numbers.TheConstants.{ROWS};
@@ -51,10 +51,12 @@ pub struct ServeFiles<'a> {
 pub enum Words<'a> {
     /// A command on a sheet.
     Sheet(SheetWords<'a>),
-    /// Check the configuration at this path, and print its report, as JSON or in lines.
+    /// Check the configuration at this path, and print its report; or what a reload of it would change for a server
+    /// with the configuration of another path, if one is given. As JSON or in lines.
     CheckConfig {
         config: &'a str,
         json: bool,
+        against: Option<&'a str>,
     },
     /// Print the configuration at this path in its latest version.
     Migrate {
@@ -184,6 +186,7 @@ fn given<'a>(name: &str, inner: &ArgMatches<'a>, numbers: Numbers) -> Option<Wor
         "check-config" => Some(Words::CheckConfig {
             config: word_of(inner, "CONFIG")?,
             json: has_flag(inner, "json"),
+            against: word_of(inner, "against"),
         }),
         "migrate" => Some(Words::Migrate {
             config: word_of(inner, "CONFIG")?,
@@ -306,10 +309,16 @@ pub fn read_words<'a>(alloc: Global, words: &'a [&'a str]) -> Result<Words<'a>, 
         → GivesOrMemory (IsOfSheets (IsCheck first second)) result }
     ensures check_config { (word : List ℕ) → IsPlainWord word
         → map (λ s. s.now) words.now ≡ codes "check-config" ∷ word ∷ []
-        → GivesOrMemory (IsCheckConfig word false) result }
+        → GivesOrMemory (IsCheckConfig word false None) result }
     ensures check_config_json { (word : List ℕ) → IsPlainWord word
         → map (λ s. s.now) words.now ≡ codes "check-config" ∷ word ∷ codes "--json" ∷ []
-        → GivesOrMemory (IsCheckConfig word true) result }
+        → GivesOrMemory (IsCheckConfig word true None) result }
+    ensures check_against { (word other : List ℕ) → IsPlainWord word → IsPlainWord other
+        → map (λ s. s.now) words.now ≡ against_words word other
+        → GivesOrMemory (IsCheckConfig word false (Some other)) result }
+    ensures check_against_json { (word other : List ℕ) → IsPlainWord word → IsPlainWord other
+        → map (λ s. s.now) words.now ≡ against_json_words word other
+        → GivesOrMemory (IsCheckConfig word true (Some other)) result }
     ensures migrate { (word : List ℕ) → IsPlainWord word
         → map (λ s. s.now) words.now ≡ codes "migrate" ∷ word ∷ []
         → GivesOrMemory (IsMigrate word) result }

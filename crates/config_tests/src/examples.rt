@@ -1,6 +1,7 @@
 //! The examples in the heads of these crates. `tools/examples` compares their lines.
 
 use crate::expect::holds;
+use change_report::{ChangeFault, reload_report};
 use config_file::{Fault, KeyFault, TableName, read_tables, rows_of};
 use config_report::{Lookout, Sight, is_nearly_memory, report, report_json, warning_texts};
 use server_config::{Config, ConfigFault, migrate};
@@ -69,6 +70,16 @@ const ORDERLY: Shown = Shown {
     has_homes: true,
     mode: Some(0o100_640),
 };
+
+fn change_report(rt: &(impl Abort + AllocGlobal)) -> Result<(), ChangeFault> {
+    let report = reload_report(rt.alloc(), false, SMALL.as_bytes(), SMALL.as_bytes())?; // a file against itself
+    holds(
+        rt,
+        report.text.as_str() == "a reload would change nothing\n",
+    );
+    holds(rt, !report.is_refused);
+    Ok(())
+}
 
 fn config_report(rt: &(impl Abort + AllocGlobal)) -> Result<(), ConfigFault> {
     let machine = ORDERLY;
@@ -166,4 +177,5 @@ fn examples(rt: HostRuntime) {
     texts_of_warnings(&rt);
     server_config(&rt).expect(&rt, "a configuration");
     config_report(&rt).expect(&rt, "a report");
+    change_report(&rt).expect(&rt, "a report on a change");
 }

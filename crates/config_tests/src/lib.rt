@@ -3,6 +3,8 @@
 #![tactic(auto)]
 
 #[cfg(test)]
+mod against;
+#[cfg(test)]
 mod changes;
 #[cfg(test)]
 mod configs;

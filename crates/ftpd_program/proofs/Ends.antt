@@ -1,5 +1,5 @@
 -- The ends of commands, for the words that name them.
-use Rattle.std.proofs.Common.{◌≡◌, ℕ, Bool, false, true, List, Option, option_map, refl, subst, sym}
+use Rattle.std.proofs.Common.{◌≡◌, ℕ, Bool, false, true, List, Option, None, Some, option_map, refl, subst, sym}
 use Rattle.command_line.specs.Given.{IsCheck, IsCheckConfig, IsMigrate, IsOfSheets, IsPlanWords, IsScript, IsServe, IsShare, IsTop}
 use Rattle.client_patience.specs.declared.patience.Patience.{Patience}
 use Rattle.command_line.specs.declared.words.SheetWords.TheVariants.{Share, Check}
@@ -10,12 +10,13 @@ use Rattle.config_report.specs.Looks.{Shown}
 use Rattle.sheets_program.specs.Runs.{IsCheckEnd, IsShareEnd, Octets}
 use Rattle.sheets_program.specs.declared.ending.Exit.TheVariants.{Done, Flawed, Refused, Text, Share as Unshared, Check as Unchecked}
 use Rattle.std.specs.Borrow.{Bor}
+use Rattle.ftpd_program.specs.Against.{IsAgainstEnd}
 use Rattle.ftpd_program.specs.Endings.{IsCommon, IsUnwritten}
 use Rattle.ftpd_program.specs.Runs.{IsCommandEnd, IsPlanEnd, IsPrintEnd, IsReportEnd, IsScriptEnd, IsTopEnd, after_table, plan_print, report_print}
 use Rattle.ftpd_program.specs.Scripting.{IsUnscripted}
 use Rattle.ftpd_program.specs.Serving.{IsServeEnd, Service}
 use Rattle.ftpd_program.specs.declared.ending.FtpdExit.{FtpdExit}
-use Rattle.ftpd_program.specs.declared.ending.FtpdExit.TheVariants.{Common, Config, Transfers, Session, Server, Status, Watches}
+use Rattle.ftpd_program.specs.declared.ending.FtpdExit.TheVariants.{Common, Config, ConfigOf, NoReload, Transfers, Session, Server, Status, Watches}
 use Rattle.ftpd_program.specs.declared.printing.Print.TheVariants.{Latest, Table}
 use Rattle.ftpd_program.specs.declared.scripting.ScriptFault.{ScriptFault}
 use Rattle.ftpd_program.specs.declared.scripting.ScriptFault.TheVariants.{Session as Unserved}
@@ -26,13 +27,15 @@ share_end gives shown serves Refuses (Sheet (Share path svg)) sheet as_svg old n
     let first = subst (λ (p : List ℕ). IsShareEnd gives svg p old new ending) is.0 end in
     subst (λ (b : Bool). IsShareEnd gives b sheet old new ending) is.1 first
 share_end gives shown serves Refuses (Sheet (Share path svg)) sheet as_svg old new (Config fault) is end = absurd end
+share_end gives shown serves Refuses (Sheet (Share path svg)) sheet as_svg old new (ConfigOf file fault) is end = absurd end
+share_end gives shown serves Refuses (Sheet (Share path svg)) sheet as_svg old new NoReload is end = absurd end
 share_end gives shown serves Refuses (Sheet (Share path svg)) sheet as_svg old new (Transfers name told) is end = absurd end
 share_end gives shown serves Refuses (Sheet (Share path svg)) sheet as_svg old new (Session fault) is end = absurd end
 share_end gives shown serves Refuses (Sheet (Share path svg)) sheet as_svg old new (Server fault) is end = absurd end
 share_end gives shown serves Refuses (Sheet (Share path svg)) sheet as_svg old new (Status file fault) is end = absurd end
 share_end gives shown serves Refuses (Sheet (Share path svg)) sheet as_svg old new (Watches status rows) is end = absurd end
 share_end gives shown serves Refuses (Sheet (Check path other)) sheet as_svg old new ending is end = absurd is
-share_end gives shown serves Refuses (CheckConfig path json) sheet as_svg old new ending is end = absurd is
+share_end gives shown serves Refuses (CheckConfig path json against) sheet as_svg old new ending is end = absurd is
 share_end gives shown serves Refuses (Migrate path) sheet as_svg old new ending is end = absurd is
 share_end gives shown serves Refuses (Script path) sheet as_svg old new ending is end = absurd is
 share_end gives shown serves Refuses (Serve path files patience) sheet as_svg old new ending is end = absurd is
@@ -45,13 +48,15 @@ check_end gives shown serves Refuses (Sheet (Check path other)) sheet grants old
     let first = subst (λ (p : List ℕ). IsCheckEnd gives p other.now old new ending) is.0 end in
     subst (λ (p : List ℕ). IsCheckEnd gives sheet p old new ending) is.1 first
 check_end gives shown serves Refuses (Sheet (Check path other)) sheet grants old new (Config fault) is end = absurd end
+check_end gives shown serves Refuses (Sheet (Check path other)) sheet grants old new (ConfigOf file fault) is end = absurd end
+check_end gives shown serves Refuses (Sheet (Check path other)) sheet grants old new NoReload is end = absurd end
 check_end gives shown serves Refuses (Sheet (Check path other)) sheet grants old new (Transfers name told) is end = absurd end
 check_end gives shown serves Refuses (Sheet (Check path other)) sheet grants old new (Session fault) is end = absurd end
 check_end gives shown serves Refuses (Sheet (Check path other)) sheet grants old new (Server fault) is end = absurd end
 check_end gives shown serves Refuses (Sheet (Check path other)) sheet grants old new (Status file fault) is end = absurd end
 check_end gives shown serves Refuses (Sheet (Check path other)) sheet grants old new (Watches status rows) is end = absurd end
 check_end gives shown serves Refuses (Sheet (Share path svg)) sheet grants old new ending is end = absurd is
-check_end gives shown serves Refuses (CheckConfig path json) sheet grants old new ending is end = absurd is
+check_end gives shown serves Refuses (CheckConfig path json against) sheet grants old new ending is end = absurd is
 check_end gives shown serves Refuses (Migrate path) sheet grants old new ending is end = absurd is
 check_end gives shown serves Refuses (Script path) sheet grants old new ending is end = absurd is
 check_end gives shown serves Refuses (Serve path files patience) sheet grants old new ending is end = absurd is
@@ -59,10 +64,13 @@ check_end gives shown serves Refuses (Plan path stated json) sheet grants old ne
 check_end gives shown serves Refuses (Top status once rows) sheet grants old new ending is end = absurd is
 
 pub report_end : (gives : List ℕ → Octets) (shown : Shown) (serves : Service) (Refuses : List ℕ → Type 0) (words : Words) (config : List ℕ) (as_json : Bool) (old new : Option (List ℕ)) (ending : FtpdExit)
-    → IsCheckConfig config as_json words → IsCommandEnd gives shown serves Refuses words old new ending → IsReportEnd as_json shown (gives config) config Refuses old new ending
-report_end gives shown serves Refuses (CheckConfig path json) config as_json old new ending is end =
+    → IsCheckConfig config as_json None words → IsCommandEnd gives shown serves Refuses words old new ending → IsReportEnd as_json shown (gives config) config Refuses old new ending
+report_end gives shown serves Refuses (CheckConfig path json None) config as_json old new ending is end =
     let first = subst (λ (p : List ℕ). IsPrintEnd (report_print json path) shown (gives p) Refuses old new ending) is.0 end in
     (path, is.0, subst (λ (b : Bool). IsPrintEnd (report_print b path) shown (gives config) Refuses old new ending) is.1 first)
+report_end gives shown serves Refuses (CheckConfig path json (Some other)) config as_json old new ending is end =
+    let alone = is.2 in
+    absurd (cc)
 report_end gives shown serves Refuses (Sheet words) config as_json old new ending is end = absurd is
 report_end gives shown serves Refuses (Migrate path) config as_json old new ending is end = absurd is
 report_end gives shown serves Refuses (Script path) config as_json old new ending is end = absurd is
@@ -70,11 +78,29 @@ report_end gives shown serves Refuses (Serve path files patience) config as_json
 report_end gives shown serves Refuses (Plan path stated json) config as_json old new ending is end = absurd is
 report_end gives shown serves Refuses (Top status once rows) config as_json old new ending is end = absurd is
 
+pub against_end : (gives : List ℕ → Octets) (shown : Shown) (serves : Service) (Refuses : List ℕ → Type 0) (words : Words) (config other : List ℕ) (as_json : Bool) (old new : Option (List ℕ)) (ending : FtpdExit)
+    → IsCheckConfig config as_json (Some other) words → IsCommandEnd gives shown serves Refuses words old new ending → IsAgainstEnd as_json gives config other Refuses old new ending
+against_end gives shown serves Refuses (CheckConfig path json (Some word)) config other as_json old new ending is end =
+    let with_other = is.2 in
+    let same : word.now ≡ other = cc in
+    let first = subst (λ (p : List ℕ). IsAgainstEnd json gives p word.now Refuses old new ending) is.0 end in
+    let second = subst (λ (p : List ℕ). IsAgainstEnd json gives config p Refuses old new ending) same first in
+    subst (λ (b : Bool). IsAgainstEnd b gives config other Refuses old new ending) is.1 second
+against_end gives shown serves Refuses (CheckConfig path json None) config other as_json old new ending is end =
+    let with_other = is.2 in
+    absurd (cc)
+against_end gives shown serves Refuses (Sheet words) config other as_json old new ending is end = absurd is
+against_end gives shown serves Refuses (Migrate path) config other as_json old new ending is end = absurd is
+against_end gives shown serves Refuses (Script path) config other as_json old new ending is end = absurd is
+against_end gives shown serves Refuses (Serve path files patience) config other as_json old new ending is end = absurd is
+against_end gives shown serves Refuses (Plan path stated json) config other as_json old new ending is end = absurd is
+against_end gives shown serves Refuses (Top status once rows) config other as_json old new ending is end = absurd is
+
 pub migrate_end : (gives : List ℕ → Octets) (shown : Shown) (serves : Service) (Refuses : List ℕ → Type 0) (words : Words) (config : List ℕ) (old new : Option (List ℕ)) (ending : FtpdExit)
     → IsMigrate config words → IsCommandEnd gives shown serves Refuses words old new ending → IsPrintEnd Latest shown (gives config) Refuses old new ending
 migrate_end gives shown serves Refuses (Migrate path) config old new ending is end = subst (λ (p : List ℕ). IsPrintEnd Latest shown (gives p) Refuses old new ending) is end
 migrate_end gives shown serves Refuses (Sheet words) config old new ending is end = absurd is
-migrate_end gives shown serves Refuses (CheckConfig path json) config old new ending is end = absurd is
+migrate_end gives shown serves Refuses (CheckConfig path json against) config old new ending is end = absurd is
 migrate_end gives shown serves Refuses (Script path) config old new ending is end = absurd is
 migrate_end gives shown serves Refuses (Serve path files patience) config old new ending is end = absurd is
 migrate_end gives shown serves Refuses (Plan path stated json) config old new ending is end = absurd is
@@ -84,7 +110,7 @@ pub script_end : (gives : List ℕ → Octets) (shown : Shown) (serves : Service
     → IsScript config words → IsCommandEnd gives shown serves Refuses words old new ending → IsScriptEnd gives config old new ending
 script_end gives shown serves Refuses (Script path) config old new ending is end = subst (λ (p : List ℕ). IsScriptEnd gives p old new ending) is end
 script_end gives shown serves Refuses (Sheet words) config old new ending is end = absurd is
-script_end gives shown serves Refuses (CheckConfig path json) config old new ending is end = absurd is
+script_end gives shown serves Refuses (CheckConfig path json against) config old new ending is end = absurd is
 script_end gives shown serves Refuses (Migrate path) config old new ending is end = absurd is
 script_end gives shown serves Refuses (Serve path files patience) config old new ending is end = absurd is
 script_end gives shown serves Refuses (Plan path stated json) config old new ending is end = absurd is
@@ -100,7 +126,7 @@ serve_end gives shown serves Refuses (Serve word files patience) config path rea
     let third = subst (λ (f : Option (List ℕ)). IsServeEnd (gives config) shown config serves path f patience old new ending) is.2 second in
     subst (λ (q : Patience). IsServeEnd (gives config) shown config serves path ready q old new ending) is.3 third
 serve_end gives shown serves Refuses (Sheet words) config path ready p old new ending is end = absurd is
-serve_end gives shown serves Refuses (CheckConfig word json) config path ready p old new ending is end = absurd is
+serve_end gives shown serves Refuses (CheckConfig word json against) config path ready p old new ending is end = absurd is
 serve_end gives shown serves Refuses (Migrate word) config path ready p old new ending is end = absurd is
 serve_end gives shown serves Refuses (Script word) config path ready p old new ending is end = absurd is
 serve_end gives shown serves Refuses (Plan word stated json) config path ready p old new ending is end = absurd is
@@ -112,7 +138,7 @@ plan_end gives shown serves Refuses (Plan path stated json) config transfers as_
     let first = subst (λ (p : List ℕ). IsPrintEnd (plan_print json stated) shown (gives p) Refuses old new ending) is.0 end in
     (stated, is.1, subst (λ (b : Bool). IsPrintEnd (plan_print b stated) shown (gives config) Refuses old new ending) is.2 first)
 plan_end gives shown serves Refuses (Sheet words) config transfers as_json old new ending is end = absurd is
-plan_end gives shown serves Refuses (CheckConfig path json) config transfers as_json old new ending is end = absurd is
+plan_end gives shown serves Refuses (CheckConfig path json against) config transfers as_json old new ending is end = absurd is
 plan_end gives shown serves Refuses (Migrate path) config transfers as_json old new ending is end = absurd is
 plan_end gives shown serves Refuses (Script path) config transfers as_json old new ending is end = absurd is
 plan_end gives shown serves Refuses (Serve path files patience) config transfers as_json old new ending is end = absurd is
@@ -125,7 +151,7 @@ top_end gives shown serves Refuses (Top status once rows) path only_once lines o
     let second = subst (λ (b : Bool). IsTopEnd b path rows (IsPrintEnd (Table rows) shown (gives path) Refuses old new) ending) is.1 first in
     subst (λ (n : ℕ). IsTopEnd only_once path n (IsPrintEnd (Table n) shown (gives path) Refuses old new) ending) is.2 second
 top_end gives shown serves Refuses (Sheet words) path only_once lines old new ending is end = absurd is
-top_end gives shown serves Refuses (CheckConfig word json) path only_once lines old new ending is end = absurd is
+top_end gives shown serves Refuses (CheckConfig word json against) path only_once lines old new ending is end = absurd is
 top_end gives shown serves Refuses (Migrate word) path only_once lines old new ending is end = absurd is
 top_end gives shown serves Refuses (Script word) path only_once lines old new ending is end = absurd is
 top_end gives shown serves Refuses (Serve word files patience) path only_once lines old new ending is end = absurd is
@@ -149,6 +175,8 @@ table_end once status rows P ending after never is end = subst (λ (e : FtpdExit
     go b (Common (Unshared why cause)) end = end
     go b (Common (Unchecked why cause)) end = end
     go b (Config fault) end = end
+    go b (ConfigOf file fault) end = end
+    go b NoReload end = end
     go b (Transfers name told) end = end
     go b (Session fault) end = end
     go b (Server fault) end = end
@@ -168,6 +196,8 @@ table_unwritten once status rows ending after is unwritten = go once ending (sub
     go b (Common (Unshared why cause)) end = end
     go b (Common (Unchecked why cause)) end = end
     go b (Config fault) end = end
+    go b (ConfigOf file fault) end = end
+    go b NoReload end = end
     go b (Transfers name told) end = end
     go b (Session fault) end = end
     go b (Server fault) end = end

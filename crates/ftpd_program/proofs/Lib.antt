@@ -6,3 +6,4 @@ pub mod Printed
 pub mod Scripts
 pub mod Serves
 pub mod WholeTexts
+pub mod Changed

@@ -1,5 +1,5 @@
 -- The ends of words that memory ran out for.
-use Rattle.std.proofs.Common.{◌≡◌, ◌∷◌, [], ℕ, Bool, List, Option, map, subst, sym}
+use Rattle.std.proofs.Common.{◌≡◌, ◌∷◌, [], ℕ, Bool, List, Option, inl, inr, map, subst, sym}
 use Rattle.std.specs.Borrow.{Bor}
 use Rattle.client_patience.specs.declared.patience.Patience.{Patience}
 use Rattle.command_line.specs.declared.words.WordsFault.{WordsFault}
@@ -10,6 +10,7 @@ use Rattle.sheets_program.specs.Runs.{Octets}
 use Rattle.sheets_program.specs.declared.ending.Exit.{Exit}
 use Rattle.sheets_program.specs.declared.ending.Exit.TheVariants.{Done, Flawed, Refused, Text, Share, Check}
 use Rattle.text_io.specs.declared.fault.TextFault.{TextFault}
+use Rattle.ftpd_program.specs.Against.{IsAgainstEnd}
 use Rattle.ftpd_program.specs.Faults.{IsPrintingFaultOf, IsReadingFaultOf}
 use Rattle.ftpd_program.specs.Printing.{IsPrintOf}
 use Rattle.ftpd_program.specs.Runs.{IsPrintEnd, IsTopEnd}
@@ -37,6 +38,17 @@ no_print print shown gives Refuses old new NoMemory (Refused text) is end = absu
 no_print print shown gives Refuses old new NoMemory (Share why cause) is end = absurd end
 no_print print shown gives Refuses old new NoMemory (Check why cause) is end = absurd end
 no_print print shown gives Refuses old new (NoCommand text is_help) exit is end = absurd (cc)
+
+pub no_against : (json : Bool) (gives : List ℕ → Octets) (config other : List ℕ) (Refuses : List ℕ → Type 0) (old new : Option (List ℕ)) (fault : WordsFault) (exit : Exit) → fault ≡ NoMemory → IsToldEnd fault old new exit
+    → IsAgainstEnd json gives config other Refuses old new (Common exit)
+no_against json gives config other Refuses old new NoMemory (Text why cause) is end =
+    inr (inl (inl (subst (λ (w : TextFault). IsReadingFaultOf (gives config) w) (sym end) tt, λ apart. absurd (apart end))))
+no_against json gives config other Refuses old new NoMemory Done is end = absurd end
+no_against json gives config other Refuses old new NoMemory Flawed is end = absurd end
+no_against json gives config other Refuses old new NoMemory (Refused text) is end = absurd end
+no_against json gives config other Refuses old new NoMemory (Share why cause) is end = absurd end
+no_against json gives config other Refuses old new NoMemory (Check why cause) is end = absurd end
+no_against json gives config other Refuses old new (NoCommand text is_help) exit is end = absurd (cc)
 
 pub no_top : (once : Bool) (path : List ℕ) (rows : ℕ) (shown : Shown) (gives : Octets) (Refuses : List ℕ → Type 0) (old new : Option (List ℕ)) (fault : WordsFault) (exit : Exit) → fault ≡ NoMemory → IsToldEnd fault old new exit
     → IsTopEnd once path rows (IsPrintEnd (Table rows) shown gives Refuses old new) (Common exit)

@@ -1,15 +1,15 @@
 -- The causes for which a command ends with its fault, and the files that it opens, one after
 -- another. `refused` and `fails` are tests of a path: that its file may be refused, and that
 -- reading it may fail.
-use Rattle.std.specs.Prelude.{◌≡◌, ◌≤◌, ◌+◌, ◌⊎◌, ℕ, List, Option, Some, IfSome, length}
+use Rattle.std.specs.Prelude.{◌≡◌, ◌≢◌, ◌≤◌, ◌+◌, ◌⊎◌, ℕ, List, Option, Some, None, IfSome, length}
 use Rattle.command_line.specs.declared.words.Words.{Words}
 use Rattle.command_line.specs.declared.words.Words.TheVariants.{Sheet, CheckConfig, Migrate, Script, Serve, Plan, Top}
 use Rattle.script_session.specs.Served.{IsSessionBreak, most_reads}
 use Rattle.sheets_program.specs.Causes.{AreOpened, IsSheetWhy}
-use Rattle.sheets_program.specs.Runs.{IsInput, Octets, file_of}
+use Rattle.sheets_program.specs.Runs.{IsInput, IsNamedTwice, Octets, file_of}
 use Rattle.sheets_program.specs.declared.ending.Exit.TheVariants.{Text}
 use Rattle.sheets_program.specs.declared.files.TheConstants.{STANDARD_INPUT}
-use Rattle.text_io.specs.declared.fault.TextFault.TheVariants.{ReadFault, TooLong}
+use Rattle.text_io.specs.declared.fault.TextFault.TheVariants.{ReadFault, TooLong, WriteFault}
 use Rattle.ftpd_program.specs.Endings.{IsCommon}
 use Rattle.ftpd_program.specs.declared.ending.FtpdExit.{FtpdExit}
 use Rattle.ftpd_program.specs.declared.ending.FtpdExit.TheVariants.{Common, Session, Status}
@@ -57,13 +57,36 @@ AreScriptOpened {O} opens old new refused config ending =
     ⊎ ((opens old config new × refused config × IsWithoutConfig ending)
     ⊎ ((between : O) × opens old config between × opens between STANDARD_INPUT.now new))
 
+-- the cause of a fault of reading one of the files of `check-config` with another configuration
+abbrev pub IsAgainstWhy : (List ℕ → Type 0) → (List ℕ → Type 0) → List ℕ → List ℕ → FtpdExit
+    → Type 0
+IsAgainstWhy refused fails config other ending =
+    IsReadWhy config (refused config ⊎ fails config) ending
+    ⊎ IsReadWhy other (refused other ⊎ fails other) ending
+
+-- `check-config` ends without the text of its first file
+abbrev pub IsWithoutText : FtpdExit → Type 0
+IsWithoutText (Common (Text fault cause)) = fault ≢ WriteFault
+IsWithoutText _ = ⊥
+
+-- it opens no file if standard input is named twice; otherwise the new configuration, and then the
+-- other one, unless the first could not be read
+abbrev pub AreAgainstOpened : {O : Type 0} → (O → List ℕ → O → Type 0) → O → O → List ℕ → List ℕ
+    → FtpdExit → Type 0
+AreAgainstOpened {O} opens old new config other ending =
+    (IsNamedTwice config other × (new ≡ old))
+    ⊎ ((opens old config new × IsWithoutText ending)
+    ⊎ ((between : O) × opens old config between × opens between other new))
+
 -- the cause of the fault with which that command ends, if it ends with one
 abbrev pub IsCommandWhy : (List ℕ → Octets) → (List ℕ → Type 0) → (List ℕ → Type 0)
     → (List ℕ → Type 0) → Type 0 → Words → FtpdExit → Type 0
 IsCommandWhy gives refused fails refuses breaks (Sheet words) ending =
     IsCommon (IsSheetWhy gives refused fails refuses words) ending
-IsCommandWhy gives refused fails refuses breaks (CheckConfig config json) ending =
+IsCommandWhy gives refused fails refuses breaks (CheckConfig config json None) ending =
     IsReadWhy config.now (refused config.now ⊎ fails config.now) ending
+IsCommandWhy gives refused fails refuses breaks (CheckConfig config json (Some other)) ending =
+    IsAgainstWhy refused fails config.now other.now ending
 IsCommandWhy gives refused fails refuses breaks (Migrate config) ending =
     IsReadWhy config.now (refused config.now ⊎ fails config.now) ending
 IsCommandWhy gives refused fails refuses breaks (Script config) ending =
@@ -80,7 +103,10 @@ abbrev pub AreCommandOpened : {O : Type 0} → (O → List ℕ → O → Type 0)
     → Words → FtpdExit → Type 0
 AreCommandOpened opens old new refused (Sheet words) ending =
     IsCommon (AreOpened opens old new refused words) ending
-AreCommandOpened opens old new refused (CheckConfig config json) ending = opens old config.now new
+AreCommandOpened opens old new refused (CheckConfig config json None) ending =
+    opens old config.now new
+AreCommandOpened opens old new refused (CheckConfig config json (Some other)) ending =
+    AreAgainstOpened opens old new config.now other.now ending
 AreCommandOpened opens old new refused (Migrate config) ending = opens old config.now new
 AreCommandOpened opens old new refused (Script config) ending =
     AreScriptOpened opens old new refused config.now ending

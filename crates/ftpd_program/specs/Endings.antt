@@ -4,11 +4,13 @@ use Rattle.script_session.specs.declared.fault.SessionFault.TheVariants.{Control
 use Rattle.sheets_program.specs.Endings as common
 use Rattle.sheets_program.specs.declared.ending.Exit.{Exit as CommonExit}
 use Rattle.ftpd_program.specs.declared.ending.FtpdExit.{FtpdExit}
-use Rattle.ftpd_program.specs.declared.ending.FtpdExit.TheVariants.{Common, Config, Transfers, Session, Server, Status, Watches}
+use Rattle.ftpd_program.specs.declared.ending.FtpdExit.TheVariants.{Common, Config, ConfigOf, NoReload, Transfers, Session, Server, Status, Watches}
 
 abbrev pub status_of : FtpdExit → ℕ
 status_of (Common ending) = common.status_of ending
 status_of (Config fault) = 1
+status_of (ConfigOf file fault) = 1
+status_of NoReload = 1
 status_of (Transfers name told) = 1
 status_of (Session fault) = 1
 status_of (Server fault) = 1
@@ -21,6 +23,8 @@ status_of (Watches status rows) = 0
 abbrev pub IsUnwritten : FtpdExit → Type 0
 IsUnwritten (Common ending) = common.IsUnwritten ending
 IsUnwritten (Config fault) = Unit {0}
+IsUnwritten (ConfigOf file fault) = Unit {0}
+IsUnwritten NoReload = ⊥
 IsUnwritten (Transfers name told) = Unit {0}
 IsUnwritten (Session Folder) = Unit {0}
 IsUnwritten (Session (Control why)) = ⊥
@@ -32,6 +36,8 @@ IsUnwritten (Watches status rows) = ⊥
 abbrev pub IsCommon : (CommonExit → Type 0) → FtpdExit → Type 0
 IsCommon P (Common ending) = P ending
 IsCommon P (Config fault) = ⊥
+IsCommon P (ConfigOf file fault) = ⊥
+IsCommon P NoReload = ⊥
 IsCommon P (Transfers name told) = ⊥
 IsCommon P (Session fault) = ⊥
 IsCommon P (Server fault) = ⊥

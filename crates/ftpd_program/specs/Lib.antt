@@ -1,3 +1,4 @@
+pub mod Against
 pub mod Causes
 pub mod Endings
 pub mod Faults

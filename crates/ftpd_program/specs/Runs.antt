@@ -2,13 +2,14 @@
 -- the commands on sheets. Old and new are the contents of the output before and after, and Refuses
 -- is the test of the octets that it may refuse.
 use Rattle.std.specs.Borrow.{Bor}
-use Rattle.std.specs.Prelude.{◌≡◌, ℕ, Bool, List, Option, false, if◌then◌else◌, option_map, true}
+use Rattle.std.specs.Prelude.{◌≡◌, ℕ, Bool, List, Option, Some, None, false, if◌then◌else◌, option_map, true}
 use Rattle.command_line.specs.declared.words.Words.{Words}
 use Rattle.command_line.specs.declared.words.Words.TheVariants.{Sheet, CheckConfig, Migrate, Script, Serve, Plan, Top}
 use Rattle.config_report.specs.Looks.{Shown}
 use Rattle.sheets_program.specs.Runs.{IsInput, IsSheetEnd, Octets}
 use Rattle.sheets_program.specs.declared.ending.Exit.TheVariants.{Done, Refused, Text}
 use Rattle.sheets_program.specs.declared.files.TheConstants.{STANDARD_INPUT}
+use Rattle.ftpd_program.specs.Against.{IsAgainstEnd}
 use Rattle.ftpd_program.specs.Endings.{IsCommon}
 use Rattle.ftpd_program.specs.Faults.{IsPrintingFaultOf, IsReadingFaultOf}
 use Rattle.ftpd_program.specs.Printing.{AppendsPrint, IsOfPlan, IsPrintOf, IsUnprintedAt, IsUntabledAt}
@@ -96,8 +97,10 @@ abbrev pub IsCommandEnd : (List ℕ → Octets) → Shown → Service → (List 
     → Option (List ℕ) → Option (List ℕ) → FtpdExit → Type 0
 IsCommandEnd gives shown serves Refuses (Sheet words) old new ending =
     IsCommon (IsSheetEnd gives words old new) ending
-IsCommandEnd gives shown serves Refuses (CheckConfig config json) old new ending =
+IsCommandEnd gives shown serves Refuses (CheckConfig config json None) old new ending =
     IsPrintEnd (report_print json config) shown (gives config.now) Refuses old new ending
+IsCommandEnd gives shown serves Refuses (CheckConfig config json (Some other)) old new ending =
+    IsAgainstEnd json gives config.now other.now Refuses old new ending
 IsCommandEnd gives shown serves Refuses (Migrate config) old new ending =
     IsPrintEnd Latest shown (gives config.now) Refuses old new ending
 IsCommandEnd gives shown serves Refuses (Script config) old new ending =

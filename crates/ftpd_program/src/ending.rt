@@ -22,6 +22,10 @@ pub enum FtpdExit<'w> {
     Common(Common<'w>),
     /// The configuration is refused.
     Config(ConfigFault),
+    /// The configuration of the file of this path is refused, which is one of two.
+    ConfigOf { file: &'w str, fault: ConfigFault },
+    /// A server would not take the configuration while it runs: the report says why.
+    NoReload,
     /// Transfers are refused: the name of the fault, and what is wrong with them.
     Transfers { name: &'static str, told: String },
     /// A folder is configured, but the store has to be in memory; or the control session broke off.
@@ -44,6 +48,8 @@ impl<'w> FtpdExit<'w> {
             FtpdExit::Common(ending) => ending.status(),
             FtpdExit::Watches { .. } => 0,
             FtpdExit::Config(_)
+            | FtpdExit::ConfigOf { .. }
+            | FtpdExit::NoReload
             | FtpdExit::Transfers { .. }
             | FtpdExit::Session(_)
             | FtpdExit::Status { .. }
@@ -77,6 +83,11 @@ impl fmt::Display for FtpdErrorText<'_, '_> {
                 writeln!(f, "{fault}")?;
                 writeln!(f, "{NAME}: {}", fault.name())
             }
+            FtpdExit::ConfigOf { file, fault } => {
+                writeln!(f, "{file}: {fault}")?;
+                writeln!(f, "{NAME}: {}", fault.name())
+            }
+            FtpdExit::NoReload => writeln!(f, "{NAME}: NoReload"),
             FtpdExit::Transfers { name, told } => {
                 writeln!(f, "{told}")?;
                 writeln!(f, "{NAME}: {name}")

@@ -12,6 +12,7 @@
 //! ```
 #![tactic(auto)]
 
+mod against;
 mod ending;
 mod printing;
 mod ready;

@@ -3,7 +3,7 @@
 ghost use Rattle.std.specs.Prelude.{◌≡◌, ◌⊎◌, ◌∷◌, [], ℕ, List, None, Some, codes, false, map, true};
 ghost use Rattle.clap.specs.Words.{subcommand_of};
 ghost use Rattle.command_line.specs.Commands.{ftpd};
-ghost use Rattle.command_line.specs.Given.{IsFound, IsPlainWord, IsRefusedFor, IsTaken, ready_words, top_words};
+ghost use Rattle.command_line.specs.Given.{IsFound, IsPlainWord, IsRefusedFor, IsTaken, against_json_words, against_words, ready_words, top_words};
 ghost use Rattle.command_line.specs.Numbers.{AreLines};
 ghost use Rattle.command_line.specs.declared.numbers.TheConstants.{ROWS};
 ghost use Rattle.command_line.specs.Timed.{IsSeconds, timed_words, usual_patience};
@@ -13,11 +13,13 @@ ghost use Rattle.command_line.specs.declared.words.WordsFault.{WordsFault};
 ghost use Rattle.script_session.specs.Breaks.{MayBreakWriting};
 ghost use Rattle.sheets_program.specs.Endings.{IsOutOfMemory, IsToldEnd};
 ghost use Rattle.sheets_program.specs.Runs.{IsCheckEnd, IsShareEnd};
+ghost use Rattle.ftpd_program.specs.Against.{IsAgainstEnd};
 ghost use Rattle.ftpd_program.specs.Causes.{AreCommandOpened, AreScriptOpened, IsCommandWhy, IsReadWhy, IsScriptWhy};
 ghost use Rattle.ftpd_program.specs.Endings.{IsCommon, IsUnwritten};
 ghost use Rattle.ftpd_program.specs.Runs.{IsCommandEnd, IsPlanEnd, IsPrintEnd, IsReportEnd, IsScriptEnd, IsTopEnd, after_table, plan_print, report_print};
 ghost use Rattle.ftpd_program.specs.Serving.{IsServeEnd};
 
+use super::against::check_against;
 use super::ending::FtpdExit;
 use super::printing::{Print, PrintFault, run_print};
 use super::scripting::{ScriptFault, run_script};
@@ -185,9 +187,16 @@ fn run_command<'w, O: Opener + Lookout, W: TextWriter, V: Server<W>>(
 {
     match words {
         Words::Sheet(words) => FtpdExit::Common(run_sheet_words(alloc, words, files, output)),
-        Words::CheckConfig { config, json } => {
-            print_text(alloc, report_print(config, json), config, files, output)
-        }
+        Words::CheckConfig {
+            config,
+            json,
+            against: None,
+        } => print_text(alloc, report_print(config, json), config, files, output),
+        Words::CheckConfig {
+            config,
+            json,
+            against: Some(other),
+        } => check_against(alloc, json, config, other, files, output),
         Words::Migrate { config } => print_text(alloc, Print::Latest, config, files, output),
         Words::Script { config } => script(alloc, config, files, output),
         Words::Plan {
@@ -206,7 +215,8 @@ fn run_command<'w, O: Opener + Lookout, W: TextWriter, V: Server<W>>(
 
 /// Runs the command of the words, which do not include the program's name. Nothing is written to the output if the
 /// words are refused, nor before a fault other than that of the output; but a session that broke off may have written
-/// some replies, and a server that ended early its messages.
+/// some replies, a server that ended early its messages, and the report on a change that a server would refuse is the
+/// output.
 pub fn run_words<'w, O: Opener + Lookout, W: TextWriter, V: Server<W>>(
     alloc: Global,
     words: &'w [&'w str],
@@ -234,6 +244,14 @@ pub fn run_words<'w, O: Opener + Lookout, W: TextWriter, V: Server<W>>(
         → map (λ s. s.now) words.now ≡ codes "check-config" ∷ config ∷ codes "--json" ∷ []
         → IsReportEnd true (O.Shows files.new) (O.Gives files.old config) config
         (W.may_refuse output.old) (W.contents output.old) (W.contents output.new) result }
+    ensures check_against { (config other : List ℕ) → IsPlainWord config → IsPlainWord other
+        → map (λ s. s.now) words.now ≡ against_words config other
+        → IsAgainstEnd false (O.Gives files.old) config other (W.may_refuse output.old)
+        (W.contents output.old) (W.contents output.new) result }
+    ensures check_against_json { (config other : List ℕ) → IsPlainWord config → IsPlainWord other
+        → map (λ s. s.now) words.now ≡ against_json_words config other
+        → IsAgainstEnd true (O.Gives files.old) config other (W.may_refuse output.old)
+        (W.contents output.old) (W.contents output.new) result }
     ensures migrate { (config : List ℕ) → IsPlainWord config
         → map (λ s. s.now) words.now ≡ codes "migrate" ∷ config ∷ []
         → IsPrintEnd Print.Latest (O.Shows files.new) (O.Gives files.old config)

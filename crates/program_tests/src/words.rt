@@ -15,11 +15,31 @@ fn words_on_a_configuration(rt: HostRuntime) {
             == Words::CheckConfig {
                 config,
                 json: false,
+                against: None,
             },
     );
     let words = ["check-config", config, "--json"];
     let command = read_words(rt.alloc(), &words).expect(&rt, "a command");
-    holds(&rt, command == Words::CheckConfig { config, json: true });
+    holds(
+        &rt,
+        command
+            == Words::CheckConfig {
+                config,
+                json: true,
+                against: None,
+            },
+    );
+    let words = ["check-config", "--against", "old.toml", config];
+    let command = read_words(rt.alloc(), &words).expect(&rt, "a command");
+    holds(
+        &rt,
+        command
+            == Words::CheckConfig {
+                config,
+                json: false,
+                against: Some("old.toml"),
+            },
+    );
     let words = ["migrate", config];
     let command = read_words(rt.alloc(), &words).expect(&rt, "a command");
     holds(&rt, command == Words::Migrate { config });

@@ -1,7 +1,7 @@
 use Rattle.std.proofs.Common.{false, true}
 use Rattle.command_line.specs.declared.numbers.TheConstants.{ROWS}
-use Rattle.ftpd_program.proofs.Ends.{check_end, migrate_end, plan_end, report_end, script_end, serve_end, share_end, top_end}
-use Rattle.ftpd_program.proofs.NoWords.{no_print, no_serve, no_top, second_of_three, second_word, third_of_four, third_word}
+use Rattle.ftpd_program.proofs.Ends.{against_end, check_end, migrate_end, plan_end, report_end, script_end, serve_end, share_end, top_end}
+use Rattle.ftpd_program.proofs.NoWords.{no_against, no_print, no_serve, no_top, second_of_three, second_word, third_of_four, third_word}
 use Rattle.ftpd_program.specs.declared.printing.Print.TheVariants.{Plan, PlanJson, Report, ReportJson}
 use Rattle.ftpd_program.proofs.run.run_words.Goals as goal
 
@@ -34,6 +34,18 @@ returns-in-Ok-clause-check_config_json g c = λ config plain are.
     let old = g.W.TextWriter.contents c.args.output.now in
     let new = g.W.TextWriter.contents c.run_command.new.output in
     report_end _ (g.O.Lookout.Shows c.run_command.new.files) g.V.Server.Serves _ _ _ _ old new _ (c.in-Ok.ensures.check_config_json config plain are) c.run_command.ensures.end
+
+pub returns-in-Ok-clause-check_against : goal.returns-in-Ok-clause-check_against
+returns-in-Ok-clause-check_against g c = λ config other plain also are.
+    let old = g.W.TextWriter.contents c.args.output.now in
+    let new = g.W.TextWriter.contents c.run_command.new.output in
+    against_end _ (g.O.Lookout.Shows c.run_command.new.files) g.V.Server.Serves _ _ _ _ _ old new _ (c.in-Ok.ensures.check_against config other plain also are) c.run_command.ensures.end
+
+pub returns-in-Ok-clause-check_against_json : goal.returns-in-Ok-clause-check_against_json
+returns-in-Ok-clause-check_against_json g c = λ config other plain also are.
+    let old = g.W.TextWriter.contents c.args.output.now in
+    let new = g.W.TextWriter.contents c.run_command.new.output in
+    against_end _ (g.O.Lookout.Shows c.run_command.new.files) g.V.Server.Serves _ _ _ _ _ old new _ (c.in-Ok.ensures.check_against_json config other plain also are) c.run_command.ensures.end
 
 pub returns-in-Ok-clause-migrate : goal.returns-in-Ok-clause-migrate
 returns-in-Ok-clause-migrate g c = λ config plain are.
@@ -104,6 +116,14 @@ pub returns-in-Err-clause-check_config_json : goal.returns-in-Err-clause-check_c
 returns-in-Err-clause-check_config_json g c = λ config plain are.
     let word = second_of_three c.args.words.now _ _ _ are in
     (word.0, word.1, no_print (ReportJson word.0) (g.O.Lookout.Shows c.args.files.now) _ _ _ _ _ _ (c.in-Err.ensures.check_config_json config plain are) c.tell.ensures.told)
+
+pub returns-in-Err-clause-check_against : goal.returns-in-Err-clause-check_against
+returns-in-Err-clause-check_against g c = λ config other plain also are.
+    no_against false (g.O.Opener.Gives c.args.files.now) _ _ _ _ _ _ _ (c.in-Err.ensures.check_against config other plain also are) c.tell.ensures.told
+
+pub returns-in-Err-clause-check_against_json : goal.returns-in-Err-clause-check_against_json
+returns-in-Err-clause-check_against_json g c = λ config other plain also are.
+    no_against true (g.O.Opener.Gives c.args.files.now) _ _ _ _ _ _ _ (c.in-Err.ensures.check_against_json config other plain also are) c.tell.ensures.told
 
 pub returns-in-Err-clause-serve_ready : goal.returns-in-Err-clause-serve_ready
 returns-in-Err-clause-serve_ready g c = λ config path ready plain also third are.

@@ -1,0 +1,3 @@
+mod Depths
+mod Joined
+pub mod Steps

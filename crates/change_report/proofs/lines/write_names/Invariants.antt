@@ -1,0 +1,8 @@
+use Rattle.std.proofs.Common.{◌≡◌, ◌++◌, take}
+use Rattle.std.specs.Prelude.{string_bytes}
+use Rattle.std.specs.List.{flat_map}
+use Rattle.change_report.specs.Lines.{name_line}
+use Rattle.change_report.proofs.lines.write_names.Given as goal
+
+abbrev pub invariant-loop-change : goal.invariant-loop-change
+invariant-loop-change l = string_bytes l.text ≡ string_bytes l.fn.text ++ flat_map name_line (take l.change-index l.changes)

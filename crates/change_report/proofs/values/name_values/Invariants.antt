@@ -1,0 +1,7 @@
+use Rattle.std.proofs.Common.{◌≡◌, map, take}
+use Rattle.serde_json.specs.View.{view}
+use Rattle.change_report.specs.ChangeData.{name_data}
+use Rattle.change_report.proofs.values.name_values.Given as goal
+
+abbrev pub invariant-loop-change : goal.invariant-loop-change
+invariant-loop-change l = map view l.values.items ≡ map name_data (take l.change-index l.changes)

@@ -1,0 +1,5 @@
+pub mod Changes
+pub mod ChangeData
+pub mod Lines
+pub mod Reasons
+pub mod Reports

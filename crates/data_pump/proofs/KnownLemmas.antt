@@ -1,6 +1,6 @@
 -- Octets that are known, before and after.
 use Rattle.std.proofs.Common.{◌≡◌, ◌++◌, ℕ, List, [], ◌∷◌, length, take, Option, Some, None, refl, ap, ◌∙◌, subst, append-nil}
-use Rattle.std.specs.Io.KnownBytes.{Appends, Consumes, IsAtEnd}
+use Rattle.std.specs.Io.KnownBytes.{Keeps, Appends, Consumes, IsAtEnd}
 
 pub known-appended : (a b : Option (List ℕ)) (xs more : List ℕ) → a ≡ Some xs → Appends a b more → b ≡ Some (xs ++ more)
 known-appended a None xs more e h = absurd (subst (λ o. Appends o None more) e h)
@@ -15,6 +15,10 @@ pub record IsLeft (b : Option (List ℕ)) (xs gone : List ℕ) : Type 0 where
 pub known-consumed : (a b : Option (List ℕ)) (xs gone : List ℕ) → a ≡ Some xs → Consumes a b gone → IsLeft b xs gone
 known-consumed a None xs gone e h = absurd (subst (λ o. Consumes o None gone) e h)
 known-consumed a (Some ys) xs gone e h = record { rest = ys; known = refl; whole = subst (λ o. Consumes o (Some ys) gone) e h }
+
+pub known-kept : (a b : Option (List ℕ)) (xs : List ℕ) → a ≡ Some xs → Keeps a b → b ≡ Some xs
+known-kept a None xs e h = absurd (subst (λ o. Keeps o None) e h)
+known-kept a (Some ys) xs e h = ap Some (subst (λ o. Keeps o (Some ys)) e h)
 
 pub known-at_end : (a : Option (List ℕ)) (xs : List ℕ) → a ≡ Some xs → IsAtEnd a → xs ≡ []
 known-at_end a xs e h = subst IsAtEnd e h

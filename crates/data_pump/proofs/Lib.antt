@@ -1,3 +1,4 @@
+pub mod BufferLemmas
 pub mod DownloadLemmas
 pub mod KnownLemmas
 pub mod RunLemmas

@@ -1,11 +1,13 @@
 -- Downloads as contracts see them, and the effect of a pump.
-use Rattle.std.specs.Prelude.{◌≡◌, ◌⊎◌, ◌<◌, ◌≤◌, ◌++◌, ℕ, min, List, [], length, take, drop, Option, Some, Bool, IsTrue}
+use Rattle.std.specs.Prelude.{◌≡◌, ◌⊎◌, ◌*◌, ◌<◌, ◌≤◌, ◌++◌, ℕ, nat_lt, min, List, [], length, take, drop, Option, Some, Bool, true, false, ◌&&◌, not, IsTrue}
 use Rattle.std.specs.Option.{option_map}
-use Rattle.std.specs.Io.KnownBytes.{Appends, Consumes, IsAtEnd}
+use Rattle.std.specs.Io.KnownBytes.{Keeps, Appends, Consumes, IsAtEnd}
 use Rattle.ftp_terms.specs.declared.data_type.DataType.{DataType}
+use Rattle.ftp_terms.specs.declared.data_type.DataType.TheVariants.{Ascii, Image}
 use Rattle.line_rates.specs.declared.ask.Way.TheVariants.{Down}
 use Rattle.data_pump.specs.WireText.{sent}
-use Rattle.data_pump.specs.Counts.{CallCounts, IsOnceAtMost, FailsAsTold}
+use Rattle.data_pump.specs.Counts.{CallCounts, next, IsOnceAtMost, FailsAsTold}
+use Rattle.data_pump.specs.declared.buffer.TheConstants.{MAX_WAITING}
 use Rattle.data_pump.specs.declared.pumped.FailedPart.TheVariants.{Connection, Source}
 use Rattle.data_pump.specs.declared.pumped.PumpEnd.{PumpEnd}
 use Rattle.data_pump.specs.declared.pumped.PumpEnd.TheVariants.{Ended, More, ReadFault, WriteFault, Memory}
@@ -76,6 +78,31 @@ pub record MovesOut {S K : Type 0} (remaining : S → Option (List ℕ))
   pub ended : pumped.end ≡ Ended → HasEnded new
   pub at_end : pumped.end ≡ Ended → IsAtEnd (to_come remaining new)
   pub fault : IsSourceFault pumped.end → new.waiting ≡ []
+  pub data_type : new.data_type ≡ old.data_type
+
+abbrev pub is_image : DataType → Bool
+is_image Ascii = false
+is_image Image = true
+
+-- under TYPE I, fewer than half of the most octets wait, and the source has not ended
+abbrev pub is_low : {S K : Type 0} → OutFlow S K → Bool
+is_low flow =
+    is_image flow.data_type && not flow.is_over && nat_lt (2 * length flow.waiting) MAX_WAITING
+
+-- The octets that wait were topped up by one read of the source, if they were low; otherwise
+-- nothing was done. A read that failed is not reported: once no octets wait, the source is read
+-- again.
+pub record TopsUp {S K : Type 0} (remaining : S → Option (List ℕ))
+    (old new : OutFlow S K) : Type 0 where
+  pub same : is_low old ≡ false → new ≡ old
+  pub once : is_low old ≡ true → new.reads.made ≡ next old.reads.made
+  pub read : List ℕ
+  pub waiting : new.waiting ≡ old.waiting ++ read
+  -- nothing is appended only at the end of the source, or if the read failed
+  pub none : is_low old ≡ true → read ≡ []
+      → IsTrue new.is_over ⊎ (new.reads.failed ≡ next old.reads.failed)
+  pub come : Keeps (to_come remaining old) (to_come remaining new)
+  pub connection : (new.connection ≡ old.connection) × (new.writes ≡ old.writes)
   pub data_type : new.data_type ≡ old.data_type
 
 -- A part of a wire text was written after what the connection had before; the rest is to come.

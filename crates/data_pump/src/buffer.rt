@@ -1,10 +1,11 @@
 //! Wire octets that wait to be written.
 
-ghost use Rattle.std.specs.Prelude.{◌≡◌, ◌+◌, ◌*◌, ◌<◌, ◌≤◌, [], length, take, drop, IfOk, IfErr, OnErr};
+ghost use Rattle.std.specs.Prelude.{◌≡◌, ◌+◌, ◌*◌, ◌<◌, ◌≤◌, ◌-◌, ◌&&◌, nat_lt, [], length, take, drop, slice_range, IfOk, IfErr, OnErr};
 ghost use Rattle.virtual_tree.specs.Calls.{IsEndFault};
 ghost use Rattle.std.specs.Io.KnownBytes.{Keeps};
-ghost use Rattle.data_pump.specs.Buffers.{Fills};
+ghost use Rattle.data_pump.specs.Buffers.{Fills, FillsUp};
 ghost use Rattle.data_pump.specs.Counts.{Counts};
+ghost use Rattle.data_pump.specs.Downloads.{is_image};
 
 use crate::counted::CountedEnd;
 use crate::runs::send_text;
@@ -40,12 +41,12 @@ impl<A: Allocator> Model for WireBuffer<A> {
 }
 
 impl<A: Allocator> WireBuffer<A> {
-    /// An empty buffer with this room, which is even and not 0.
+    /// An empty buffer with room for the most octets, of which this is half.
     pub fn new(alloc: A, data_type: DataType, half: usize) -> Result<WireBuffer<A>, AllocError>
     where
         A: Clone,
         requires some { 0 < half }
-        requires most { 2 * half ≤ MAX_WAITING }
+        requires most { 2 * half ≡ MAX_WAITING }
         ensures empty { IfOk result
             (λ buffer. buffer ≡ record { data_type = data_type; octets = [] }) }
     {
@@ -69,6 +70,17 @@ impl<A: Allocator> WireBuffer<A> {
         ensures most { result ≤ MAX_WAITING }
     {
         self.to - self.from
+    }
+
+    /// Returns whether fewer octets wait than half of the most, under TYPE I.
+    pub fn is_low(&self) -> bool
+        ensures low { result ≡ (is_image self.now.data_type
+            && nat_lt (2 * length self.now.octets) MAX_WAITING) }
+    {
+        match self.data_type {
+            DataType::Ascii => false,
+            DataType::Image => 2 * self.len() < MAX_WAITING,
+        }
     }
 
     /// The first `count` octets that wait.
@@ -111,6 +123,59 @@ impl<A: Allocator> WireBuffer<A> {
         self.to = count;
         Ok(count)
     }
+
+    /// Appends the octets of one read of the source to those that wait, under TYPE I. Returns their number. A fault
+    /// changes nothing.
+    pub fn fill_up<S: Source>(&mut self, source: &mut CountedEnd<S>) -> Result<usize, StoreFault>
+        requires image { self.old.data_type ≡ DataType.Image }
+        requires room { length self.old.octets < MAX_WAITING }
+        ensures data_type { self.new.data_type ≡ self.old.data_type }
+        ensures filled { IfOk result (λ count. FillsUp (S.remaining source.old.end)
+            (S.remaining source.new.end) count self.old.octets self.new.octets) }
+        ensures left { OnErr result (self.new.octets ≡ self.old.octets) }
+        ensures kept { OnErr result
+            (Keeps (S.remaining source.old.end) (S.remaining source.new.end)) }
+        ensures counts { Counts result source.old.calls source.new.calls }
+    {
+        let waiting = self.to - self.from;
+        move_down(&mut self.octets, self.from, self.to);
+        self.from = 0;
+        self.to = waiting;
+        let count = read_after(source, &mut self.octets, waiting)?;
+        self.to = waiting + count;
+        Ok(count)
+    }
+}
+
+// Moves the octets from `from` to `to` to the start.
+fn move_down(octets: &mut [u8], from: usize, to: usize)
+    requires order { from ≤ to }
+    requires within { to ≤ length octets.old }
+    ensures len { length octets.new ≡ length octets.old }
+    ensures moved { slice_range octets.new 0 (to - from) ≡ slice_range octets.old from to }
+{
+    octets.copy_within(from..to, 0);
+}
+
+// One read, directly after the first `waiting` octets.
+fn read_after<S: Source>(
+    source: &mut CountedEnd<S>,
+    octets: &mut [u8],
+    waiting: usize,
+) -> Result<usize, StoreFault>
+    requires room { waiting < length octets.old }
+    ensures len { length octets.new ≡ length octets.old }
+    ensures front { slice_range octets.new 0 waiting ≡ slice_range octets.old 0 waiting }
+    ensures bound { IfOk result (λ count. waiting + count ≤ length octets.new) }
+    ensures filled { IfOk result (λ count. FillsUp (S.remaining source.old.end)
+        (S.remaining source.new.end) count (slice_range octets.old 0 waiting)
+        (slice_range octets.new 0 (waiting + count))) }
+    ensures kept { OnErr result
+        (Keeps (S.remaining source.old.end) (S.remaining source.new.end)) }
+    ensures counts { Counts result source.old.calls source.new.calls }
+{
+    let count = source.fetch(&mut octets[waiting..])?;
+    Ok(count)
 }
 
 // One read, directly into the octets.

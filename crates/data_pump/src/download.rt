@@ -4,7 +4,7 @@ ghost use Rattle.std.specs.Prelude.{◌≡◌, ◌⊎◌, ◌-◌, ◌<◌, ◌�
 ghost use Rattle.grant_ledger.specs.Books.{capped};
 ghost use Rattle.data_pump.specs.Counts.{no_calls, next};
 ghost use Rattle.data_pump.specs.WireText.{sent};
-ghost use Rattle.data_pump.specs.Downloads.{HasEnded, IsReady, MovesOut, IsSending};
+ghost use Rattle.data_pump.specs.Downloads.{HasEnded, IsReady, MovesOut, TopsUp, IsSending};
 
 use crate::buffer::MAX_WAITING;
 use crate::outflow::Outflow;
@@ -117,6 +117,19 @@ impl<S: Source, K: Write + Drop, A: Allocator> DataOut<S, K, A> {
             way: Way::Down,
             want: self.flow.waiting() as u64,
         }
+    }
+
+    /// Reads the source once, and appends the octets to those that wait, if these are fewer than half of the most, under
+    /// TYPE I: so the next ask is for at least half of the most, until the source ends. A fault is not reported: the
+    /// source is read again once no octets wait.
+    pub fn top_up(&mut self)
+        ensures topped { TopsUp S.remaining self.old.flow self.new.flow }
+        ensures last { self.new.last ≡ self.old.last }
+        ensures sending { (before text : List ℕ)
+            → IsSending S.remaining K.contents before text self.old.flow
+            → IsSending S.remaining K.contents before text self.new.flow }
+    {
+        self.flow.top_up();
     }
 
     // Moves at most `most` octets.

@@ -6,7 +6,7 @@ ghost use Rattle.std.specs.Io.KnownBytes.{Keeps, IsAtEnd};
 ghost use Rattle.line_rates.specs.declared.ask.Way.TheVariants.{Down};
 ghost use Rattle.data_pump.specs.Counts.{no_calls, next, IsOnceAtMost, FailsAsTold};
 ghost use Rattle.data_pump.specs.declared.pumped.FailedPart.TheVariants.{Connection, Source};
-ghost use Rattle.data_pump.specs.Downloads.{to_come, HasEnded, MovesOut, IsSourceFault};
+ghost use Rattle.data_pump.specs.Downloads.{to_come, HasEnded, MovesOut, IsSourceFault, TopsUp};
 
 use crate::buffer::{MAX_WAITING, WireBuffer};
 use crate::counted::CountedEnd;
@@ -127,6 +127,21 @@ impl<S: Source, K: Write + Drop, A: Allocator> Outflow<S, K, A> {
             Ok(_) => PumpEnd::More,
             Err(StoreFault::Memory) => PumpEnd::Memory,
             Err(_) => PumpEnd::ReadFault,
+        }
+    }
+
+    /// Reads the source once, and appends the octets to those that wait, if these are fewer than half of the most, under
+    /// TYPE I. If the read fails, nothing is changed: the source is read again once none wait.
+    pub fn top_up(&mut self)
+        ensures topped { TopsUp S.remaining self.old self.new }
+    {
+        if self.is_over || !self.buffer.is_low() {
+            return;
+        }
+        match self.buffer.fill_up(&mut self.source) {
+            Ok(0) => self.is_over = true,
+            Ok(_) => {}
+            Err(_) => {}
         }
     }
 

@@ -1,5 +1,6 @@
 -- A lane's gate: its answers, and the knowledge of the lane that runs a transfer.
-use Rattle.std.specs.Prelude.{Bool, true, false, ◌&&◌, ◌||◌, if◌then◌else◌}
+use Rattle.std.specs.Prelude.{ℕ, ◌+◌, min, nat_le, nat_lt, Bool, true, false, ◌&&◌, ◌||◌, not, if◌then◌else◌}
+use Rattle.round_cadence.specs.declared.intervals.TheConstants.{WORTH, WORTH_UP}
 use Rattle.server_house.specs.Tickets.{is_upload}
 use Rattle.transfer_ticket.specs.declared.view.TicketView.{TicketView}
 use Rattle.transfer_ticket.specs.declared.view.TicketView.TheVariants.{Away, Missed, Idle, Busy, Runs}
@@ -12,6 +13,14 @@ use Rattle.transfer_worker.specs.declared.job.LaneJob.{LaneJob}
 abbrev pub answer : Bool → Bool → Bool → Go
 answer is_before_ask is_to_stop is_starved =
     if is_before_ask && (is_to_stop || is_starved) then Stop else On
+
+-- The number of small reads of an upload, after a read of these octets: they are counted while no
+-- rate holds it back, from the last large read on.
+abbrev pub dribbles_after : ℕ → Bool → ℕ → ℕ
+dribbles_after dribbles is_free octets =
+    if not is_free || nat_le WORTH octets then 0
+    else if nat_lt octets WORTH_UP then min (dribbles + 1) 255
+    else dribbles
 
 module _ {R K C : Type 0} where
   -- the transfer that a lane runs is an upload

@@ -2,7 +2,7 @@
 
 ghost use Rattle.std.specs.Prelude.{◌≡◌, ◌||◌, not, true};
 ghost use Rattle.lane_rounds.specs.Clocks.{IsTestOf};
-ghost use Rattle.lane_rounds.specs.Gates.{answer, has_seen, runs_upload};
+ghost use Rattle.lane_rounds.specs.Gates.{answer, dribbles_after, has_seen, runs_upload};
 ghost use Rattle.transfer_ticket.specs.Tickets.{is_runner};
 ghost use Rattle.transfer_ticket.specs.Views.{run_view};
 
@@ -13,6 +13,7 @@ use crate::turns::Turns;
 use data_sockets::{DataConnection, Served};
 use handler_hooks::Hooks;
 use lent_parts::{LentDesk, PartsName};
+use round_cadence::{WORTH, WORTH_UP};
 use server_house::{House, LaneEnds, LaneSign, SessionEnd, SessionJob};
 use session_table::End;
 use std::alloc::Global;
@@ -32,6 +33,13 @@ const PATIENCE: u64 = 20;
 
 /// The wait after a grant of 0 octets, in microseconds: half a tick of the pace.
 const PAUSE: u64 = 1_000;
+
+/// The number of small reads after which an upload dribbles: of fewer octets than it is to have in a round.
+const DRIBBLES: u8 = 8;
+
+/// The wait of an upload that dribbles before it asks, in microseconds: more octets come meanwhile, and one round is for
+/// all of them.
+const GATHER: u64 = 8_000;
 
 /// The gate of a lane for one transfer. It waits for answers, and holds rounds. It stops the transfer before an ask once
 /// its session wants it to end, or rounds are refused to it: the lane is free then for the next. It cannot be dropped:
@@ -65,6 +73,8 @@ pub(crate) struct LaneGate<
     seen: u64,
     // the octets moved before the last ask; none before the first
     asked_at: Option<u64>,
+    // the number of small reads since the last of `WORTH` octets
+    dribbles: u8,
     ghost clock: { IsTestOf R.when B.when },
     ghost runs: { is_runner (run_view run) ≡ true },
     ghost way: { runs_upload (run_view run) ≡ is_upload },
@@ -106,6 +116,7 @@ where
             is_before_ask: true,
             seen: 0,
             asked_at: None,
+            dribbles: 0,
         }
     }
 
@@ -144,6 +155,7 @@ where
             is_before_ask: _,
             seen: _,
             asked_at: _,
+            dribbles: _,
         } = self;
         let (end, sink) = match ended {
             Some(ended) => ended,
@@ -152,12 +164,19 @@ where
         run.report(report_of(end, sink, is_upload, has_stopped, moved));
     }
 
-    // Before an ask. If the last one was granted nothing, the rates have nothing left, and this waits a moment.
+    // Before an ask. If the last one was granted nothing, the rates have nothing left, and this waits a moment; and so
+    // for an upload whose client sends little, though no rate holds it back.
     fn begin(&mut self, sign: &LaneSign, moved: u64) {
         self.seen = sign.answered.seen();
         sign.set_moved(moved);
+        if let Some(before) = self.asked_at {
+            let is_free = self.is_upload && sign.is_whole();
+            self.dribbles = dribbles_after(self.dribbles, is_free, moved.saturating_sub(before));
+        }
         if self.asked_at == Some(moved) {
             thread::sleep(self.rt, Duration::from_micros(PAUSE));
+        } else if self.dribbles >= DRIBBLES {
+            thread::sleep(self.rt, Duration::from_micros(GATHER));
         }
         self.asked_at = Some(moved);
     }
@@ -198,6 +217,19 @@ where
             None => {}
         }
     }
+}
+
+// The number of small reads after a read, of a transfer that is an upload which no rate held back, or another.
+fn dribbles_after(dribbles: u8, is_free: bool, octets: u64) -> u8
+    ensures after { result ≡ dribbles_after dribbles is_free octets }
+{
+    if !is_free || octets >= WORTH {
+        return 0;
+    }
+    if octets < WORTH_UP {
+        return dribbles.saturating_add(1);
+    }
+    dribbles
 }
 
 // The answer to a transfer: it stops before an ask, if its session wants it to end or rounds are refused to it.

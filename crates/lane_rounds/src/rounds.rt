@@ -6,6 +6,7 @@ ghost use Rattle.lane_rounds.specs.Dues.{sooner};
 use crate::turns::Turns;
 use grant_ledger::MAX_LANES;
 use handler_hooks::Hooks;
+use lane_desk::RoundRecord;
 use lent_parts::{LentDesk, LentRounds, PartsName};
 use round_pace::{Due, TICK_MICROS};
 use server_house::{House, LaneSign};
@@ -74,6 +75,16 @@ fn transfers_of(lanes: &[LaneSign]) -> [u64; MAX_LANES] {
     transfers
 }
 
+// Tells each lane that a round has answered whether it was granted all that it asked for.
+fn tell_wholes(lanes: &[LaneSign], record: &RoundRecord) {
+    let grants = record.sealed.grants().iter();
+    for ((lane, ask), grant) in record.lanes.iter().zip(&record.asks).zip(grants) {
+        if let Some(sign) = lanes.get(*lane as usize) {
+            sign.set_whole(*grant >= ask.want);
+        }
+    }
+}
+
 // Holds one round of the lanes whose transfers' rows are open. A refused one has answered each lane too, with 0 octets.
 fn hold_one<S: Store<Global>, H: Hooks, B: PartsName, N>(
     alloc: Global,
@@ -87,7 +98,10 @@ fn hold_one<S: Store<Global>, H: Hooks, B: PartsName, N>(
     let given = open_lanes(house, &turns.rounds, now);
     let transfers = transfers_of(&house.lanes);
     match turns.hold(alloc, desk, now, &given, &transfers) {
-        Ok(record) => wake_lanes(&house.lanes, record.answered, false),
+        Ok(record) => {
+            tell_wholes(&house.lanes, &record);
+            wake_lanes(&house.lanes, record.answered, false);
+        }
         Err(fault) => wake_lanes(&house.lanes, fault.answered, true),
     }
 }

@@ -15,7 +15,7 @@ use Rattle.round_pace.specs.Changed.{changed_credit, changed_group, changed_user
 use Rattle.round_pace.specs.Credits.{IsCredit}
 use Rattle.round_pace.specs.Earned.{most_kept}
 use Rattle.round_pace.specs.Paced.{Paced, AreTheGroups, AreTheUsers, IsGroupPace, IsUserPace, group_key, pace_number}
-use Rattle.round_pace.specs.Rows.{group_credit, user_credit}
+use Rattle.round_pace.specs.Rows.{group_credit, user_credit, session_credit}
 use Rattle.round_pace.proofs.Keys.{keys_mapped}
 use Rattle.rate_floors.proofs.PlaceLemmas.{rising_mapped}
 
@@ -43,7 +43,17 @@ group_changed gs row h = record { down = credit_changed row.down (group_credit D
 
 pub user_changed : (us : List UserPace) (row : UserRate) → FitsUser row → IsUserPace (changed_user us row)
 user_changed us row h =
-    record { row = h; down = credit_changed row.down (user_credit Down us row.user) h.down; up = credit_changed row.up (user_credit Up us row.user) h.up; down_rate = refl; up_rate = refl }
+    record {
+      row = h;
+      down = credit_changed row.down (user_credit Down us row.user) h.down;
+      up = credit_changed row.up (user_credit Up us row.user) h.up;
+      session_down = credit_changed row.session_down (session_credit Down us row.user) h.session_down;
+      session_up = credit_changed row.session_up (session_credit Up us row.user) h.session_up;
+      down_rate = refl;
+      up_rate = refl;
+      session_down_rate = refl;
+      session_up_rate = refl;
+    }
 
 abbrev paced : Paced → Rates → Credit → Credit → Credit → List GroupPace → List UserPace → Paced
 paced old r s d u gs us = record { begun = old.begun; moment = old.moment; server = s; down = d; up = u; groups = gs; users = us; offered = r }

@@ -21,7 +21,17 @@ group_new row h = record { down = credit_new row.down h.down; up = credit_new ro
 
 pub user_new : (row : UserRate) → FitsUser row → IsUserPace (new_user row)
 user_new row h =
-    record { row = h; down = credit_new row.down h.down; up = credit_new row.up h.up; down_rate = refl; up_rate = refl }
+    record {
+      row = h;
+      down = credit_new row.down h.down;
+      up = credit_new row.up h.up;
+      session_down = credit_new row.session_down h.session_down;
+      session_up = credit_new row.session_up h.session_up;
+      down_rate = refl;
+      up_rate = refl;
+      session_down_rate = refl;
+      session_up_rate = refl;
+    }
 
 abbrev paced : ℕ → Rates → ℕ → ℕ → ℕ → List GroupPace → List UserPace → Paced
 paced begun r server down up groups users = record { begun = begun; moment = 0; server = no_credit server; down = no_credit down; up = no_credit up; groups = groups; users = users; offered = r }

@@ -1,14 +1,14 @@
 -- Rounds that carry their rates: what they grant in a second in which the rate changes.
 use Rattle.std.proofs.Common.{◌≡◌, ◌≢◌, ◌⊎◌, ℕ, ◌+◌, ◌-◌, ◌*◌, ◌/◌, ◌%◌, ◌<◌, ◌≤◌, Bool, true, false, cond, List, [], ◌∷◌, map, inl, inr, refl, ap, ◌∙◌, subst, arith}
-use Rattle.std.specs.Prelude.{min, nat_eq}
+use Rattle.std.specs.Prelude.{nat_eq}
 use Rattle.std.proofs.lemmas.Bool.{cases_lt, cond-true, cond-false, false_from_ne_true, eqb-true, eq-eqb}
 use Rattle.std.proofs.lemmas.List.Sums.{sum_by-cons}
 use Rattle.std.proofs.Math.Nat.{mul-le-mul_right, mul-le-mul_left}
-use Rattle.round_pace.specs.Earned.{tick_of, share, most_kept, begun_in, carried, earned, uncut, refilled, offered}
+use Rattle.round_pace.specs.Earned.{tick_of, share, uncut, refilled, offered}
 use Rattle.round_pace.specs.Rounds.{Round, begun_after, granted_where, is_in}
 use Rattle.round_pace.specs.Stretches.{RatedRound, round_of, rates_where, changes_from, changes, AreWithin}
 use Rattle.round_pace.proofs.Kept.{part, IsBefore, part_none, nothing, second_before, second_from}
-use Rattle.round_pace.proofs.Offers.{offered_left, offered_new, offered-first, uncut_later, carried_none, carried_all, refilled-le}
+use Rattle.round_pace.proofs.Offers.{offered_left, offered_new, offered-first, offered-mono, uncut_later, refilled-le}
 
 -- Rounds from a state with at most `left` octets and `begun` ticks: what a round grants and what is
 -- left after it are within what it is offered under its rate.
@@ -20,29 +20,6 @@ AreRated left begun (r ∷ rs) = (begun ≤ begun_after r.round) × (next : ℕ)
 
 abbrev pub total : (Round → Bool) → List RatedRound → ℕ
 total test rs = granted_where test (map round_of rs)
-
--- more may have been left
-carried-mono : (left more before : ℕ) → left ≤ more → carried left before ≤ carried more before
-carried-mono left more before h = elim (cases_lt 0 before) [
-  | inl some ↦ omega (arith, h, carried_all left before some, carried_all more before some)
-  | inr none ↦ (let e : before ≡ 0 = omega arith in omega (arith, carried_none left before e))
-]
-
-refilled-mono : (l left more begun t : ℕ) → left ≤ more → refilled l left begun t ≤ refilled l more begun t
-refilled-mono l left more begun t h =
-    plain (carried left (begun_in begun t)) (carried more (begun_in begun t)) (earned l (begun_in begun t) t) (most_kept l) (carried-mono left more (begun_in begun t) h)
-  where
-    plain : (x y e m : ℕ) → x ≤ y → min (x + e) m ≤ min (y + e) m
-    plain x y e m a = omega arith
-
-offered-mono : (l left more begun t : ℕ) → left ≤ more → offered l left begun t ≤ offered l more begun t
-offered-mono l left more begun t h = elim (cases_lt t begun) [
-  | inl same ↦ plain (offered l left begun t) left more (offered l more begun t) (offered_left l left begun t same) h (offered_left l more begun t same)
-  | inr new ↦ plain (offered l left begun t) (refilled l left begun t) (refilled l more begun t) (offered l more begun t) (offered_new l left begun t new) (refilled-mono l left more begun t h) (offered_new l more begun t new)
-]
-  where
-    plain : (a x y b : ℕ) → a ≡ x → x ≤ y → b ≡ y → a ≤ b
-    plain a x y b e f g = omega arith
 
 pub rated_from : (left more begun : ℕ) (rs : List RatedRound) → left ≤ more → AreRated left begun rs → AreRated more begun rs
 rated_from left more begun [] h are = tt

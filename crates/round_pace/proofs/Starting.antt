@@ -17,7 +17,7 @@ use Rattle.round_pace.specs.declared.paced.UserPace.{UserPace}
 use Rattle.round_pace.specs.Changed.{changed_credit, changed_group, changed_user, IsChangedTo, idle}
 use Rattle.round_pace.specs.Earned.{most_kept}
 use Rattle.round_pace.specs.Paced.{Paced, group_key, pace_number, no_credit, new_group, new_user, IsPacedFrom, AreTheGroups, AreTheUsers}
-use Rattle.round_pace.specs.Rows.{group_row_credit, user_row_credit, group_credit as group_now, user_credit as user_now}
+use Rattle.round_pace.specs.Rows.{group_row_credit, user_row_credit, session_row_credit, group_credit as group_now, user_credit as user_now, session_credit as session_now}
 use Rattle.round_pace.specs.Stretches.{NewIsChanged}
 use Rattle.round_pace.specs.Taken.{group_in}
 use Rattle.round_pace.proofs.Changing.{groups_made, users_made}
@@ -50,6 +50,10 @@ group_same w (Some x) = refl
 user_same : (w : Way) (o : Option UserPace) → user_row_credit w o ≡ user_credit w o
 user_same w None = refl
 user_same w (Some x) = refl
+
+session_same : (w : Way) (o : Option UserPace) → session_row_credit w o ≡ session_credit w o
+session_same w None = refl
+session_same w (Some x) = refl
 
 -- a pace that was changed to some rates
 module _ (rates : Rates) (old p : Paced) (to : IsChangedTo rates old p) where
@@ -90,7 +94,8 @@ module _ (rates : Rates) (old p : Paced) (to : IsChangedTo rates old p) where
     where
       go : (w : Way) (o : Option UserRate) → (session_credit w (over (changed_user old.users) o)).rate ≡ session_rate o w
       go w None = refl
-      go w (Some x) = refl
+      go Down (Some x) = refl
+      go Up (Some x) = refl
 
   -- what was left of a number is that of its row
   group_was : (w : Way) (g : ℕ) (x : GroupRate) → finite.get rates.groups g ≡ Some x → (group_now w old.groups (Some x.group)).left ≡ (group_credit w (the_group old g)).left
@@ -104,6 +109,12 @@ module _ (rates : Rates) (old p : Paced) (to : IsChangedTo rates old p) where
       let same : x.user ≡ u = (first_contains user_number u to.user_rows x (sym (get-by_number user_number u to.user_rows) ∙ (ap (λ (m : Users). finite.get m u) to.users_are ∙ e))).1 in
       ap (λ (k : ℕ). (user_now w old.users k).left) same
       ∙ ap (λ (c : Credit). c.left) (ap (user_row_credit w) (get-by_number pace_number u old.users) ∙ user_same w (the_user old u))
+
+  session_was : (w : Way) (u : ℕ) (x : UserRate) → finite.get rates.users u ≡ Some x → (session_now w old.users x.user).left ≡ (session_credit w (the_user old u)).left
+  session_was w u x e =
+      let same : x.user ≡ u = (first_contains user_number u to.user_rows x (sym (get-by_number user_number u to.user_rows) ∙ (ap (λ (m : Users). finite.get m u) to.users_are ∙ e))).1 in
+      ap (λ (k : ℕ). (session_now w old.users k).left) same
+      ∙ ap (λ (c : Credit). c.left) (ap (session_row_credit w) (get-by_number pace_number u old.users) ∙ session_same w (the_user old u))
 
   -- no more is left under a name than was,
   pub left-changed : (n : Name) → (credit_under p n).left ≤ (credit_under old n).left
@@ -122,11 +133,12 @@ module _ (rates : Rates) (old p : Paced) (to : IsChangedTo rates old p) where
       go w None e = none-le (user_credit w (the_user old u)).left
       go Down (Some x) e = subst (λ (y : ℕ). min (user_now Down old.users x.user).left (most_kept x.down) ≤ y) (user_was Down u x e) (min-left (user_now Down old.users x.user).left (most_kept x.down))
       go Up (Some x) e = subst (λ (y : ℕ). min (user_now Up old.users x.user).left (most_kept x.up) ≤ y) (user_was Up u x e) (min-left (user_now Up old.users x.user).left (most_kept x.up))
-  left-changed (Session w u s) = go w (the_user p u) (the_user old u)
+  left-changed (Session w u s) = subst (λ (o : Option UserPace). (session_credit w o).left ≤ (session_credit w (the_user old u)).left) (sym (user_first u)) (go w (finite.get rates.users u) refl)
     where
-      go : (w : Way) (o q : Option UserPace) → (session_credit w o).left ≤ (session_credit w q).left
-      go w None q = none-le (session_credit w q).left
-      go w (Some x) q = none-le (session_credit w q).left
+      go : (w : Way) (o : Option UserRate) → finite.get rates.users u ≡ o → (session_credit w (over (changed_user old.users) o)).left ≤ (session_credit w (the_user old u)).left
+      go w None e = none-le (session_credit w (the_user old u)).left
+      go Down (Some x) e = subst (λ (y : ℕ). min (session_now Down old.users x.user).left (most_kept x.session_down) ≤ y) (session_was Down u x e) (min-left (session_now Down old.users x.user).left (most_kept x.session_down))
+      go Up (Some x) e = subst (λ (y : ℕ). min (session_now Up old.users x.user).left (most_kept x.session_up) ≤ y) (session_was Up u x e) (min-left (session_now Up old.users x.user).left (most_kept x.session_up))
 
   -- and no more than what the new rate keeps
   pub left-kept : (n : Name) → (credit_under p n).left ≤ most_kept (rate_of rates n)
@@ -145,11 +157,12 @@ module _ (rates : Rates) (old p : Paced) (to : IsChangedTo rates old p) where
       go w None = none-le (most_kept (user_rate None w))
       go Down (Some x) = min-right (user_now Down old.users x.user).left (most_kept x.down)
       go Up (Some x) = min-right (user_now Up old.users x.user).left (most_kept x.up)
-  left-kept (Session w u s) = go w (the_user p u)
+  left-kept (Session w u s) = subst (λ (o : Option UserPace). (session_credit w o).left ≤ most_kept (session_rate (finite.get rates.users u) w)) (sym (user_first u)) (go w (finite.get rates.users u))
     where
-      go : (w : Way) (o : Option UserPace) → (session_credit w o).left ≤ most_kept (session_rate (finite.get rates.users u) w)
-      go w None = none-le (most_kept (session_rate (finite.get rates.users u) w))
-      go w (Some x) = none-le (most_kept (session_rate (finite.get rates.users u) w))
+      go : (w : Way) (o : Option UserRate) → (session_credit w (over (changed_user old.users) o)).left ≤ most_kept (session_rate o w)
+      go w None = none-le (most_kept (session_rate None w))
+      go Down (Some x) = min-right (session_now Down old.users x.user).left (most_kept x.session_down)
+      go Up (Some x) = min-right (session_now Up old.users x.user).left (most_kept x.session_up)
 
   pub good_changed : IsWhole old.moment → Good rates p
   good_changed whole =
@@ -186,11 +199,15 @@ no_group w g = ap (group_row_credit w) (get-by_number group_key g [])
 no_user : (w : Way) (u : ℕ) → user_now w [] u ≡ no_credit 0
 no_user w u = ap (user_row_credit w) (get-by_number pace_number u [])
 
+no_session : (w : Way) (u : ℕ) → session_now w [] u ≡ no_credit 0
+no_session w u = ap (session_row_credit w) (get-by_number pace_number u [])
+
 group_of_row : ℕ → Credit → Credit → GroupPace
 group_of_row g down up = record { group = g; down = down; up = up }
 
-user_of_row : UserRate → Credit → Credit → UserPace
-user_of_row row down up = record { row = row; down = down; up = up }
+user_of_row : UserRate → Credit → Credit → Credit → Credit → UserPace
+user_of_row row down up session_down session_up =
+    record { row = row; down = down; up = up; session_down = session_down; session_up = session_up }
 
 group_anew : (x : GroupRate) → new_group x ≡ changed_group [] x
 unfolding group_of_row
@@ -199,6 +216,7 @@ group_anew x = λ i. group_of_row x.group ((new_credit x.down ∙ ap (changed_cr
 user_anew : (x : UserRate) → new_user x ≡ changed_user [] x
 unfolding user_of_row
 user_anew x = λ i. user_of_row x ((new_credit x.down ∙ ap (changed_credit x.down) (sym (no_user Down x.user))) i) ((new_credit x.up ∙ ap (changed_credit x.up) (sym (no_user Up x.user))) i)
+    ((new_credit x.session_down ∙ ap (changed_credit x.session_down) (sym (no_session Down x.user))) i) ((new_credit x.session_up ∙ ap (changed_credit x.session_up) (sym (no_session Up x.user))) i)
 
 fresh_pace : ℕ → Rates → Credit → Credit → Credit → List GroupPace → List UserPace → Paced
 fresh_pace begun r s d u gs us = record { begun = begun; moment = 0; server = s; down = d; up = u; groups = gs; users = us; offered = r }

@@ -1,59 +1,34 @@
 -- Stretches of rounds keep the rates that are in force in them.
-use Rattle.std.proofs.Common.{◌≡◌, ◌≢◌, ℕ, ◌+◌, ◌-◌, ◌≤◌, Bool, true, false, cond, List, [], ◌∷◌, ◌++◌, map, inr, refl, ap, ◌∙◌, subst, arith, Option, Some, None}
+use Rattle.std.proofs.Common.{◌≡◌, ◌≢◌, ℕ, ◌+◌, ◌-◌, ◌≤◌, Bool, true, false, cond, List, [], ◌∷◌, ◌++◌, map, inr, refl, ap, ◌∙◌, subst, arith}
 use Rattle.std.specs.Prelude.{nat_eq}
 use Rattle.std.proofs.lemmas.Bool.{eq-eqb, cond-true}
-use Rattle.line_rates.specs.declared.ask.Way.{Way}
 use Rattle.line_rates.specs.declared.ask.Name.{Name}
-use Rattle.line_rates.specs.declared.ask.Name.TheVariants.{Server, Direction, Group, User, Session}
 use Rattle.line_rates.specs.Granted.{granted_under}
 use Rattle.line_rates.specs.Rates.{Rates, Groups, Users, rate_of}
 use Rattle.line_rates.specs.Stated.{by_number, group_number, user_number}
-use Rattle.round_pace.specs.declared.paced.UserPace.{UserPace}
 use Rattle.round_pace.specs.Changed.{changed_group, changed_user, idle}
-use Rattle.round_pace.specs.Earned.{tick_of, offered, session_offered, most_kept}
+use Rattle.round_pace.specs.Earned.{tick_of, offered, most_kept}
 use Rattle.round_pace.specs.Histories.{Held, after, after_all, IsHeld, AreHeld, stated_group, stated_user, rates_of, round_under, rounds_under}
 use Rattle.round_pace.specs.Paced.{Paced}
 use Rattle.round_pace.specs.Rounds.{Round, granted_where, is_in, is_from}
 use Rattle.round_pace.specs.Stretches.{Stretch, Lead, RatedRound, rated, rated_under, round_of, rates_where, changes_from, changes, AreWithin, IsWindowed, AreWindowed, StretchesKeepRates, OneStretchKeeps, ChangedRates}
-use Rattle.round_pace.proofs.Credited.{the_user, session_credit, credit_under, is_session}
-use Rattle.round_pace.proofs.Holding.{good_after, begun_next, within, session_limit, granted_within, left_next, are_rounds, are_session_rounds}
+use Rattle.round_pace.proofs.Credited.{credit_under, charged}
+use Rattle.round_pace.proofs.Holding.{good_after, begun_next, granted_charged, granted_within, left_next, are_rounds}
 use Rattle.round_pace.proofs.Kept.{keeps-window}
 use Rattle.round_pace.proofs.Limits.{IsWhole}
 use Rattle.round_pace.proofs.Rated.{AreRated, rated_from, fresh}
-use Rattle.round_pace.proofs.Sessions.{sessions_are_rounds, session-less}
 use Rattle.round_pace.proofs.Starting.{Good, left-changed, left-kept, good_changed, left_idle, whole_idle}
 use Rattle.round_pace.proofs.StatedRates.{back}
 
--- nothing is kept for a session
-session_none : (p : Paced) (w : Way) (u s : ℕ) → (credit_under p (Session w u s)).left ≡ 0
-session_none p w u s = go (the_user p u)
-  where
-    go : (o : Option UserPace) → (session_credit w o).left ≡ 0
-    go None = refl
-    go (Some x) = refl
-
 -- What a round grants under a name and what it leaves are within what it is offered.
 module _ (rates : Rates) (p : Paced) (h : Held) (good : Good rates p) (held : IsHeld p h) where
-  plain : (n : Name) → is_session n ≡ false → rate_of rates n ≢ 0 → granted_under rates n h.leaves + (credit_under (after p h) n).left ≤ offered (rate_of rates n) (credit_under p n).left p.begun (tick_of h.now)
-  plain n is some =
-      rest (granted_under rates n h.leaves) (credit_under (after p h) n).left (offered (rate_of rates n) (credit_under p n).left p.begun (tick_of h.now))
-      (granted_within rates p h good held n is some) (left_next rates p h good held n is some)
-    where
-      rest : (g l o : ℕ) → g ≤ o → l ≡ o - g → g + l ≤ o
-      rest g l o a b = omega arith
-
   spends : (n : Name) → rate_of rates n ≢ 0 → granted_under rates n h.leaves + (credit_under (after p h) n).left ≤ offered (rate_of rates n) (credit_under p n).left p.begun (tick_of h.now)
-  spends Server some = plain Server refl some
-  spends (Direction w) some = plain (Direction w) refl some
-  spends (Group w g) some = plain (Group w g) refl some
-  spends (User w u) some = plain (User w u) refl some
-  spends (Session w u s) some =
-      sum (granted_under rates (Session w u s) h.leaves) (credit_under (after p h) (Session w u s)).left (session_offered (rate_of rates (Session w u s)) p.begun (tick_of h.now)) (offered (rate_of rates (Session w u s)) (credit_under p (Session w u s)).left p.begun (tick_of h.now))
-      (within rates p h good held (Session w u s) (session_offered (rate_of rates (Session w u s)) p.begun (tick_of h.now)) some (session_limit rates p (tick_of h.now) good w u s some))
-      (session_none (after p h) w u s) (session-less (rate_of rates (Session w u s)) (credit_under p (Session w u s)).left p.begun (tick_of h.now))
+  spends n some =
+      rest (granted_under rates n h.leaves) (granted_under rates (charged n) h.leaves) (credit_under (after p h) n).left (offered (rate_of rates n) (credit_under p n).left p.begun (tick_of h.now))
+      (granted_within rates p h good held n some) (granted_charged rates n h.leaves) (left_next rates p h good held n some)
     where
-      sum : (g l x o : ℕ) → g ≤ x → l ≡ 0 → x ≤ o → g + l ≤ o
-      sum g l x o a b c = omega arith
+      rest : (g t l o : ℕ) → g ≤ o → g ≤ t → l ≡ o - t → g + l ≤ o
+      rest g t l o a b c = omega arith
 
 -- the rounds of a stretch, and those after it
 rounds_rated : (n : Name) (rates : Rates) (p : Paced) (hs : List Held) (rest : List RatedRound) → Good rates p → AreHeld p hs → AreRated (credit_under (after_all p hs) n).left (after_all p hs).begun rest
@@ -85,22 +60,11 @@ lead_rated n p (s ∷ ss) q whole lead =
 
 -- a second from any moment, within a stretch
 windowed : (rates : Rates) (p : Paced) (hs : List Held) → Good rates p → AreHeld p hs → ((n : Name) → (credit_under p n).left ≤ most_kept (rate_of rates n)) → IsWindowed (record { rates = rates; rounds = hs })
-windowed rates p hs good are small n some start = go n some
+windowed rates p hs good are small n some start =
+    keeps-window (rate_of rates n) (credit_under p n).left p.begun (rounds_under rates n hs) (small n) (are_rounds rates n some p (credit_under p n).left hs (same (credit_under p n).left) good are) start
   where
-    plain : (m : Name) → is_session m ≡ false → rate_of rates m ≢ 0 → granted_where (is_from start) (rounds_under rates m hs) ≤ rate_of rates m + most_kept (rate_of rates m)
-    plain m is some = keeps-window (rate_of rates m) (credit_under p m).left p.begun (rounds_under rates m hs) (small m) (are_rounds rates m is some p hs good are) start
-
-    go : (m : Name) → rate_of rates m ≢ 0 → granted_where (is_from start) (rounds_under rates m hs) ≤ rate_of rates m + most_kept (rate_of rates m)
-    go Server some = plain Server refl some
-    go (Direction w) some = plain (Direction w) refl some
-    go (Group w g) some = plain (Group w g) refl some
-    go (User w u) some = plain (User w u) refl some
-    go (Session w u s) some =
-        keeps-window (rate_of rates (Session w u s)) 0 p.begun (rounds_under rates (Session w u s) hs) (none (most_kept (rate_of rates (Session w u s))))
-        (sessions_are_rounds (rate_of rates (Session w u s)) 0 p.begun (rounds_under rates (Session w u s) hs) (are_session_rounds rates w u s some p hs good are)) start
-      where
-        none : (x : ℕ) → 0 ≤ x
-        none x = omega arith
+    same : (x : ℕ) → x ≤ x
+    same x = omega arith
 
 lead_windowed : (p : Paced) (ss : List Stretch) (q : Paced) → IsWhole p.moment → Lead p ss q → AreWindowed ss
 lead_windowed p [] q whole lead = tt

@@ -10,7 +10,7 @@ use Rattle.round_pace.specs.declared.paced.GroupPace.{GroupPace}
 use Rattle.round_pace.specs.declared.paced.UserPace.{UserPace}
 use Rattle.round_pace.specs.Earned.{most_kept}
 use Rattle.round_pace.specs.Paced.{Paced, no_credit}
-use Rattle.round_pace.specs.Rows.{group_credit, user_credit}
+use Rattle.round_pace.specs.Rows.{group_credit, user_credit, session_credit}
 
 -- a new rate: what was left under the old one, cut to the most that the new one keeps
 abbrev pub changed_credit : ℕ → Credit → Credit
@@ -29,6 +29,8 @@ changed_user users row = record {
   row = row;
   down = changed_credit row.down (user_credit Down users row.user);
   up = changed_credit row.up (user_credit Up users row.user);
+  session_down = changed_credit row.session_down (session_credit Down users row.user);
+  session_up = changed_credit row.session_up (session_credit Up users row.user);
 }
 
 -- The pace after a change to some rates: the same ticks have begun, and under each name what was

@@ -1,7 +1,7 @@
 -- The guarantees in a round, and when they fit.
 use Rattle.std.specs.Prelude.{ℕ, ◌+◌, ◌%◌, ◌-◌, ◌≤◌, min, List, map, sum}
 use Rattle.line_rates.specs.declared.rate.TheConstants.{MAX_RATE}
-use Rattle.round_pace.specs.Earned.{share, begun_in, refilled, session_left}
+use Rattle.round_pace.specs.Earned.{share, begun_in, refilled}
 
 -- number of ticks that a round's guarantees are for: those since the ticks begun before, at most 50
 abbrev pub ticks_due : ℕ → ℕ → ℕ
@@ -19,8 +19,8 @@ FloorsFitOffers =
     → sum floors ≤ rate
     → sum (map (floor_in begun tick) floors) ≤ refilled rate left begun tick
 
--- The same for one session and its session rate, of which a round is offered what was earned since
--- the ticks begun before.
+-- The same for one session and its session rate.
 abbrev pub FloorFitsSession : Type 0
-FloorFitsSession = (rate begun tick floor : ℕ) → rate ≤ MAX_RATE → begun ≤ tick → floor ≤ rate
-    → floor_in begun tick floor ≤ session_left rate begun tick
+FloorFitsSession =
+    (rate left begun tick floor : ℕ) → rate ≤ MAX_RATE → begun ≤ tick → floor ≤ rate
+    → floor_in begun tick floor ≤ refilled rate left begun tick

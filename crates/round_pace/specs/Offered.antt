@@ -12,7 +12,7 @@ use Rattle.round_pace.specs.declared.due.Due.TheVariants.{Now, At}
 use Rattle.round_pace.specs.declared.paced.GroupPace.{GroupPace}
 use Rattle.round_pace.specs.declared.paced.UserPace.{UserPace}
 use Rattle.round_pace.specs.Credits.{refill_row, is_dry}
-use Rattle.round_pace.specs.Earned.{tick_of, as_rate, session_offered}
+use Rattle.round_pace.specs.Earned.{tick_of, as_rate}
 use Rattle.round_pace.specs.FloorsFit.{floor_in}
 use Rattle.round_pace.specs.Paced.{Paced, group_key, pace_number, AreTheGroups, AreTheUsers}
 
@@ -21,8 +21,13 @@ refill_group begun tick g =
     record { group = g.group; down = refill_row begun tick g.down; up = refill_row begun tick g.up }
 
 abbrev pub refill_user : ℕ → ℕ → UserPace → UserPace
-refill_user begun tick u =
-    record { row = u.row; down = refill_row begun tick u.down; up = refill_row begun tick u.up }
+refill_user begun tick u = record {
+  row = u.row;
+  down = refill_row begun tick u.down;
+  up = refill_row begun tick u.up;
+  session_down = refill_row begun tick u.session_down;
+  session_up = refill_row begun tick u.session_up;
+}
 
 -- all rows after the refill, in the first round of a tick
 abbrev pub refill_all : ℕ → Paced → Paced
@@ -40,9 +45,6 @@ refill_all tick p = if nat_le p.begun tick then record {
 abbrev pub credit_rate : Credit → ℕ
 credit_rate c = as_rate c.rate c.left
 
-abbrev pub session_rate : ℕ → ℕ → ℕ → ℕ
-session_rate rate begun tick = as_rate rate (session_offered rate begun tick)
-
 -- the guarantee of a session in a round, in the first round of a tick
 abbrev pub floor_rate : ℕ → ℕ → ℕ → ℕ
 floor_rate floor begun tick = if nat_le begun tick then 10 * floor_in begun tick floor else 0
@@ -57,8 +59,8 @@ offer_user begun tick u = record {
   group = u.row.group;
   down = credit_rate u.down;
   up = credit_rate u.up;
-  session_down = session_rate u.row.session_down begun tick;
-  session_up = session_rate u.row.session_up begun tick;
+  session_down = credit_rate u.session_down;
+  session_up = credit_rate u.session_up;
   session_down_floor = floor_rate u.row.session_down_floor begun tick;
   session_up_floor = floor_rate u.row.session_up_floor begun tick;
 }

@@ -33,8 +33,12 @@ pub record IsUserPace (u : UserPace) : Type 0 where
   pub row : FitsUser u.row
   pub down : IsCredit u.down
   pub up : IsCredit u.up
+  pub session_down : IsCredit u.session_down
+  pub session_up : IsCredit u.session_up
   pub down_rate : u.down.rate ≡ u.row.down
   pub up_rate : u.up.rate ≡ u.row.up
+  pub session_down_rate : u.session_down.rate ≡ u.row.session_down
+  pub session_up_rate : u.session_up.rate ≡ u.row.session_up
 
 abbrev pub group_key : GroupPace → ℕ
 group_key g = g.group
@@ -72,7 +76,13 @@ abbrev pub new_group : GroupRate → GroupPace
 new_group row = record { group = row.group; down = no_credit row.down; up = no_credit row.up }
 
 abbrev pub new_user : UserRate → UserPace
-new_user row = record { row = row; down = no_credit row.down; up = no_credit row.up }
+new_user row = record {
+  row = row;
+  down = no_credit row.down;
+  up = no_credit row.up;
+  session_down = no_credit row.session_down;
+  session_up = no_credit row.session_up;
+}
 
 -- the pace of some rates, with nothing earned
 pub record IsPacedFrom (begun : ℕ) (rates : Rates) (p : Paced) : Type 0 where
@@ -105,8 +115,16 @@ group_pace_code = code_by (ℕ × (Credit × Credit)) (coded× coded_ℕ (coded�
 
 abbrev pub user_pace_code : Coded UserPace
 user_pace_code =
-    code_by (UserRate × (Credit × Credit)) (coded× user_code (coded× credit_code credit_code))
-    (λ u. (u.row, (u.down, u.up))) (λ p. record { row = p.0; down = p.1.0; up = p.1.1 })
+    code_by (UserRate × ((Credit × Credit) × (Credit × Credit)))
+    (coded× user_code (coded× (coded× credit_code credit_code) (coded× credit_code credit_code)))
+    (λ u. (u.row, ((u.down, u.up), (u.session_down, u.session_up))))
+    (λ p. record {
+      row = p.0;
+      down = p.1.0.0;
+      up = p.1.0.1;
+      session_down = p.1.1.0;
+      session_up = p.1.1.1;
+    })
     (λ _. refl)
 
 abbrev pub paced_code : Coded Paced

@@ -9,7 +9,7 @@ use Rattle.line_rates.specs.Rates.{way_of, group_rate}
 use Rattle.line_rates.specs.Stated.{by_number, user_number}
 use Rattle.rate_floors.specs.declared.find.UserSessions.{UserSessions}
 use Rattle.rate_floors.specs.Promises.{Promises, PromisesFit, user_row}
-use Rattle.round_pace.specs.Earned.{share, as_rate, refilled, session_left}
+use Rattle.round_pace.specs.Earned.{share, as_rate, refilled}
 use Rattle.round_pace.specs.FloorsFit.{ticks_due}
 
 -- the octets left under the rates of the server, the ways, the groups, the users, and each session
@@ -65,8 +65,7 @@ PromisesStayFit =
     (ticks : ℕ) (p q : Promises) (left : Lefts) → PromisesFit p → HasEarned ticks p left
     → IsOffered ticks p left q → PromisesFit q
 
--- As a tick begins, a row has earned the ticks that are due, and so has a session.
+-- As a tick begins, a row has earned the ticks that are due.
 abbrev pub EarnsItsTicks : Type 0
 EarnsItsTicks = (rate left begun tick : ℕ) → rate ≤ MAX_RATE → begun ≤ tick
-    → (share rate (ticks_due begun tick) ≤ refilled rate left begun tick)
-    × (share rate (ticks_due begun tick) ≤ session_left rate begun tick)
+    → share rate (ticks_due begun tick) ≤ refilled rate left begun tick

@@ -1,7 +1,7 @@
 -- Rounds under a rate, and their grants in a second.
-use Rattle.std.specs.Prelude.{◌≡◌, ℕ, ◌+◌, ◌-◌, ◌*◌, ◌/◌, ◌<◌, ◌≤◌, Bool, ◌&&◌, nat_eq, nat_le, nat_lt, if◌then◌else◌, List, [], ◌∷◌, sum_by}
+use Rattle.std.specs.Prelude.{◌≡◌, ℕ, ◌+◌, ◌-◌, ◌*◌, ◌/◌, ◌<◌, ◌≤◌, Bool, ◌&&◌, nat_eq, nat_le, nat_lt, if◌then◌else◌, List, [], ◌∷◌, map, sum_by}
 use Rattle.line_rates.specs.declared.rate.TheConstants.{MAX_RATE}
-use Rattle.round_pace.specs.Earned.{tick_of, offered, session_offered, uncut, most_kept, share}
+use Rattle.round_pace.specs.Earned.{tick_of, offered, uncut, most_kept, share}
 
 -- a round: its real moment in microseconds, and its grants under the rate in octets
 pub record Round : Type 0 where
@@ -101,14 +101,29 @@ ReachesRates =
     → ArePrompt (500 * second) (r ∷ rs) → begun_last begun (r ∷ rs) ≡ 500 * second + 500
     → sum_by granted_of (r ∷ rs) ≡ rate
 
--- Rounds under a session's rate. A round in which the session does not ask grants it nothing.
-abbrev pub AreSessionRounds : ℕ → ℕ → List Round → Type 0
-AreSessionRounds rate begun [] = Unit {0}
-AreSessionRounds rate begun (r ∷ rs) = (begun ≤ begun_after r)
-    × (r.granted ≤ session_offered rate begun (tick_of r.now))
-    × AreSessionRounds rate (begun_after r) rs
+-- a round under a session's rate: its real moment, its grants to the session, and its grants to all
+-- sessions of the user, which are subtracted from what is left of any
+pub record SessionRound : Type 0 where
+  pub now : ℕ
+  pub granted : ℕ
+  pub taken : ℕ
+
+-- the round with its grants to the session, and with those to all sessions
+abbrev pub own_round : SessionRound → Round
+own_round r = record { now = r.now; granted = r.granted }
+
+abbrev pub all_taken : SessionRound → Round
+all_taken r = record { now = r.now; granted = r.taken }
+
+-- Rounds under a session's rate: as under another rate, but more is subtracted than is granted.
+abbrev pub AreSessionRounds : ℕ → ℕ → ℕ → List SessionRound → Type 0
+AreSessionRounds rate left begun [] = Unit {0}
+AreSessionRounds rate left begun (r ∷ rs) = (begun ≤ begun_after (own_round r))
+    × (r.granted ≤ r.taken) × (r.granted ≤ offered rate left begun (tick_of r.now))
+    × AreSessionRounds rate (left_after rate left begun (all_taken r)) (tick_of r.now + 1) rs
 
 -- They are rounds as under any other rate, so a session's rate is kept in the same way.
 abbrev pub SessionsAreRounds : Type 0
-SessionsAreRounds = (rate left begun : ℕ) (rounds : List Round) → AreSessionRounds rate begun rounds
-    → AreRounds rate left begun rounds
+SessionsAreRounds =
+    (rate left begun : ℕ) (rounds : List SessionRound) → AreSessionRounds rate left begun rounds
+    → AreRounds rate left begun (map own_round rounds)

@@ -21,6 +21,15 @@ user_row_credit way (Some u) = credit_of way u.down u.up
 abbrev pub user_credit : Way → List UserPace → ℕ → Credit
 user_credit way users user = user_row_credit way (finite.get (by_number pace_number users) user)
 
+-- the credit that each session of a user has at least
+abbrev pub session_row_credit : Way → Option UserPace → Credit
+session_row_credit way None = no_credit 0
+session_row_credit way (Some u) = credit_of way u.session_down u.session_up
+
+abbrev pub session_credit : Way → List UserPace → ℕ → Credit
+session_credit way users user =
+    session_row_credit way (finite.get (by_number pace_number users) user)
+
 -- the credit of a group and a way, likewise
 abbrev pub group_row_credit : Way → Option GroupPace → Credit
 group_row_credit way None = no_credit 0
@@ -36,7 +45,8 @@ abbrev pub floor_of : Way → UserRate → ℕ
 floor_of Down row = row.session_down_floor
 floor_of Up row = row.session_up_floor
 
--- each session of the user has a rate or a guarantee, which are earned from one round to the next
+-- Each session of the user has a rate, which they have in common, or a guarantee, which is earned
+-- from one round to the next.
 abbrev pub is_row_timed : Way → Option UserPace → Bool
 is_row_timed way None = false
 is_row_timed way (Some u) =

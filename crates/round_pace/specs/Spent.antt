@@ -1,5 +1,5 @@
 -- Users' transfers with nothing left in a tick that has begun.
-use Rattle.std.specs.Prelude.{ℕ, ◌*◌, ◌-◌, ◌^◌, Bool, false, ◌||◌, not, nat_eq, nat_le, min, if◌then◌else◌, List, Option, Some, None}
+use Rattle.std.specs.Prelude.{ℕ, ◌*◌, ◌-◌, ◌^◌, Bool, false, ◌||◌, nat_le, min, if◌then◌else◌, List, Option, Some, None}
 use Rattle.std.specs.FinMap as finite
 use Rattle.line_rates.specs.declared.ask.Way.{Way}
 use Rattle.line_rates.specs.declared.ask.Way.TheVariants.{Down, Up}
@@ -24,9 +24,10 @@ abbrev pub session_of : Way → UserRate → ℕ
 session_of Down row = row.session_down
 session_of Up row = row.session_up
 
--- The user has a session rate, which is offered only as a tick begins, or nothing left.
+-- Nothing is left of the user, or of their sessions.
 abbrev pub is_spent : Way → UserPace → Bool
-is_spent way u = not (nat_eq (session_of way u.row) 0) || is_dry (credit_of way u.down u.up)
+is_spent way u =
+    is_dry (credit_of way u.session_down u.session_up) || is_dry (credit_of way u.down u.up)
 
 abbrev pub is_row_spent : Way → Option UserPace → Bool
 is_row_spent way None = false

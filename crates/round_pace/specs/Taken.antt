@@ -27,8 +27,13 @@ take_group way octets g =
     }
 
 abbrev pub take_user : Way → ℕ → UserPace → UserPace
-take_user way octets u =
-    record { row = u.row; down = take_if_down way octets u.down; up = take_if_up way octets u.up }
+take_user way octets u = record {
+  row = u.row;
+  down = take_if_down way octets u.down;
+  up = take_if_up way octets u.up;
+  session_down = take_if_down way octets u.session_down;
+  session_up = take_if_up way octets u.session_up;
+}
 
 abbrev pub group_in : Option UserPace → Option ℕ
 group_in None = None

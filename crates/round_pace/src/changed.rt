@@ -8,7 +8,7 @@ ghost use Rattle.round_pace.specs.Paced.{group_key, pace_number, IsGroupPace, Is
 
 use crate::credit::changed_credit;
 use crate::paced::{GroupPace, UserPace};
-use crate::rows::{group_credit, user_credit};
+use crate::rows::{group_credit, session_credit, user_credit};
 use line_rates::{GroupRate, UserRate, Way};
 use std::alloc::{AllocError, Allocator};
 
@@ -36,6 +36,8 @@ fn changed_user(users: &[UserPace], row: UserRate) -> UserPace
         row,
         down: changed_credit(row.down, user_credit(users, row.user, Way::Down)),
         up: changed_credit(row.up, user_credit(users, row.user, Way::Up)),
+        session_down: changed_credit(row.session_down, session_credit(users, row.user, Way::Down)),
+        session_up: changed_credit(row.session_up, session_credit(users, row.user, Way::Up)),
     }
 }
 

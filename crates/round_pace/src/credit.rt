@@ -2,7 +2,7 @@
 
 ghost use Rattle.std.specs.Prelude.{◌≡◌, ◌≤◌};
 ghost use Rattle.round_pace.specs.Credits.{IsCredit, refill_row, take_row, is_dry};
-ghost use Rattle.round_pace.specs.Earned.{share, begun_in, refilled, most_kept, as_rate, session_left};
+ghost use Rattle.round_pace.specs.Earned.{share, begun_in, refilled, most_kept, as_rate};
 ghost use Rattle.round_pace.specs.Changed.{changed_credit};
 ghost use Rattle.round_pace.specs.FloorsFit.{floor_in};
 
@@ -73,16 +73,6 @@ pub(crate) fn as_rate(credit: Credit) -> u64
         return 0;
     }
     10 * credit.left + 1
-}
-
-/// Offer to the first round of a tick under a session's rate, in octets, if `begun` ticks had begun before.
-pub(crate) fn session_left(rate: u64, begun: u64, tick: u64) -> u64
-    requires rate { rate ≤ MAX_RATE }
-    requires later { begun ≤ tick }
-    ensures left { result ≡ session_left rate begun tick }
-{
-    let earned = share(rate, tick % TICKS + 1) - share(rate, begun_in(begun, tick));
-    earned.min(most_kept(rate))
 }
 
 /// The guarantee of a session in the first round of a tick, if `begun` ticks had begun before.

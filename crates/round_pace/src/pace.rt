@@ -91,6 +91,14 @@ fn new_users<A: Allocator>(alloc: A, rows: &[UserRate]) -> Result<Vec<UserPace, 
                 rate: row.up,
                 left: 0,
             },
+            session_down: Credit {
+                rate: row.session_down,
+                left: 0,
+            },
+            session_up: Credit {
+                rate: row.session_up,
+                left: 0,
+            },
         })?;
     }
     Ok(users)
@@ -201,8 +209,8 @@ impl<A: Allocator> Pace<A> {
         &self.offered
     }
 
-    /// Subtracts octets granted to a user from what is left under the rates of the server, the way, the user and their
-    /// group.
+    /// Subtracts octets granted to a user from what is left under the rates of the server, the way, the user, their
+    /// group and their sessions.
     pub fn took(&mut self, way: Way, user: u32, octets: u64)
         ensures taken { self.new ≡ take_octets way user octets self.old }
     {

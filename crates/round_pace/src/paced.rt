@@ -5,12 +5,12 @@ ghost use Rattle.std.specs.List.{All};
 ghost use Rattle.line_rates.specs.Put.{FindsPlace};
 ghost use Rattle.line_rates.specs.Stated.{FitsGroup, FitsUser, IsRising};
 ghost use Rattle.round_pace.specs.Credits.{IsCredit};
-ghost use Rattle.round_pace.specs.Offered.{refill_group, refill_user, credit_rate, session_rate, floor_rate, offer_group, offer_user, put_groups, put_users};
+ghost use Rattle.round_pace.specs.Offered.{refill_group, refill_user, credit_rate, floor_rate, offer_group, offer_user, put_groups, put_users};
 ghost use Rattle.round_pace.specs.Paced.{group_key, pace_number, IsGroupPace, IsUserPace};
 ghost use Rattle.round_pace.specs.Spent.{credit_of, session_of, is_spent, is_user_spent, is_group_spent};
 ghost use Rattle.round_pace.specs.Taken.{take_if_down, take_if_up, take_group, take_user, group_of, take_users, take_groups};
 
-use crate::credit::{Credit, as_rate, floor_in, is_dry, refill_row, session_left, take_row};
+use crate::credit::{Credit, as_rate, floor_in, is_dry, refill_row, take_row};
 use line_rates::{GroupRate, Limits, MAX_RATE, UserRate, Way};
 use std::alloc::Allocator;
 
@@ -34,6 +34,10 @@ pub struct UserPace {
     pub down: Credit,
     /// The credit of the user's uploads.
     pub up: Credit,
+    /// The credit that each session has at least for its downloads.
+    pub session_down: Credit,
+    /// The credit that each session has at least for its uploads.
+    pub session_up: Credit,
 }
 
 /// The rate that is handed in for what is left of a credit.
@@ -43,20 +47,6 @@ pub(crate) fn credit_rate(credit: Credit) -> u64
     ensures most { result ≤ MAX_RATE }
 {
     as_rate(credit)
-}
-
-fn session_rate(rate: u64, begun: u64, tick: u64) -> u64
-    requires rate { rate ≤ MAX_RATE }
-    ensures rate { result ≡ session_rate rate begun tick }
-    ensures most { result ≤ MAX_RATE }
-{
-    if tick < begun {
-        return as_rate(Credit { rate, left: 0 });
-    }
-    as_rate(Credit {
-        rate,
-        left: session_left(rate, begun, tick),
-    })
 }
 
 fn floor_rate(floor: u64, begun: u64, tick: u64) -> u64
@@ -92,8 +82,8 @@ fn offer_user(user: UserPace, begun: u64, tick: u64) -> UserRate
         group: user.row.group,
         down: credit_rate(user.down),
         up: credit_rate(user.up),
-        session_down: session_rate(user.row.session_down, begun, tick),
-        session_up: session_rate(user.row.session_up, begun, tick),
+        session_down: credit_rate(user.session_down),
+        session_up: credit_rate(user.session_up),
         session_down_floor: floor_rate(user.row.session_down_floor, begun, tick),
         session_up_floor: floor_rate(user.row.session_up_floor, begun, tick),
     }
@@ -122,6 +112,8 @@ fn refill_user(user: UserPace, begun: u64, tick: u64) -> UserPace
         row: user.row,
         down: refill_row(user.down, begun, tick),
         up: refill_row(user.up, begun, tick),
+        session_down: refill_row(user.session_down, begun, tick),
+        session_up: refill_row(user.session_up, begun, tick),
     }
 }
 
@@ -219,6 +211,8 @@ fn take_user(user: UserPace, way: Way, octets: u64) -> UserPace
         row: user.row,
         down: take_if_down(user.down, way, octets),
         up: take_if_up(user.up, way, octets),
+        session_down: take_if_down(user.session_down, way, octets),
+        session_up: take_if_up(user.session_up, way, octets),
     }
 }
 
@@ -323,11 +317,12 @@ pub(crate) fn session_of(row: UserRate, way: Way) -> u64
     }
 }
 
-// Returns whether the user has a session rate, or nothing left.
+// Returns whether nothing is left of the user or of their sessions.
 fn is_spent(user: UserPace, way: Way) -> bool
     ensures spent { result ≡ is_spent way user }
 {
-    session_of(user.row, way) != 0 || is_dry(credit_of(user.down, user.up, way))
+    is_dry(credit_of(user.session_down, user.session_up, way))
+        || is_dry(credit_of(user.down, user.up, way))
 }
 
 /// Returns whether nothing is left for a user's transfers of one way, under the rates of the user and of each session,

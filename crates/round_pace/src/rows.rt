@@ -3,7 +3,7 @@
 ghost use Rattle.std.specs.Prelude.{◌≡◌};
 ghost use Rattle.line_rates.specs.Stated.{IsRising};
 ghost use Rattle.round_pace.specs.Paced.{group_key, pace_number, no_credit};
-ghost use Rattle.round_pace.specs.Rows.{floor_of, user_credit, group_credit, is_timed};
+ghost use Rattle.round_pace.specs.Rows.{floor_of, user_credit, session_credit, group_credit, is_timed};
 
 use crate::credit::Credit;
 use crate::paced::{GroupPace, UserPace, credit_of, find_group, find_user, session_of};
@@ -23,8 +23,8 @@ pub struct TransferRows {
     pub user: Credit,
     /// The number of the user's group, if they are in one.
     pub group_number: Option<u32>,
-    /// True if each session of the user has a rate or a guarantee of this direction: these are earned from one round
-    /// to the next and not kept.
+    /// True if each session of the user has a rate or a guarantee of this direction: sessions have their rate's credit in
+    /// common, and a guarantee is earned from one round to the next and not kept.
     pub is_timed: bool,
 }
 
@@ -51,6 +51,17 @@ pub(crate) fn user_credit(users: &[UserPace], user: u32, way: Way) -> Credit
 {
     match find_user(users, user) {
         Some(place) => credit_of(users[place].down, users[place].up, way),
+        None => no_limit(),
+    }
+}
+
+/// The credit that each session of a user has at least for one way.
+pub(crate) fn session_credit(users: &[UserPace], user: u32, way: Way) -> Credit
+    requires rising { IsRising pace_number users.now }
+    ensures credit { result ≡ session_credit way users.now user }
+{
+    match find_user(users, user) {
+        Some(place) => credit_of(users[place].session_down, users[place].session_up, way),
         None => no_limit(),
     }
 }

@@ -25,6 +25,8 @@ pub struct LaneSign {
     moved: AtomicU64,
     // the number of rounds refused since the last that was not, among those that answered the lane
     refused: AtomicU64,
+    // 1 if the last grant was all that was asked for, otherwise 0
+    whole: AtomicU64,
 }
 
 // The number of rounds refused in a row, after one more round.
@@ -60,6 +62,7 @@ impl LaneSign {
             transfers: AtomicU64::new(0),
             moved: AtomicU64::new(0),
             refused: AtomicU64::new(0),
+            whole: AtomicU64::new(0),
         }
     }
 
@@ -69,6 +72,16 @@ impl LaneSign {
         self.refused
             .store(refused_after(refused, is_refused), Ordering::SeqCst);
         self.answered.signal();
+    }
+
+    /// Sets whether the last grant of the lane was all that it asked for.
+    pub fn set_whole(&self, is_whole: bool) {
+        self.whole.store(u64::from(is_whole), Ordering::SeqCst);
+    }
+
+    /// Returns whether the last grant was all that was asked for: no rate held the transfer back.
+    pub fn is_whole(&self) -> bool {
+        self.whole.load(Ordering::SeqCst) == 1
     }
 
     /// Returns whether the lane's transfer is to end for lack of memory: [`MOST_REFUSED`] rounds in a row were refused.
@@ -81,6 +94,7 @@ impl LaneSign {
     pub fn set_session(&self, session: Option<u32>) {
         self.refused.store(0, Ordering::SeqCst);
         self.moved.store(0, Ordering::SeqCst);
+        self.whole.store(0, Ordering::SeqCst);
         if session.is_some() {
             self.transfers.fetch_add(1, Ordering::SeqCst);
         }

@@ -60,32 +60,41 @@ fn rates(pace: &Pace) -> (u64, u64, u64, u64) {
     }
 }
 
-/// Rounds: their moments, the rates for them, and their grants to the user down and up.
-static ROUNDS: [(u64, (u64, u64, u64, u64), u64, u64); 6] = [
+/// Rounds: their moments, the rates for them, their grants to the user down and up, and whether a download of the user
+/// can be granted more in the same tick.
+static ROUNDS: [(u64, (u64, u64, u64, u64), u64, u64, bool); 8] = [
     // the first tick: a five-hundredth of each rate, ten times, and one more; the guarantee ten times
-    (4_000_000, (101, 201, 11, 10), 4, 20),
-    // the same tick: what is left, and nothing for a session
-    (4_001_999, (61, 1, 1, 0), 6, 0),
+    (4_000_000, (101, 201, 11, 10), 1, 20, false),
+    // the same tick: what is left, and nothing of the session's octet
+    (4_001_999, (91, 1, 1, 0), 0, 0, false),
     // three ticks later, together
-    (4_007_000, (301, 601, 31, 30), 0, 0),
+    (4_007_000, (391, 601, 31, 30), 2, 0, true),
+    // the same tick: the session has an octet left
+    (4_007_999, (371, 601, 11, 0), 0, 0, true),
+    // a tick later, it has that and another; sessions together got more
+    (4_009_000, (471, 801, 21, 10), 3, 0, false),
     // late: at most a tenth of a second and an octet
-    (4_900_000, (5_011, 10_011, 511, 500), 501, 1_001),
+    (4_900_000, (5_011, 10_011, 511, 500), 501, 1_001, false),
     // the second's last tick
-    (4_999_000, (4_901, 9_801, 491, 490), 0, 0),
+    (4_999_000, (4_901, 9_801, 491, 490), 0, 0, true),
     // the next second begins with one tick of its own
-    (5_000_000, (101, 201, 11, 10), 0, 0),
+    (5_000_000, (101, 201, 11, 10), 0, 0, true),
 ];
 
 #[test]
 fn rounds_are_paced(rt: HostRuntime) {
     let mut pace = pace_of_a_user(&rt);
     let mut moment = 0u64;
-    for (now, offered, down, up) in &ROUNDS {
+    for (now, offered, down, up, is_due) in &ROUNDS {
         moment = moment.saturating_add(1_000);
         holds(&rt, pace.offer(*now) == moment);
         holds(&rt, rates(&pace) == *offered);
         pace.took(Way::Down, 3, *down);
         pace.took(Way::Up, 3, *up);
         holds(&rt, pace.due(*now) == Due::Now);
+        holds(
+            &rt,
+            (pace.due_for(Way::Down, 3, *now) == Due::Now) == *is_due,
+        );
     }
 }

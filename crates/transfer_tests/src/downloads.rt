@@ -237,6 +237,77 @@ fn a_full_buffer(rt: HostRuntime) {
     expect_moved(&rt, fewer, DataType::Ascii, &[65_536, 14_464, 0]);
 }
 
+/// Reads of a source of 100,000 octets: one for a full buffer, one of ten octets, and one that fails.
+const READS: [Scheduled; 3] = [Scheduled::Move(65_536), Scheduled::Move(10), FAULT];
+
+/// Grants; and then the octets that wait after each pump, and after they were topped up.
+static TOPPED: [(u64, usize, usize); 6] = [
+    // half of the most is not few
+    (32_768, 32_768, 32_768),
+    (1, 32_767, 32_777),
+    // a read that fails, and then one that fills the buffer
+    (10, 32_767, 32_767),
+    (0, 32_767, 65_536),
+    // the rest, after which the source has ended
+    (65_536, 1_685, 1_685),
+    (1_685, 0, 0),
+];
+
+// Pumps a grant and tops up. Returns whether it moves, and these numbers of octets wait then.
+fn is_topped(
+    out: &mut DataOut<Octets<'_>, Outlet<'_>>,
+    funds: &mut Funds,
+    step: (u64, usize, usize),
+) -> bool {
+    let pumped = pump_out(funds.grant(step.0), out, &mut funds.tally);
+    let waited = out.waiting();
+    out.top_up();
+    (waited, out.waiting()) == (step.1, step.2)
+        && pumped.moved == step.0
+        && out.last() == pumped.end
+}
+
+#[test]
+fn few_octets_are_topped_up(rt: HostRuntime) {
+    let alloc = rt.alloc();
+    let mut text = Vec::new(alloc);
+    for place in 0..100_000u32 {
+        text.push((place % 251) as u8).expect(&rt, "memory");
+    }
+    let mut funds = Funds::new(alloc, &[100_000]).expect(&rt, "memory");
+    let mut taken = Vec::new(alloc);
+    let outlet = Outlet {
+        taken: &mut taken,
+        schedule: &[],
+    };
+    let source = Octets {
+        rest: &text,
+        schedule: &READS,
+    };
+    let out = DataOut::open(alloc, source, outlet, DataType::Image);
+    let mut out = out.expect(&rt, "a download");
+    for step in &TOPPED {
+        holds(&rt, is_topped(&mut out, &mut funds, *step));
+    }
+    holds(&rt, out.ended());
+    drop(out);
+    holds(&rt, taken == text && funds.settle().moved == 100_000);
+}
+
+// Under TYPE A only an empty buffer is filled.
+#[test]
+fn a_text_is_not_topped_up(rt: HostRuntime) {
+    let mut funds = Funds::new(rt.alloc(), &[1]).expect(&rt, "memory");
+    let connection: Vec<u8> = Vec::new(rt.alloc());
+    let source = octets(b"ab");
+    let out = DataOut::open(rt.alloc(), source, connection, DataType::Ascii);
+    let mut out = out.expect(&rt, "a download");
+    pump_out(funds.grant(1), &mut out, &mut funds.tally);
+    out.top_up();
+    holds(&rt, out.waiting() == 1 && !out.ended());
+    funds.settle();
+}
+
 const READER: (Option<FailedPart>, Option<FailedPart>) = (
     Some(FailedPart::Source),
     Some(FailedPart::Connection),

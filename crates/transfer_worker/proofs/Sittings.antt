@@ -10,18 +10,26 @@ use Rattle.grant_ledger.specs.Books.{TallyView, capped}
 use Rattle.data_pump.specs.declared.pumped.PumpEnd.{PumpEnd}
 use Rattle.data_pump.specs.declared.pumped.PumpEnd.TheVariants as pump
 use Rattle.data_pump.specs.declared.pumped.Pumped.{Pumped}
+use Rattle.data_pump.specs.Uploads.{InView}
 use Rattle.desk_rule.specs.declared.view.LaneView.{LaneView}
 use Rattle.desk_rule.specs.Lanes.{sat_down}
 use Rattle.transfer_worker.specs.declared.end.JobEnd.{JobEnd}
 use Rattle.transfer_worker.specs.declared.end.JobEnd.TheVariants.{Stopped}
 use Rattle.transfer_worker.specs.Ends.{Tells, end_of}
 use Rattle.transfer_worker.specs.Passes.{PassCall}
-use Rattle.transfer_worker.specs.Transfers.{Flow, Known, Pumps, way_in, last_in}
+use Rattle.transfer_worker.specs.Transfers.{Flow, Known, Pumps, ToppedUp, way_in, last_in}
 use Rattle.transfer_worker.specs.Transfers.Flow.{Sending, Receiving}
 use Rattle.transfer_worker.specs.Runs.{WorkerView, worker, counted, Turn, Halt, asks_at, looks_at, calls_at, calls_in, calls_of, moves_of, looks_of, Adds, Bears, IsTurn, AreTurns, EndsAt}
 use Rattle.transfer_worker.specs.Works.{RunsTransfer}
 use Rattle.transfer_worker.proofs.Adding.{adds_none, adds_then, adds_as, adds_still, counted_append}
 use Rattle.transfer_worker.proofs.Steps.{Asked, Heard}
+
+-- an end of a job is no pump's More
+pub not_more : (p : PumpEnd) (end : JobEnd) → end_of p ≡ Some end → p ≢ pump.More
+not_more p end is e = clash (sym (ap end_of e) ∙ is)
+  where
+    clash : None ≡ Some end → ⊥
+    clash f = cc
 
 -- no pump's end is Stopped
 pub not_stopped : (p : PumpEnd) (end : JobEnd) → end_of p ≡ Some end → end ≢ Stopped
@@ -45,7 +53,7 @@ calls_push session moved (u ∷ turns) t =
     ∙ sym (append_assoc (calls_in session moved u) (calls_of session (capped moved u.pumped.moved) turns) (calls_in session (counted (capped moved u.pumped.moved) (moves_of turns)) t))
 
 module _ {R K C : Type 0} (k : Known R K C) where
-  pub pumps_way : (octets : ℕ) (flow next : Flow R K C) (pumped : Pumped) → Pumps k octets flow next pumped → way_in next ≡ way_in flow
+  pumps_way : (octets : ℕ) (flow next : Flow R K C) (pumped : Pumped) → Pumps k octets flow next pumped → way_in next ≡ way_in flow
   pumps_way octets (Sending old) (Sending new) pumped p = refl
   pumps_way octets (Sending old) (Receiving new) pumped p = absurd p
   pumps_way octets (Receiving old) (Sending new) pumped p = absurd p
@@ -56,6 +64,44 @@ module _ {R K C : Type 0} (k : Known R K C) where
   pumps_last octets (Sending old) (Receiving new) pumped p = absurd p
   pumps_last octets (Receiving old) (Sending new) pumped p = absurd p
   pumps_last octets (Receiving old) (Receiving new) pumped p = p.1
+
+  -- topping up changes neither the way nor the end of the last pump
+  topped_way : (flow next : Flow R K C) → ToppedUp k flow next → way_in next ≡ way_in flow
+  topped_way (Sending old) (Sending new) p = refl
+  topped_way (Sending old) (Receiving new) p = absurd p
+  topped_way (Receiving old) (Sending new) p = absurd p
+  topped_way (Receiving old) (Receiving new) p = refl
+
+  pub topped_last : (flow next : Flow R K C) → ToppedUp k flow next → last_in next ≡ last_in flow
+  topped_last (Sending old) (Sending new) p = p.1
+  topped_last (Sending old) (Receiving new) p = absurd p
+  topped_last (Receiving old) (Sending new) p = absurd p
+  topped_last (Receiving old) (Receiving new) p = ap (λ (u : InView C K). u.last) p
+
+  turn_way : (flow next : Flow R K C) (t : Turn) → IsTurn k flow t next → way_in next ≡ way_in flow
+  turn_way flow next t turn = go t.pumped.end refl ∙ pumps_way t.octets flow turn.pumped t.pumped turn.pumps
+    where
+      over : t.pumped.end ≢ pump.More → way_in next ≡ way_in turn.pumped
+      over not = ap way_in (turn.ends not)
+
+      go : (end : PumpEnd) → t.pumped.end ≡ end → way_in next ≡ way_in turn.pumped
+      go pump.More e = topped_way turn.pumped next (turn.tops e)
+      go pump.Ended e = over (λ f. absurd (clash (sym e ∙ f)))
+        where
+          clash : pump.Ended ≡ pump.More → ⊥
+          clash f = cc
+      go pump.ReadFault e = over (λ f. absurd (clash (sym e ∙ f)))
+        where
+          clash : pump.ReadFault ≡ pump.More → ⊥
+          clash f = cc
+      go pump.WriteFault e = over (λ f. absurd (clash (sym e ∙ f)))
+        where
+          clash : pump.WriteFault ≡ pump.More → ⊥
+          clash f = cc
+      go pump.Memory e = over (λ f. absurd (clash (sym e ∙ f)))
+        where
+          clash : pump.Memory ≡ pump.More → ⊥
+          clash f = cc
 
   turns_push : (start flow next : Flow R K C) (turns : List Turn) (t : Turn) → AreTurns k start turns flow → IsTurn k flow t next → AreTurns k start (turns ++ t ∷ []) next
   turns_push start flow next [] t are turn = (next, subst (λ (f : Flow R K C). IsTurn k f t next) are turn, refl)
@@ -92,7 +138,7 @@ module _ {R K C : Type 0} (k : Known R K C) where
         let moves = map-append (λ (u : Turn). u.pumped.moved) s.turns (t ∷ []) in record {
           turns = s.turns ++ t ∷ [];
           are_turns = turns_push start now next s.turns t s.are_turns turn;
-          way_is = pumps_way t.octets now next t.pumped turn.pumps ∙ s.way_is;
+          way_is = turn_way now next t turn ∙ s.way_is;
           bear = subst (λ (l : List Ask). All (Bears user session (way_in start)) l) (sym asks)
               (All-push (Bears user session (way_in start)) (map (λ (u : Turn). u.ask) s.turns) t.ask s.bear (bears.0, bears.1, bears.2 ∙ s.way_is));
           moved_is = ap (λ (n : ℕ). capped n t.pumped.moved) s.moved_is ∙ sym (ap (λ (l : List ℕ). counted 0 l) moves ∙ counted_append 0 (moves_of s.turns) (t.pumped.moved ∷ []));

@@ -1,5 +1,5 @@
 -- Runs of a transfer: turn by turn, between a gate and a lane.
-use Rattle.std.specs.Prelude.{◌≡◌, ℕ, ◌+◌, ◌++◌, List, [], ◌∷◌, length, map, Option, Some, None}
+use Rattle.std.specs.Prelude.{◌≡◌, ◌≢◌, ℕ, ◌+◌, ◌++◌, List, [], ◌∷◌, length, map, Option, Some, None}
 use Rattle.std.specs.List.{sum_by}
 use Rattle.line_rates.specs.declared.ask.Ask.{Ask}
 use Rattle.line_rates.specs.declared.ask.Way.{Way}
@@ -12,7 +12,7 @@ use Rattle.transfer_worker.specs.declared.end.JobEnd.TheVariants.{Stopped}
 use Rattle.transfer_worker.specs.declared.gate.Go.TheVariants.{On, Stop}
 use Rattle.transfer_worker.specs.Ends.{end_of}
 use Rattle.transfer_worker.specs.Passes.{PassCall, Passes, calls_until, leaves}
-use Rattle.transfer_worker.specs.Transfers.{Flow, Known, last_in, waiting_in, Pumps}
+use Rattle.transfer_worker.specs.Transfers.{Flow, Known, last_in, waiting_in, Pumps, ToppedUp}
 
 -- a worker as contracts see it: its lane, its tally, and the records of its gate
 pub record WorkerView : Type 0 where
@@ -107,12 +107,16 @@ WantsAt (BeforeAsk laters) waiting = Unit {0}
 WantsAt (AfterAsk before ask between laters) waiting = ask.want ≡ waiting
 
 module _ {R K C : Type 0} where
-  -- In a turn, the worker asks for the octets that wait, and those taken are pumped.
+  -- In a turn, the worker asks for the octets that wait, and those taken are pumped. If there is
+  -- more, those that wait then are topped up for the next ask.
   pub record IsTurn (k : Known R K C) (flow : Flow R K C) (t : Turn)
       (next : Flow R K C) : Type 0 where
     pub more : last_in flow ≡ More
     pub want : t.ask.want ≡ waiting_in flow
-    pub pumps : Pumps k t.octets flow next t.pumped
+    pub pumped : Flow R K C
+    pub pumps : Pumps k t.octets flow pumped t.pumped
+    pub tops : t.pumped.end ≡ More → ToppedUp k pumped next
+    pub ends : t.pumped.end ≢ More → next ≡ pumped
 
   -- the turns lead from one state of the transfer to the other
   abbrev pub AreTurns : Known R K C → Flow R K C → List Turn → Flow R K C → Type 0

@@ -8,7 +8,7 @@ use Rattle.data_pump.specs.declared.pumped.PumpEnd.{PumpEnd}
 use Rattle.data_pump.specs.declared.pumped.PumpEnd.TheVariants.{More}
 use Rattle.data_pump.specs.declared.pumped.Pumped.{Pumped}
 use Rattle.data_pump.specs.WireText.{sent}
-use Rattle.data_pump.specs.Downloads.{OutView, HasEnded, MovesOut, IsSending}
+use Rattle.data_pump.specs.Downloads.{OutView, HasEnded, MovesOut, TopsUp, IsSending}
 use Rattle.data_pump.specs.Uploads.{InView, MovesIn}
 use Rattle.transfer_worker.specs.declared.job.LaneJob.{LaneJob}
 use Rattle.transfer_worker.specs.declared.job.LaneJob.TheVariants.{Send, Take}
@@ -98,6 +98,14 @@ module _ {R K C : Type 0} where
   Opens k (Take user session connection sink data_type) (Sending out) = ⊥
   Opens k (Take user session connection sink data_type) (Receiving upload) =
       OpensIn k connection sink data_type upload
+
+  -- the octets that wait were topped up, if the transfer is a download
+  abbrev pub ToppedUp : Known R K C → Flow R K C → Flow R K C → Type 0
+  ToppedUp k (Sending old) (Sending new) =
+      TopsUp k.remaining old.flow new.flow × (new.last ≡ old.last)
+  ToppedUp k (Sending old) (Receiving new) = ⊥
+  ToppedUp k (Receiving old) (Sending new) = ⊥
+  ToppedUp k (Receiving old) (Receiving new) = new ≡ old
 
   -- a grant of `octets` was pumped with result `pumped`
   abbrev pub Pumps : Known R K C → ℕ → Flow R K C → Flow R K C → Pumped → Type 0

@@ -29,7 +29,7 @@ pub(crate) enum Running<R: Source, K: Sink, C: Read + Write + Drop, A: Allocator
 }
 
 impl<R: Source, K: Sink, C: Read + Write + Drop, A: Allocator> Running<R, K, C, A> {
-    ghost use Rattle.transfer_worker.specs.Transfers.{known, flow_of, way_in, last_in, waiting_in, Pumps};
+    ghost use Rattle.transfer_worker.specs.Transfers.{known, flow_of, way_in, last_in, waiting_in, Pumps, ToppedUp};
 
     // The ask for a round.
     fn ask(&self, user: u32, session: u32) -> Ask
@@ -71,6 +71,17 @@ impl<R: Source, K: Sink, C: Read + Write + Drop, A: Allocator> Running<R, K, C, 
         }
     }
 
+    // Tops the octets that wait up, if it is a download.
+    fn top_up(&mut self)
+        ensures topped { ToppedUp (known R.remaining K.collected K.target C.remaining C.contents)
+            (flow_of self.old) (flow_of self.new) }
+    {
+        match self {
+            Running::Out(out) => out.top_up(),
+            Running::In(_) => {}
+        }
+    }
+
     // Returns the remnant of the transfer.
     fn into_ran(self) -> Ran<R, K, C, A>
         ensures ends { (go : Go) (end : JobEnd) → EndsAs go (last_in (flow_of self)) end
@@ -93,7 +104,7 @@ pub(crate) struct Transfer<R: Source, K: Sink, C: Read + Write + Drop, A: Alloca
 }
 
 impl<R: Source, K: Sink, C: Read + Write + Drop, A: Allocator> Transfer<R, K, C, A> {
-    ghost use Rattle.transfer_worker.specs.Transfers.{known, flow_of, way_in, last_in, waiting_in, Pumps};
+    ghost use Rattle.transfer_worker.specs.Transfers.{known, flow_of, way_in, last_in, waiting_in, Pumps, ToppedUp};
 
     /// The ask for a round.
     pub(crate) fn ask(&self) -> Ask
@@ -134,6 +145,17 @@ impl<R: Source, K: Sink, C: Read + Write + Drop, A: Allocator> Transfer<R, K, C,
         let pumped = self.running.turn(desk, seat, tally)?;
         self.moved = self.moved.saturating_add(pumped.moved);
         Some(pumped)
+    }
+
+    /// Tops the octets that wait up, if it is a download: by one read of its source, if they are few.
+    pub(crate) fn top_up(&mut self)
+        ensures user { self.new.user ≡ self.old.user }
+        ensures session { self.new.session ≡ self.old.session }
+        ensures moved { self.new.moved ≡ self.old.moved }
+        ensures topped { ToppedUp (known R.remaining K.collected K.target C.remaining C.contents)
+            (flow_of self.old.running) (flow_of self.new.running) }
+    {
+        self.running.top_up();
     }
 
     /// Returns the remnant of the transfer.

@@ -22,7 +22,7 @@ use std::io::{Read, Write};
 use std::sync::Wait;
 use virtual_tree::{Sink, Source};
 
-/// Sits down, asks, takes and pumps until the transfer has ended, and rises. Returns true if the gate said `Stop`: a
+/// Sits down, asks, takes, pumps and tops up until the transfer has ended, and rises. Returns true if the gate said `Stop`: a
 /// seat that had asked then keeps that state.
 fn run_transfer<R, K, C, A, G, W, N, D>(
     rt: &W,
@@ -74,7 +74,7 @@ where
                     gate.done(session, end, transfer.into_ran());
                     return false;
                 }
-                None => {}
+                None => transfer.top_up(),
             },
         }
     }

@@ -10,7 +10,7 @@ use Rattle.transfer_worker.specs.Runs.{worker, Turn, Halt, calls_in, calls_at, l
 use Rattle.transfer_worker.specs.Runs.Halt.{BeforeAsk, AfterAsk}
 use Rattle.transfer_worker.proofs.Adding.{passes_are, adds_still}
 use Rattle.transfer_worker.proofs.Steps.{adds_turn, adds_open, adds_stop}
-use Rattle.transfer_worker.proofs.Sittings.{Sits, begins, turn_more, ended, stopped, only_more, pumps_last}
+use Rattle.transfer_worker.proofs.Sittings.{Sits, begins, turn_more, ended, stopped, not_more, only_more, pumps_last, topped_last}
 use Rattle.transfer_worker.proofs.transfer.run_transfer.Goals as goal
 
 pub loop-init : goal.loop-init
@@ -115,7 +115,9 @@ returns-in-Some-job_end-clause-run g c =
     let e = c.rise-in-Some-job_end.ensures.view in
     let t : Turn = record { before = m.0; ask = a; between = p.between; octets = p.octets; pumped = c.in-Some-pump_next.pumped } in
     let adds = adds_turn c.loop.transfer.session moved m.0 a p.between p.octets t.pumped x y c.loop.tally (g.G.Gate.heard c.may_ask.new.gate) w.heard q r u m.1 c.ask-in-loop.ensures.view p.adds in
-    let s = turn_more k user session start v now next moved w u t i.9 (record { more = i.5; want = c.ask.ensures.want; pumps = p.pumps })
+    let is = sym c.in-Some-job_end.ensures.end in
+    let s = turn_more k user session start v now next moved w u t i.9
+    (record { more = i.5; want = c.ask.ensures.want; pumped = next; pumps = p.pumps; tops = λ more. absurd (not_more t.pumped.end c.in-Some-job_end.end is more); ends = λ _. refl })
     (c.ask.ensures.user ∙ i.3, c.ask.ensures.session ∙ i.4, c.ask.ensures.way)
     (p.sittings_are ∙ ap (λ l. l.sittings) c.ask-in-loop.ensures.view)
     (subst (λ (n : ℕ). Adds (a ∷ []) (p.octets ∷ []) (length p.between) (t.pumped.moved ∷ []) (calls_in n moved t) w u) i.4 adds) in
@@ -131,7 +133,9 @@ loop-preserved g c =
     let v = worker (seat_view c.args.seat.now) c.args.tally.now (g.G.Gate.heard c.args.gate.now) (g.G.Gate.passed c.args.gate.now) in
     let i = c.loop.invariant in
     let now = flow_of c.loop.transfer.running in
-    let next = flow_of c.pump_next.new.transfer.running in
+    let pumped = flow_of c.pump_next.new.transfer.running in
+    let next = flow_of c.top_up.new.self.running in
+    let topped = c.top_up.ensures in
     let moved = c.loop.transfer.moved in
     let m = c.if-not-may_ask.ensures.passed in
     let some = c.in-Some-pump_next.ensures.some in
@@ -146,18 +150,20 @@ loop-preserved g c =
     let u = worker (seat_view c.pump_next.new.seat) c.pump_next.new.tally (g.G.Gate.heard c.pump_next.new.gate) (g.G.Gate.passed c.pump_next.new.gate) in
     let t : Turn = record { before = m.0; ask = a; between = p.between; octets = p.octets; pumped = c.in-Some-pump_next.pumped } in
     let adds = adds_turn c.loop.transfer.session moved m.0 a p.between p.octets t.pumped x y c.loop.tally (g.G.Gate.heard c.may_ask.new.gate) w.heard q r u m.1 c.ask-in-loop.ensures.view p.adds in
-    let s = turn_more k user session start v now next moved w u t i.9 (record { more = i.5; want = c.ask.ensures.want; pumps = p.pumps })
+    let more = only_more t.pumped.end (sym c.in-None-job_end.ensures.end) in
+    let s = turn_more k user session start v now next moved w u t i.9
+    (record { more = i.5; want = c.ask.ensures.want; pumped = pumped; pumps = p.pumps; tops = λ _. topped.topped; ends = λ not. absurd (not more) })
     (c.ask.ensures.user ∙ i.3, c.ask.ensures.session ∙ i.4, c.ask.ensures.way)
     (p.sittings_are ∙ ap (λ l. l.sittings) c.ask-in-loop.ensures.view)
     (subst (λ (j : ℕ). Adds (a ∷ []) (p.octets ∷ []) (length p.between) (t.pumped.moved ∷ []) (calls_in j moved t) w u) i.4 adds) in (
       tt,
       tt,
       (n.same.0 ∙ c.ask-in-loop.ensures.same.0 ∙ i.2.0, n.same.1 ∙ c.ask-in-loop.ensures.same.1 ∙ i.2.1),
-      n.user ∙ i.3,
-      n.session ∙ i.4,
-      pumps_last k p.octets now next t.pumped p.pumps ∙ only_more t.pumped.end (sym c.in-None-job_end.ensures.end),
+      topped.user ∙ n.user ∙ i.3,
+      topped.session ∙ n.session ∙ i.4,
+      topped_last k pumped next topped.topped ∙ pumps_last k p.octets now pumped t.pumped p.pumps ∙ more,
       n.told,
       n.heard ∙ c.may_ask.ensures.heard ∙ i.7,
       p.state_is,
-      subst (λ (j : ℕ). Sits k user session start v next j u) (sym some.1) s,
+      subst (λ (j : ℕ). Sits k user session start v next j u) (sym (topped.moved ∙ some.1)) s,
     )

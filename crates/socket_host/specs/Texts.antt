@@ -25,8 +25,8 @@ is_pause TimedOut = true
 is_pause Interrupted = true
 is_pause _ = false
 
--- the time-out of a read, in milliseconds: a thousandth of a second while something runs, otherwise a
--- fifth of a second, or a second once fifty reads in a row found nothing
+-- the time-out of a read, in milliseconds: one while something runs, otherwise 200, or 1,000 once
+-- fifty reads in a row found nothing
 abbrev pub time_out_of : Bool → ℕ → ℕ
 time_out_of true silences = 1
 time_out_of false silences = if nat_lt silences 50 then 200 else 1000

@@ -48,7 +48,7 @@ pub struct ControlSocket {
     silences: u32,
 }
 
-// The time-out of a read, in milliseconds, after so many reads in a row that found nothing.
+// The time-out of a read, in milliseconds, by the number of reads in a row that found nothing.
 fn time_out_of(is_quick: bool, silences: u32) -> u64
     ensures wait { result ≡ time_out_of is_quick silences }
 {

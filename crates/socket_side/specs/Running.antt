@@ -46,8 +46,8 @@ abbrev pub IsMovedBy : {K : Type 0} → Option (TransferEnd K) → ℕ → Type 
 IsMovedBy None moved = ⊤
 IsMovedBy (Some told) moved = moved ≡ told.moved
 
--- the time until the next look for a data connection, in milliseconds, by the microseconds waited so
--- far: a tenth of these, from 20 to 200
+-- the time until the next look for a data connection, in milliseconds, by the microseconds waited
+-- so far: a tenth of these, from 20 to 200
 abbrev pub pause_after : ℕ → ℕ
 pause_after waited = min (max (waited / 10000) 20) 200
 

@@ -9,19 +9,21 @@ ghost use Rattle.round_allocator.specs.Levels.{IsPouring, branch_count};
 ghost use Rattle.round_allocator.specs.declared.level.TheConstants.{MAX_PROBES};
 
 use super::level::{LevelShare, leaf_grant, share_out};
-use super::probe::{ProbedTree, Probes, unprobed};
+use super::probe::{ProbedTree, probed};
+use super::steps::Steps;
 use limit_tree::{Flat, MAX_WANT, NodeKind};
 use std::alloc::{AllocError, Allocator};
+use std::sync::ledger::Ledger;
 
 // Grants the leaves of trees side by side, from node `at` on, what they absorb up to a level, and one spare
 // octet each to leaves with room, the lowest leaf number first. Returns the octets still spare.
-fn fill<A: Allocator>(
+fn fill<A: Allocator, L: Ledger>(
     tree: &ProbedTree<'_, A>,
     first: usize,
     trees: usize,
     share: LevelShare,
     grants: &mut [u64],
-    probes: &mut Probes,
+    probes: &mut Steps<L>,
 ) -> u64
     requires row { HasRow tree.now first trees }
     requires level { share.level < 2 ^ 32 }
@@ -60,13 +62,6 @@ fn fill<A: Allocator>(
     left
 }
 
-/// Grants, in octets, and the number of probes they took.
-#[derive(Drop)]
-pub(crate) struct Counted<B: Allocator> {
-    pub grants: Vec<u64, B>,
-    pub probes: u64,
-}
-
 // A list of zero grants, one for each leaf.
 fn zeros<B: Allocator>(alloc: B, leaves: usize) -> Result<Vec<u64, B>, AllocError>
     ensures leaves { IfOk result (λ g. length g.items ≡ leaves) }
@@ -76,25 +71,24 @@ fn zeros<B: Allocator>(alloc: B, leaves: usize) -> Result<Vec<u64, B>, AllocErro
 
 /// The grants of the leaves of a tree, in octets, by the levels of its branches. One allocation, O(nodes *
 /// depth) time for each of at most `MAX_PROBES` probes. Returns `AllocError` only if memory runs out.
-pub(crate) fn give<A: Allocator, B: Allocator>(
+pub(crate) fn give<A: Allocator, B: Allocator, L: Ledger>(
     alloc: B,
     flat: &Flat<A>,
-) -> Result<Counted<B>, AllocError>
-    ensures within { IfOk result (λ r. IsWithin (limits flat.now) r.grants.items) }
-    ensures bottlenecks { IfOk result (λ r. HasBottlenecks (limits flat.now) r.grants.items) }
-    ensures counted { IfOk result (λ r. r.probes ≤ MAX_PROBES * branch_count flat.now) }
+    probes: &mut Steps<L>,
+) -> Result<Vec<u64, B>, AllocError>
+    requires none { probes.old ≡ 0 }
+    ensures within { IfOk result (λ g. IsWithin (limits flat.now) g.items) }
+    ensures bottlenecks { IfOk result (λ g. HasBottlenecks (limits flat.now) g.items) }
+    ensures counted { probes.new ≤ MAX_PROBES * branch_count flat.now }
 {
     let leaves = flat.leaves();
     let _nodes = flat.nodes();
     let mut grants = zeros(alloc, leaves)?;
-    let (tree, mut probes) = unprobed(flat);
+    let tree = probed(flat);
     let top = LevelShare {
         level: MAX_WANT,
         spare: 0,
     };
-    let _left = fill(&tree, 0, 1, top, &mut grants, &mut probes);
-    Ok(Counted {
-        grants,
-        probes: probes.count(),
-    })
+    let _left = fill(&tree, 0, 1, top, &mut grants, probes);
+    Ok(grants)
 }

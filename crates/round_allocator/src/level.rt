@@ -5,8 +5,10 @@ ghost use Rattle.limit_tree.specs.Flat.{taken_below};
 ghost use Rattle.round_allocator.specs.Levels.{IsBranchAt, IsLevel, IsNarrower, IsPlan, IsLeafGrant};
 ghost use Rattle.round_allocator.specs.declared.level.TheConstants.{MAX_PROBES};
 
-use super::probe::{ProbedTree, Probes};
+use super::probe::ProbedTree;
+use super::steps::Steps;
 use std::alloc::Allocator;
+use std::sync::ledger::Ledger;
 
 /// Most probes of one branch: one at the level that it is handed, and, if its kids absorb too much there, 32 of a
 /// binary search, since levels go up to `MAX_WANT`, which is below 2^32.
@@ -43,12 +45,12 @@ pub(crate) struct Window {
 }
 
 // Halves a window by one probe, unless its levels are adjacent.
-fn narrow<A: Allocator>(
+fn narrow<A: Allocator, L: Ledger>(
     tree: &ProbedTree<'_, A>,
     node: usize,
     most: u64,
     window: Window,
-    probes: &mut Probes,
+    probes: &mut Steps<L>,
 ) -> Window
     requires node { node < length tree.now }
     requires room { probes.old < 2 ^ 63 }
@@ -81,12 +83,12 @@ fn narrow<A: Allocator>(
 
 // The greatest level below a level that is too high, and what is left of the limit there. At most 32 probes: at level 0
 // the kids of the branch absorb their floors, which fit.
-fn search<A: Allocator>(
+fn search<A: Allocator, L: Ledger>(
     tree: &ProbedTree<'_, A>,
     node: usize,
     most: u64,
     level: u64,
-    probes: &mut Probes,
+    probes: &mut Steps<L>,
 ) -> LevelShare
     requires branch { IsBranchAt tree.now node (Some most) }
     requires room { probes.old + 32 < 2 ^ 63 }
@@ -113,12 +115,12 @@ fn search<A: Allocator>(
 
 /// The division of the spare octets above a level among the kids of a branch. At most `MAX_PROBES` probes: one if what
 /// its kids absorb fits its limit, none if it has no limit.
-pub(crate) fn share_out<A: Allocator>(
+pub(crate) fn share_out<A: Allocator, L: Ledger>(
     tree: &ProbedTree<'_, A>,
     node: usize,
     limit: Option<u64>,
     share: LevelShare,
-    probes: &mut Probes,
+    probes: &mut Steps<L>,
 ) -> Split
     requires branch { IsBranchAt tree.now node limit }
     requires room { probes.old + MAX_PROBES < 2 ^ 63 }

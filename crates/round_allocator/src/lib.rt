@@ -14,6 +14,8 @@ mod fill;
 mod level;
 mod named;
 mod probe;
+mod steps;
 
 pub use level::MAX_PROBES;
 pub use named::{allot, allot_counted};
+pub use steps::Steps;

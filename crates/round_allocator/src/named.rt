@@ -8,10 +8,13 @@ ghost use Rattle.round_allocator.specs.Levels.{branch_count};
 ghost use Rattle.round_allocator.specs.declared.level.TheConstants.{MAX_PROBES};
 ghost use Rattle.round_allocator.specs.Marks.{HasMark, AreDeepest};
 
-use super::fill::{Counted, give};
+use super::fill::give;
+use super::steps::Steps;
 use grant_certificate::{Certificate, backed_is_best};
 use limit_tree::{Flat, Tree};
 use std::alloc::{AllocError, Allocator};
+use std::marker::Brand;
+use std::sync::ledger::{Blank, Ledger};
 
 // Marks the `leaves` leaves from leaf `first` on with a node.
 fn mark(marks: &mut [Option<u32>], first: usize, leaves: usize, node: u32)
@@ -107,24 +110,48 @@ fn name<A: Allocator, B: Allocator + Clone>(
 }
 
 /// The grants of the leaves of a tree, in octets, and their certificate, as `allot` returns them, with the number of
-/// probes: sums of what the kids of one branch absorb up to one level.
-pub fn allot_counted<A: Allocator, B: Allocator + Clone>(
+/// probes, which a counter that is at 0 counts: sums of what the kids of one branch absorb up to one level. Returns
+/// `AllocError` only if memory runs out.
+pub fn allot_counted<A: Allocator, B: Allocator + Clone, L: Ledger>(
     alloc: B,
     tree: &Tree<A>,
+    steps: &mut Steps<L>,
 ) -> Result<(Vec<u64, B>, Certificate<B>, u64), AllocError>
+    requires none { steps.old ≡ 0 }
     ensures within { IfOk result (λ r. IsWithin (limits tree.now) r.0.items) }
     ensures exhausted { IfOk result (λ r. IsExhausted (limits tree.now) r.0.items) }
     ensures named { IfOk result (λ r. IsNamed (limits tree.now) r.0.items r.1) }
     ensures backed { IfOk result (λ r. IsBackedBy (limits tree.now) r.0.items r.1) }
     ensures best { IfOk result (λ r. IsBest (limits tree.now) r.0.items) }
     ensures counted { IfOk result (λ r. r.2 ≤ MAX_PROBES * branch_count tree.now) }
+    ensures probes { IfOk result (λ r. r.2 ≡ steps.new) }
 {
     backed_is_best();
     let _leaves = tree.leaves();
     let flat = Flat::of(alloc.clone()?, tree)?;
-    let Counted { grants, probes } = give(alloc.clone()?, &flat)?;
+    let grants = give(alloc.clone()?, &flat, steps)?;
     let certificate = name(alloc, &flat, &grants)?;
-    Ok((grants, certificate, probes))
+    Ok((grants, certificate, steps.count()))
+}
+
+// The same with a new counter, of a ledger that nobody else has.
+fn allot_anew<A: Allocator, B: Allocator + Clone, L: Ledger>(
+    alloc: B,
+    tree: &Tree<A>,
+    blank: Blank,
+) -> Result<(Vec<u64, B>, Certificate<B>), AllocError>
+    requires name { blank.name ≡ L.name }
+    requires parts { blank.parts ≡ L.parts }
+    requires some { 0 < blank.parts }
+    ensures within { IfOk result (λ r. IsWithin (limits tree.now) r.0.items) }
+    ensures exhausted { IfOk result (λ r. IsExhausted (limits tree.now) r.0.items) }
+    ensures named { IfOk result (λ r. IsNamed (limits tree.now) r.0.items r.1) }
+    ensures backed { IfOk result (λ r. IsBackedBy (limits tree.now) r.0.items r.1) }
+    ensures best { IfOk result (λ r. IsBest (limits tree.now) r.0.items) }
+{
+    let mut steps = Steps::<L>::new(blank);
+    let (grants, certificate, _probes) = allot_counted(alloc, tree, &mut steps)?;
+    Ok((grants, certificate))
 }
 
 /// The grants of the leaves of a tree, in octets, and their certificate. The grants are those of handing out one octet
@@ -143,6 +170,5 @@ pub fn allot<A: Allocator, B: Allocator + Clone>(
     ensures backed { IfOk result (λ r. IsBackedBy (limits tree.now) r.0.items r.1) }
     ensures best { IfOk result (λ r. IsBest (limits tree.now) r.0.items) }
 {
-    let (grants, certificate, _) = allot_counted(alloc, tree)?;
-    Ok((grants, certificate))
+    allot_anew::<A, B, Brand>(alloc, tree, Blank::new(1))
 }

@@ -6,9 +6,11 @@ ghost use Rattle.limit_tree.specs.Outline.{limits};
 ghost use Rattle.limit_tree.specs.Flat.{IsFlat, taken_below};
 ghost use Rattle.round_allocator.specs.Levels.{IsBranchAt, upto};
 
+use super::steps::Steps;
 use limit_tree::{Flat, MAX_NODES, MAX_WANT, Place};
 use std::alloc::Allocator;
 use std::marker::Model;
+use std::sync::ledger::Ledger;
 
 /// A tree whose nodes can be read freely, while what the kids of a node absorb is read by a counted probe only.
 #[derive(Drop)]
@@ -25,35 +27,11 @@ impl<'t, A: Allocator> Model for ProbedTree<'t, A> {
     ghost view = { λ t. t.flat.now };
 }
 
-/// Number of probes of a tree. Only a probe increases it.
-#[derive(Drop)]
-pub(crate) struct Probes {
-    count: u64,
-}
-
-impl Model for Probes {
-    ghost use Rattle.std.specs.Prelude.{ℕ};
-
-    ghost Value = { ℕ };
-
-    ghost view = { λ p. p.count };
-}
-
-impl Probes {
-    /// The number.
-    pub fn count(&self) -> u64
-        ensures count { result ≡ self.now }
-    {
-        self.count
-    }
-}
-
-/// A tree with no probes yet.
-pub(crate) fn unprobed<'t, A: Allocator>(flat: &'t Flat<A>) -> (ProbedTree<'t, A>, Probes)
-    ensures tree { result.0 ≡ flat.now }
-    ensures none { result.1 ≡ 0 }
+/// A tree that is probed.
+pub(crate) fn probed<'t, A: Allocator>(flat: &'t Flat<A>) -> ProbedTree<'t, A>
+    ensures tree { result ≡ flat.now }
 {
-    (ProbedTree { flat }, Probes { count: 0 })
+    ProbedTree { flat }
 }
 
 impl<'t, A: Allocator> ProbedTree<'t, A> {
@@ -78,13 +56,13 @@ impl<'t, A: Allocator> ProbedTree<'t, A> {
     }
 
     /// Sum of the octets that the kids of a node absorb up to a level: one probe.
-    pub fn probe(&self, node: usize, level: u64, probes: &mut Probes) -> u64
+    pub fn probe<L: Ledger>(&self, node: usize, level: u64, probes: &mut Steps<L>) -> u64
         requires node { node < length self.now }
         requires room { probes.old < 2 ^ 63 }
         ensures taken { result ≡ taken_below level self.now node }
         ensures counted { probes.new ≡ probes.old + 1 }
     {
-        probes.count += 1;
+        probes.tick();
         self.flat.absorb_below(node, level)
     }
 

@@ -55,19 +55,6 @@ abbrev pub AreTheUsers : Rates → List UserPace → Type 0
 AreTheUsers rates users = (q : ℕ) → is_some (finite.get rates.users q)
     ≡ is_some (finite.get (by_number pace_number users) q)
 
--- the rows: those of the rates handed in, sorted by number
-pub record IsPaced (server down up : Credit) (groups : List GroupPace) (users : List UserPace)
-    (offered : Rates) : Type 0 where
-  pub server_fits : IsCredit server
-  pub down_fits : IsCredit down
-  pub up_fits : IsCredit up
-  pub groups_fit : All IsGroupPace groups
-  pub users_fit : All IsUserPace users
-  pub groups_rise : IsRising group_key groups
-  pub users_rise : IsRising pace_number users
-  pub are_groups : AreTheGroups offered groups
-  pub are_users : AreTheUsers offered users
-
 -- a credit with nothing earned
 abbrev pub no_credit : ℕ → Credit
 no_credit rate = record { rate = rate; left = 0 }

@@ -1,14 +1,36 @@
 //! The worked allotments, and those of random trees compared with the plain rule.
 
+ghost use Rattle.std.specs.Prelude.{◌≡◌, ◌<◌};
+
 use super::random_trees::{Numbers, Sizes, any_tree};
 use super::trees::Shape::{Branch, Leaf};
 use super::trees::{Shape, tree};
 use crate::expect::holds;
 use grant_certificate::{Certificate, Verdict, check};
 use limit_tree::{MAX_WANT, Tree};
-use round_allocator::{allot, allot_counted};
+use round_allocator::{Steps, allot, allot_counted};
+use std::marker::Brand;
 use std::process::Abort;
+use std::sync::ledger::{Blank, Ledger};
 use test_allotment::allot_plainly;
+
+// Grants with their certificate, and the number of probes, which is that of a new counter.
+fn counted<L: Ledger, R: Abort + AllocGlobal>(
+    rt: &R,
+    tree: &Tree,
+    blank: Blank,
+) -> (Vec<u64>, Certificate, u64)
+    requires name { blank.name ≡ L.name }
+    requires parts { blank.parts ≡ L.parts }
+    requires some { 0 < blank.parts }
+{
+    let mut steps = Steps::<L>::new(blank);
+    let (grants, certificate, probes) = allot_counted(rt.alloc(), tree, &mut steps).expect(
+        rt, "memory",
+    );
+    holds(rt, steps.count() == probes);
+    (grants, certificate, probes)
+}
 
 // Checks that the other call of the allocator returns the same, and that the checker accepts it. Returns the number of
 // probes.
@@ -19,8 +41,8 @@ fn expect_best(
     certificate: &Certificate,
 ) -> u64 {
     holds(rt, check(tree, grants, certificate) == Verdict::Yes);
-    let (counted, marked, probes) = allot_counted(rt.alloc(), tree).expect(rt, "memory");
-    holds(rt, counted.as_slice() == grants);
+    let (again, marked, probes) = counted::<Brand, _>(rt, tree, Blank::new(1));
+    holds(rt, again.as_slice() == grants);
     holds(
         rt,
         marked.into_entries().as_slice() == certificate.entries(),

@@ -1,5 +1,7 @@
 //! Memory that is refused, at each growth in turn, and then available again.
 
+ghost use Rattle.std.specs.Prelude.{◌≡◌, ◌<◌};
+
 use super::plans::DOWN;
 use super::rates::{TWO_GROUPS, limits_of};
 use super::trees::{PROMISED, Shape, THREE, tree};
@@ -8,8 +10,10 @@ use limit_tree::{Flat, Tree};
 use line_rates::{Ask, Limits, PlanFault, tree_of};
 use linked_list_allocator::LocalHeap;
 use rate_floors::Floors;
-use round_allocator::{allot, allot_counted};
+use round_allocator::{Steps, allot, allot_counted};
+use std::marker::Brand;
 use std::process::Abort;
+use std::sync::ledger::{Blank, Ledger};
 use test_allotment::allot_plainly;
 use test_scarce_memory::{HEAP, leave_hole};
 
@@ -29,8 +33,17 @@ fn by_levels<'h>(heap: &'h LocalHeap, tree: &Tree) -> Option<Vec<u64, &'h LocalH
     Some(grants)
 }
 
-fn by_counted_levels<'h>(heap: &'h LocalHeap, tree: &Tree) -> Option<Vec<u64, &'h LocalHeap>> {
-    let (grants, _certificate, _probes) = allot_counted(heap, tree).ok()?;
+fn by_counted_levels<'h, L: Ledger>(
+    heap: &'h LocalHeap,
+    tree: &Tree,
+    blank: Blank,
+) -> Option<Vec<u64, &'h LocalHeap>>
+    requires name { blank.name ≡ L.name }
+    requires parts { blank.parts ≡ L.parts }
+    requires some { 0 < blank.parts }
+{
+    let mut steps = Steps::<L>::new(blank);
+    let (grants, _certificate, _probes) = allot_counted(heap, tree, &mut steps).ok()?;
     Some(grants)
 }
 
@@ -86,7 +99,11 @@ fn answers(
         Flat::of(heap, tree).is_ok(),
         are_granted(rt, allot_plainly(heap, tree).ok(), wanted),
         are_granted(rt, by_levels(heap, tree), wanted),
-        are_granted(rt, by_counted_levels(heap, tree), wanted),
+        are_granted(
+            rt,
+            by_counted_levels::<Brand>(heap, tree, Blank::new(1)),
+            wanted,
+        ),
         has_plan(rt, heap, limits),
         has_floors(rt, heap, limits),
     ]

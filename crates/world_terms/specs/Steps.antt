@@ -1,15 +1,9 @@
 -- Events: their effects, answers and refusals.
-use Rattle.std.specs.Prelude.{◌≡◌, ◌≢◌, ◌⊎◌, ℕ, ◌+◌, ◌-◌, ◌/◌, ◌<◌, ◌≤◌, List, length, map, slice_get, slice_set, Some, None, true, Result, MatchResult, IsPermutation}
+use Rattle.std.specs.Prelude.{◌≡◌, ◌≢◌, ◌⊎◌, ℕ, ◌+◌, ◌-◌, ◌/◌, ◌<◌, ◌≤◌, List, length, map, slice_get, slice_set, Some, None, true, Result, MatchResult}
 use Rattle.grant_ledger.specs.declared.ledger.TheConstants.{MAX_ISSUED}
-use Rattle.limit_tree.specs.Faults.{tree_fault}
-use Rattle.limit_tree.specs.Outline.{limits}
-use Rattle.limit_tree.specs.declared.fault.TreeFault.{TreeFault}
-use Rattle.limit_tree.specs.declared.place.Place.{Place}
 use Rattle.line_rates.specs.FloorSums.{FloorsFit}
 use Rattle.line_rates.specs.Rates.{Rates}
-use Rattle.line_rates.specs.Refused.{IsNotOfFloors}
-use Rattle.line_rates.specs.TickTree.{Asker, ask_in, IsTickTree}
-use Rattle.line_rates.specs.declared.fault.PlanFault.TheVariants as plan
+use Rattle.line_rates.specs.TickTree.{ask_in}
 use Rattle.world_terms.specs.declared.event.LaneState.TheVariants as state
 use Rattle.world_terms.specs.declared.event.Event.{Event}
 use Rattle.world_terms.specs.declared.event.Event.TheVariants as event
@@ -97,26 +91,13 @@ pub record PassesMost (rates : Rates) (w : World) (moment : ℕ) : Type 0 where
   pub shared : IsShared rates (moment / 100) w.lanes lanes
   pub above : MAX_ISSUED < w.issued + decided_sum lanes
 
--- A tree of the tick over the asks has a fault other than floors above a limit. If no want is too
--- large, there is no such fault, since the tree has few nodes and little depth, and its limits are
--- small; this is argued, not proved.
-pub record HasOtherFault (rates : Rates) (tick : ℕ) (asks : List Asker) : Type 0 where
-  pub order : List Asker
-  pub outline : List Place
-  pub all : IsPermutation asks order
-  pub tree : IsTickTree rates tick (map ask_in order) (limits outline)
-  pub fault : TreeFault
-  pub is : tree_fault outline ≡ Some fault
-  pub kind : IsNotOfFloors (plan.Tree fault)
-
 -- the refusals of a decision
 abbrev pub RefusesDecide : Rates → World → ℕ → StepFault → Type 0
 RefusesDecide rates w m fault.WrongState = AllPosted w.lanes → ⊥
 RefusesDecide rates w m (fault.NotYet last) =
     AllPosted w.lanes × (w.last_tick ≡ Some last) × (m / 100 ≤ last)
 RefusesDecide rates w m fault.TooMuch =
-    AllPosted w.lanes × IsLater (m / 100) w.last_tick
-    × ((has_large_want w.lanes ≡ true) ⊎ HasOtherFault rates (m / 100) (in_round w.lanes))
+    AllPosted w.lanes × IsLater (m / 100) w.last_tick × (has_large_want w.lanes ≡ true)
 RefusesDecide rates w m fault.FloorsOver =
     IsReady w m × (FloorsFit rates (m / 100) (map ask_in (in_round w.lanes)) → ⊥)
 RefusesDecide rates w m fault.Memory = IsReady w m

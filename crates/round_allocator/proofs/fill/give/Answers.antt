@@ -14,7 +14,7 @@ use Rattle.round_allocator.proofs.fill.give.Goals as goal
 pub fill-left-requires-clause-row : goal.fill-left-requires-clause-row
 fill-left-requires-clause-row g c =
     let ps = c.args.flat.now in
-    subst (λ (qs : List Place). HasRow qs 0 1) (sym c.unprobed-tree.ensures.tree) (0, length ps, length (limits ps).wants, c.nodes-nodes.ensures.flat.root)
+    subst (λ (qs : List Place). HasRow qs 0 1) (sym c.probed-tree.ensures.tree) (0, length ps, length (limits ps).wants, c.nodes-nodes.ensures.flat.root)
 
 pub returns-clause-within : goal.returns-clause-within
 returns-clause-within g c =
@@ -22,7 +22,7 @@ returns-clause-within g c =
     let flat = c.nodes-nodes.ensures.flat in
     let old = c.deref_mut.result.now in
     let new = c.fill-left.new.grants in
-    let poured = subst (λ (qs : List Place). ArePoured qs top_share old c.fill-left.result new) c.unprobed-tree.ensures.tree c.fill-left.ensures.poured in
+    let poured = subst (λ (qs : List Place). ArePoured qs top_share old c.fill-left.result new) c.probed-tree.ensures.tree c.fill-left.ensures.poured in
     let items = c.in_ok-grants.grants.items in
     let same : length old ≡ length items = ap length c.deref_mut.ensures.value in
     let whole : length new ≡ length items = c.fill-left.ensures.size ∙ same in
@@ -37,7 +37,7 @@ returns-clause-bottlenecks g c =
     let flat = c.nodes-nodes.ensures.flat in
     let old = c.deref_mut.result.now in
     let new = c.fill-left.new.grants in
-    let poured = subst (λ (qs : List Place). ArePoured qs top_share old c.fill-left.result new) c.unprobed-tree.ensures.tree c.fill-left.ensures.poured in
+    let poured = subst (λ (qs : List Place). ArePoured qs top_share old c.fill-left.result new) c.probed-tree.ensures.tree c.fill-left.ensures.poured in
     let items = c.in_ok-grants.grants.items in
     let same : length old ≡ length items = ap length c.deref_mut.ensures.value in
     let whole : length new ≡ length items = c.fill-left.ensures.size ∙ same in
@@ -50,7 +50,6 @@ pub returns-clause-counted : goal.returns-clause-counted
 returns-clause-counted g c =
     let ps = c.args.flat.now in
     let flat = c.nodes-nodes.ensures.flat in
-    let rows = subst (λ (qs : List Place). (begin last past : ℕ) → IsRow qs 0 begin 1 last past → c.fill-left.new.probes ≤ MAX_PROBES * branch_count (take last qs)) c.unprobed-tree.ensures.tree c.fill-left.ensures.counted in
+    let rows = subst (λ (qs : List Place). (begin last past : ℕ) → IsRow qs 0 begin 1 last past → c.fill-left.new.probes ≤ MAX_PROBES * branch_count (take last qs)) c.probed-tree.ensures.tree c.fill-left.ensures.counted in
     let counted : c.fill-left.new.probes ≤ MAX_PROBES * branch_count (take (length ps) ps) = rows 0 (length ps) (length (limits ps).wants) flat.root in
-    let all : c.fill-left.new.probes ≤ MAX_PROBES * branch_count ps = subst (λ (qs : List Place). c.fill-left.new.probes ≤ MAX_PROBES * branch_count qs) (take-length ps) counted in
-    omega (arith, all, c.count.ensures.count)
+    subst (λ (qs : List Place). c.fill-left.new.probes ≤ MAX_PROBES * branch_count qs) (take-length ps) counted

@@ -1,8 +1,7 @@
-use Rattle.std.proofs.Common.{◌*◌, ◌≤◌, subst, sym, List, ℕ}
+use Rattle.std.proofs.Common.{arith, ap, subst, sym, List, ℕ}
 use Rattle.limit_tree.specs.Sharing.{IsWanted, IsWithin}
 use Rattle.limit_tree.specs.Outline.{limits}
 use Rattle.limit_tree.specs.declared.place.Place.{Place}
-use Rattle.round_allocator.specs.declared.level.TheConstants.{MAX_PROBES}
 use Rattle.round_allocator.specs.Levels.{branch_count}
 use Rattle.round_allocator.specs.Rounds.{HasBottlenecks, IsNamed}
 use Rattle.round_allocator.proofs.Rooms.{bottlenecks-exhausted}
@@ -15,24 +14,24 @@ name-requires g c =
 
 pub returns-clause-within : goal.returns-clause-within
 returns-clause-within g c =
-    subst (λ (ps : List Place). IsWithin (limits ps) c.in_ok-grants.field-0.grants.items) c.in_ok-flat.ensures.of c.in_ok-grants.ensures.within
+    subst (λ (ps : List Place). IsWithin (limits ps) c.in_ok-grants.grants.items) c.in_ok-flat.ensures.of c.in_ok-grants.ensures.within
 
 pub returns-clause-named : goal.returns-clause-named
 returns-clause-named g c =
-    subst (λ (ps : List Place). IsNamed (limits ps) c.in_ok-grants.field-0.grants.items c.in_ok-certificate.certificate) c.in_ok-flat.ensures.of
+    subst (λ (ps : List Place). IsNamed (limits ps) c.in_ok-grants.grants.items c.in_ok-certificate.certificate) c.in_ok-flat.ensures.of
     (subst (λ (g : List ℕ). IsNamed (limits c.in_ok-flat.flat) g c.in_ok-certificate.certificate) c.deref.ensures.value c.in_ok-certificate.ensures.named)
 
 pub returns-clause-counted : goal.returns-clause-counted
 returns-clause-counted g c =
-    subst (λ (ps : List Place). c.in_ok-grants.field-0.probes ≤ MAX_PROBES * branch_count ps) c.in_ok-flat.ensures.of c.in_ok-grants.ensures.counted
+    omega (arith, ap (λ (ps : List Place). branch_count ps) c.in_ok-flat.ensures.of, c.in_ok-grants.ensures.counted, c.count.ensures.count)
 
 pub returns-clause-exhausted : goal.returns-clause-exhausted
-returns-clause-exhausted g c = bottlenecks-exhausted (limits c.args.tree.now) c.in_ok-grants.field-0.grants.items
-    (subst (λ (ps : List Place). HasBottlenecks (limits ps) c.in_ok-grants.field-0.grants.items) c.in_ok-flat.ensures.of c.in_ok-grants.ensures.bottlenecks)
+returns-clause-exhausted g c = bottlenecks-exhausted (limits c.args.tree.now) c.in_ok-grants.grants.items
+    (subst (λ (ps : List Place). HasBottlenecks (limits ps) c.in_ok-grants.grants.items) c.in_ok-flat.ensures.of c.in_ok-grants.ensures.bottlenecks)
 
 pub returns-clause-backed : goal.returns-clause-backed
 returns-clause-backed g c =
-    let grants = c.in_ok-grants.field-0.grants.items in
+    let grants = c.in_ok-grants.grants.items in
     named-backed (limits c.args.tree.now) grants c.in_ok-certificate.certificate c.leaves-leaves.ensures.later
     (subst (λ (ps : List Place). IsWithin (limits ps) grants) c.in_ok-flat.ensures.of c.in_ok-grants.ensures.within)
     (subst (λ (ps : List Place). HasBottlenecks (limits ps) grants) c.in_ok-flat.ensures.of c.in_ok-grants.ensures.bottlenecks)
@@ -41,7 +40,7 @@ returns-clause-backed g c =
 
 pub returns-clause-best : goal.returns-clause-best
 returns-clause-best g c =
-    let grants = c.in_ok-grants.field-0.grants.items in
+    let grants = c.in_ok-grants.grants.items in
     let within = subst (λ (ps : List Place). IsWithin (limits ps) grants) c.in_ok-flat.ensures.of c.in_ok-grants.ensures.within in
     let backed =
     named-backed (limits c.args.tree.now) grants c.in_ok-certificate.certificate c.leaves-leaves.ensures.later

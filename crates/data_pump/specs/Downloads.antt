@@ -1,12 +1,12 @@
 -- Downloads as contracts see them, and the effect of a pump.
-use Rattle.std.specs.Prelude.{◌≡◌, ◌⊎◌, ◌*◌, ◌<◌, ◌≤◌, ◌++◌, ℕ, nat_lt, min, List, [], length, take, drop, Option, Some, Bool, true, false, ◌&&◌, not, IsTrue}
+use Rattle.std.specs.Prelude.{◌≡◌, ◌⊎◌, ◌↔◌, ◌*◌, ◌<◌, ◌≤◌, ◌++◌, ℕ, nat_lt, min, List, [], length, take, drop, Option, Some, Bool, true, false, ◌&&◌, not, IsTrue}
 use Rattle.std.specs.Option.{option_map}
 use Rattle.std.specs.Io.KnownBytes.{Keeps, Appends, Consumes, IsAtEnd}
 use Rattle.ftp_terms.specs.declared.data_type.DataType.{DataType}
 use Rattle.ftp_terms.specs.declared.data_type.DataType.TheVariants.{Ascii, Image}
 use Rattle.line_rates.specs.declared.ask.Way.TheVariants.{Down}
 use Rattle.data_pump.specs.WireText.{sent}
-use Rattle.data_pump.specs.Counts.{CallCounts, next, IsOnceAtMost, FailsAsTold}
+use Rattle.data_pump.specs.Counts.{CallCounts, with_passed, with_failed, IsOnceAtMost, FailsAsTold}
 use Rattle.data_pump.specs.declared.buffer.TheConstants.{MAX_WAITING}
 use Rattle.data_pump.specs.declared.pumped.FailedPart.TheVariants.{Connection, Source}
 use Rattle.data_pump.specs.declared.pumped.PumpEnd.{PumpEnd}
@@ -89,18 +89,31 @@ abbrev pub is_low : {S K : Type 0} → OutFlow S K → Bool
 is_low flow =
     is_image flow.data_type && not flow.is_over && nat_lt (2 * length flow.waiting) MAX_WAITING
 
--- The octets that wait were topped up by one read of the source, if they were low; otherwise
--- nothing was done. A read that failed is not reported: once no octets wait, the source is read
--- again.
-pub record TopsUp {S K : Type 0} (remaining : S → Option (List ℕ))
+-- One read of the source passed: its octets wait after the others, and the source has ended exactly
+-- if there are none.
+pub record ReadsMore {S K : Type 0} (remaining : S → Option (List ℕ))
     (old new : OutFlow S K) : Type 0 where
-  pub same : is_low old ≡ false → new ≡ old
-  pub once : is_low old ≡ true → new.reads.made ≡ next old.reads.made
+  pub counted : new.reads ≡ with_passed old.reads
   pub read : List ℕ
   pub waiting : new.waiting ≡ old.waiting ++ read
-  -- nothing is appended only at the end of the source, or if the read failed
-  pub none : is_low old ≡ true → read ≡ []
-      → IsTrue new.is_over ⊎ (new.reads.failed ≡ next old.reads.failed)
+  pub consumed : Consumes (remaining old.source) (remaining new.source) read
+  pub over : IsTrue new.is_over ↔ (read ≡ [])
+  pub at_end : read ≡ [] → IsAtEnd (remaining new.source)
+
+-- One read of the source failed: that call is counted, and the source keeps its octets.
+pub record ReadsNone {S K : Type 0} (remaining : S → Option (List ℕ))
+    (old new : OutFlow S K) : Type 0 where
+  pub counted : new.reads ≡ with_failed old.reads
+  pub waiting : new.waiting ≡ old.waiting
+  pub kept : Keeps (remaining old.source) (remaining new.source)
+  pub over : new.is_over ≡ old.is_over
+
+-- If they are low, the octets that wait are topped up by one read of the source, which passes or
+-- fails; otherwise nothing is done.
+pub record TopsUp {S K : Type 0} (remaining : S → Option (List ℕ))
+    (old new : OutFlow S K) : Type 0 where
+  pub high : is_low old ≡ false → new ≡ old
+  pub low : is_low old ≡ true → ReadsMore remaining old new ⊎ ReadsNone remaining old new
   pub come : Keeps (to_come remaining old) (to_come remaining new)
   pub connection : (new.connection ≡ old.connection) × (new.writes ≡ old.writes)
   pub data_type : new.data_type ≡ old.data_type

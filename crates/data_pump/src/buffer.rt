@@ -124,8 +124,8 @@ impl<A: Allocator> WireBuffer<A> {
         Ok(count)
     }
 
-    /// Appends the octets of one read of the source to those that wait, under TYPE I. Returns their number. A fault
-    /// changes nothing.
+    /// Appends the octets of one read of the source to those that wait, under TYPE I. Returns their number, which is 0
+    /// only at the source's end. After a fault the same octets wait, and the source has those that it had.
     pub fn fill_up<S: Source>(&mut self, source: &mut CountedEnd<S>) -> Result<usize, StoreFault>
         requires image { self.old.data_type ≡ DataType.Image }
         requires room { length self.old.octets < MAX_WAITING }
@@ -136,6 +136,7 @@ impl<A: Allocator> WireBuffer<A> {
         ensures kept { OnErr result
             (Keeps (S.remaining source.old.end) (S.remaining source.new.end)) }
         ensures counts { Counts result source.old.calls source.new.calls }
+        ensures refusal { IfErr result (IsEndFault (S.remaining source.old.end)) }
     {
         let waiting = self.to - self.from;
         move_down(&mut self.octets, self.from, self.to);
@@ -157,7 +158,7 @@ fn move_down(octets: &mut [u8], from: usize, to: usize)
     octets.copy_within(from..to, 0);
 }
 
-// One read, directly after the first `waiting` octets.
+// One read, directly after the first `waiting` octets, which stay. After a fault the octets beyond them may be any.
 fn read_after<S: Source>(
     source: &mut CountedEnd<S>,
     octets: &mut [u8],
@@ -173,6 +174,7 @@ fn read_after<S: Source>(
     ensures kept { OnErr result
         (Keeps (S.remaining source.old.end) (S.remaining source.new.end)) }
     ensures counts { Counts result source.old.calls source.new.calls }
+    ensures refusal { IfErr result (IsEndFault (S.remaining source.old.end)) }
 {
     let count = source.fetch(&mut octets[waiting..])?;
     Ok(count)

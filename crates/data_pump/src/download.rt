@@ -120,8 +120,9 @@ impl<S: Source, K: Write + Drop, A: Allocator> DataOut<S, K, A> {
     }
 
     /// Reads the source once, and appends the octets to those that wait, if these are fewer than half of the most, under
-    /// TYPE I: so the next ask is for at least half of the most, until the source ends. A fault is not reported: the
-    /// source is read again once no octets wait.
+    /// TYPE I. So until its end a source that fills what it is lent leaves at least half of the most to ask for. A fault
+    /// is not reported: the octets that wait are sent, and the source is read again by the next call, or by the pump
+    /// after which none wait, which reports it.
     pub fn top_up(&mut self)
         ensures topped { TopsUp S.remaining self.old.flow self.new.flow }
         ensures last { self.new.last ≡ self.old.last }

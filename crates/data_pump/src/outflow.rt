@@ -131,7 +131,7 @@ impl<S: Source, K: Write + Drop, A: Allocator> Outflow<S, K, A> {
     }
 
     /// Reads the source once, and appends the octets to those that wait, if these are fewer than half of the most, under
-    /// TYPE I. If the read fails, nothing is changed: the source is read again once none wait.
+    /// TYPE I. If that read fails, its call is counted and the same octets wait; the next call reads the source again.
     pub fn top_up(&mut self)
         ensures topped { TopsUp S.remaining self.old self.new }
     {

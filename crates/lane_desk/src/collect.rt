@@ -1,6 +1,6 @@
 //! Collecting.
 
-ghost use Rattle.std.specs.Prelude.{◌≡◌, ◌<◌, List, Option, None, true, slice_set, slice_index_or, IfSome, IfNone, OnSome};
+ghost use Rattle.std.specs.Prelude.{◌≡◌, ◌<◌, [], List, Option, None, true, slice_set, slice_index_or, IfSome, IfNone, OnSome};
 ghost use Rattle.desk_rule.specs.Lanes.{unturned, has_collected};
 ghost use Rattle.line_rates.specs.declared.ask.Ask.{Ask};
 ghost use Rattle.lane_desk.specs.Turns.{turns, IsRoundOf, IsSameRound};
@@ -35,24 +35,25 @@ fn collect_if<N, A: Allocator>(
     None
 }
 
-/// Tries each of the given lanes once, in rising order, and no other.
+/// Tries each of the given lanes once, in rising order, and no other. Adds the asks found to `asks`, which is empty. It
+/// is lent, because each hand-over of it by value copies all of its places.
 pub(crate) fn collect_all<N, A: Allocator>(
     round: &mut RoundDesk<N>,
     desk: &Desk<N, A>,
     given: &[bool; MAX_LANES],
-) -> Asks
+    asks: &mut Asks,
+)
     requires desk { IsRoundOf desk.now round.old }
+    requires empty { asks.old ≡ record { asks = []; answered = 0 } }
     ensures same { IsSameRound round.old round.new }
     ensures tried { (found : List (Option Ask))
-        × AreTried (is_given given.now) found (turns round.old) (turns round.new) result.asks
-        result.answered }
+        × AreTried (is_given given.now) found (turns round.old) (turns round.new) asks.new.asks
+        asks.new.answered }
 {
-    let mut asks = Asks::new();
     for lane in 0..round.lanes() {
         match collect_if(round, desk, lane, given[lane]) {
             Some(ask) => asks.push(lane as u8, ask),
             None => {}
         }
     }
-    asks
 }

@@ -9,6 +9,7 @@ ghost use Rattle.lane_desk.specs.Posted.{AllAnswered};
 ghost use Rattle.lane_desk.specs.Tried.{is_given};
 ghost use Rattle.lane_desk.specs.Rounded.{IsRound, IsRefusedRound, IsRoundOver, IsRefusedRoundOver};
 
+use crate::asks::Asks;
 use crate::collect::collect_all;
 use crate::decision::{Decision, decide};
 use crate::desk::Desk;
@@ -81,7 +82,8 @@ impl<N> RoundDesk<N> {
         ensures unchanged { OnErr result (book.new ≡ book.old) }
     {
         let tick = moment / 100;
-        let asks = collect_all(self, desk, given);
+        let mut asks = Asks::new();
+        collect_all(self, desk, given, &mut asks);
         let answered = asks.answered();
         match decide(alloc, limits, tick, asks.as_slice(), book) {
             Ok(decision) => {

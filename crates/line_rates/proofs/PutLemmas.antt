@@ -9,12 +9,20 @@ use Rattle.std.proofs.lemmas.Bool.{eqb-true}
 use Rattle.std.proofs.lemmas.Cmp.{nat_cmp_total}
 use Rattle.line_rates.specs.Put.{IsAt, put, put_over}
 use Rattle.line_rates.specs.Stated.{by_number, IsRising}
-use Rattle.line_rates.proofs.RowLemmas.{first_row, get-by_number, found, not_found, first_contains, rising_below, same_test}
+use Rattle.line_rates.proofs.RowLemmas.{first_row, get-by_number, first_at, found, not_found, first_contains, rising_below, same_test}
 
 pub at_place : {X : Type 0} (number : X → ℕ) (xs : List X) (q i : ℕ) (r : Result ℕ ℕ) → r ≡ Ok i → IsRising number xs → IsSearchInRange r (length xs) → IsBinarySearchResult (λ x. nat_cmp (number x) q) xs r → IsAt number xs q i
 at_place number xs q i r e up range by =
     let f = found number xs q i r e up range by in
     (f.0, (λ d. get-by_number number q xs ∙ f.1 d), (λ d. (first_contains number q xs (get_or xs i d) (f.1 d)).1))
+
+-- an index that has the number is the place
+pub at_guess : {X : Type 0} (number : X → ℕ) (xs : List X) (q i : ℕ) → IsRising number xs → i < length xs → ((d : X) → number (get_or xs i d) ≡ q) → IsAt number xs q i
+at_guess number xs q i up lt is = (
+  lt,
+  (λ d. get-by_number number q xs ∙ first_at number q xs i d lt (is d) (λ j e less same. (let below : number (get_or xs j e) < number (get_or xs i e) = rising_below number xs up j i e less lt in let here : number (get_or xs i e) ≡ q = is e in let there : number (get_or xs j e) ≡ q = same in absurd (omega arith)))),
+  is,
+)
 
 pub at_none : {X : Type 0} (number : X → ℕ) (xs : List X) (q i : ℕ) (r : Result ℕ ℕ) → r ≡ Err i → IsRising number xs → IsSearchInRange r (length xs) → IsBinarySearchResult (λ x. nat_cmp (number x) q) xs r → finite.get (by_number number xs) q ≡ None
 at_none number xs q i r e up range by = get-by_number number q xs ∙ not_found number xs q i r e up range by

@@ -38,7 +38,7 @@ pub get-by_number : {X : Type 0} (number : X → ℕ) (q : ℕ) (xs : List X) �
 get-by_number number q xs = get-from_entries nat_cmp_total (map (λ row. (number row, row)) xs) q ∙ find-first number q xs
 
 -- where the first row of a number stands
-first_at : {X : Type 0} (number : X → ℕ) (q : ℕ) (xs : List X) (i : ℕ) (d : X) → i < length xs → number (get_or xs i d) ≡ q → ((j : ℕ) (e : X) → j < i → number (get_or xs j e) ≢ q)
+pub first_at : {X : Type 0} (number : X → ℕ) (q : ℕ) (xs : List X) (i : ℕ) (d : X) → i < length xs → number (get_or xs i d) ≡ q → ((j : ℕ) (e : X) → j < i → number (get_or xs j e) ≢ q)
     → first_row number q xs ≡ Some (get_or xs i d)
 first_at number q [] i d lt is before = absurd (omega arith)
 first_at number q (x ∷ xs) zero d lt is before = ap (λ b. cond b (Some x) (first_row number q xs)) (eq-eqb (number x) q is)

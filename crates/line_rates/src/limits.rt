@@ -184,20 +184,22 @@ impl<A: Allocator> Limits<A> {
         self.up = up;
     }
 
-    /// Replaces the rates of a group, if it has a row. No memory, one binary search.
-    pub fn put_group(&mut self, row: GroupRate)
+    /// Replaces the rates of a group, if it has a row. No memory. If the row is at the index `guess` of `groups`, this
+    /// takes one comparison, otherwise a binary search.
+    pub fn put_group(&mut self, row: GroupRate, guess: usize)
         requires fits { FitsGroup row }
         ensures put { self.new ≡ with_group self.old row }
     {
-        replace_group(&mut self.groups, row);
+        replace_group(&mut self.groups, row, guess);
     }
 
-    /// Replaces the rates of a user, if they have a row. No memory, one binary search. The row's group is not checked:
-    /// a group without a row limits nobody.
-    pub fn put_user(&mut self, row: UserRate)
+    /// Replaces the rates of a user, if they have a row. No memory. If the row is at the index `guess` of `users`, this
+    /// takes one comparison, otherwise a binary search. The row's group is not checked: a group without a row limits
+    /// nobody.
+    pub fn put_user(&mut self, row: UserRate, guess: usize)
         requires fits { FitsUser row }
         ensures put { self.new ≡ with_user self.old row }
     {
-        replace_user(&mut self.users, row);
+        replace_user(&mut self.users, row, guess);
     }
 }

@@ -142,30 +142,40 @@ pub(crate) fn has_stray_user(groups: &[GroupRate], users: &[UserRate]) -> bool
     false
 }
 
-/// The index of a group's row, if it has one.
-fn place_of_group(groups: &[GroupRate], group: u32) -> Option<usize>
+/// The index of a group's row, if it has one: `guess` if that is right, otherwise by binary search.
+fn place_of_group(groups: &[GroupRate], group: u32, guess: usize) -> Option<usize>
     requires rising { IsRising group_number groups.now }
     ensures place { FindsPlace group_number groups.now group result }
 {
+    if guess < groups.len() && groups[guess].group == group {
+        return Some(guess);
+    }
     match groups.binary_search_by_key(&group, |row| row.group) {
         Ok(place) => Some(place),
         Err(_) => None,
     }
 }
 
-/// The index of a user's row, if they have one.
-fn place_of_user(users: &[UserRate], user: u32) -> Option<usize>
+/// The index of a user's row, if they have one: `guess` if that is right, otherwise by binary search.
+fn place_of_user(users: &[UserRate], user: u32, guess: usize) -> Option<usize>
     requires rising { IsRising user_number users.now }
     ensures place { FindsPlace user_number users.now user result }
 {
+    if guess < users.len() && users[guess].user == user {
+        return Some(guess);
+    }
     match users.binary_search_by_key(&user, |row| row.user) {
         Ok(place) => Some(place),
         Err(_) => None,
     }
 }
 
-/// Replaces the row of a group, if it has one.
-pub(crate) fn replace_group<A: Allocator>(groups: &mut Vec<GroupRate, A>, row: GroupRate)
+/// Replaces the row of a group, if it has one. Its index is `guess`, or found by binary search.
+pub(crate) fn replace_group<A: Allocator>(
+    groups: &mut Vec<GroupRate, A>,
+    row: GroupRate,
+    guess: usize,
+)
     requires rising { IsRising group_number groups.old.items }
     requires all_fit { All FitsGroup groups.old.items }
     requires fits { FitsGroup row }
@@ -174,14 +184,14 @@ pub(crate) fn replace_group<A: Allocator>(groups: &mut Vec<GroupRate, A>, row: G
     ensures rising { IsRising group_number groups.new.items }
     ensures all_fit { All FitsGroup groups.new.items }
 {
-    match place_of_group(groups, row.group) {
+    match place_of_group(groups, row.group, guess) {
         Some(place) => groups[place] = row,
         None => {}
     }
 }
 
-/// Replaces the row of a user, if they have one.
-pub(crate) fn replace_user<A: Allocator>(users: &mut Vec<UserRate, A>, row: UserRate)
+/// Replaces the row of a user, if they have one. Its index is `guess`, or found by binary search.
+pub(crate) fn replace_user<A: Allocator>(users: &mut Vec<UserRate, A>, row: UserRate, guess: usize)
     requires rising { IsRising user_number users.old.items }
     requires all_fit { All FitsUser users.old.items }
     requires fits { FitsUser row }
@@ -190,7 +200,7 @@ pub(crate) fn replace_user<A: Allocator>(users: &mut Vec<UserRate, A>, row: User
     ensures rising { IsRising user_number users.new.items }
     ensures all_fit { All FitsUser users.new.items }
 {
-    match place_of_user(users, row.user) {
+    match place_of_user(users, row.user, guess) {
         Some(place) => users[place] = row,
         None => {}
     }

@@ -11,6 +11,7 @@ mod NewPaces
 mod GroupsIn
 mod UsersIn
 mod HandedIn
+mod Handing
 mod Keeping
 mod Credited
 mod Limits

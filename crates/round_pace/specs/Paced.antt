@@ -2,7 +2,6 @@
 use Rattle.std.specs.Prelude.{◌≡◌, ℕ, List, map, refl}
 use Rattle.std.specs.Coded.{Coded, code_by, coded×, coded_ℕ, coded_list}
 use Rattle.std.specs.FinMap as finite
-use Rattle.std.specs.List.{All}
 use Rattle.std.specs.Option.{is_some}
 use Rattle.line_rates.specs.declared.row.GroupRate.{GroupRate}
 use Rattle.line_rates.specs.declared.row.UserRate.{UserRate}
@@ -54,19 +53,6 @@ AreTheGroups rates groups = (q : ℕ) → is_some (finite.get rates.groups q)
 abbrev pub AreTheUsers : Rates → List UserPace → Type 0
 AreTheUsers rates users = (q : ℕ) → is_some (finite.get rates.users q)
     ≡ is_some (finite.get (by_number pace_number users) q)
-
--- the rows: those of the rates handed in, sorted by number
-pub record IsPaced (server down up : Credit) (groups : List GroupPace) (users : List UserPace)
-    (offered : Rates) : Type 0 where
-  pub server_fits : IsCredit server
-  pub down_fits : IsCredit down
-  pub up_fits : IsCredit up
-  pub groups_fit : All IsGroupPace groups
-  pub users_fit : All IsUserPace users
-  pub groups_rise : IsRising group_key groups
-  pub users_rise : IsRising pace_number users
-  pub are_groups : AreTheGroups offered groups
-  pub are_users : AreTheUsers offered users
 
 -- a credit with nothing earned
 abbrev pub no_credit : ℕ → Credit

@@ -54,6 +54,19 @@ take_groups way None octets groups = groups
 take_groups way (Some group) octets groups =
     map (λ g. if nat_eq (group_key g) group then take_group way octets g else g) groups
 
+-- the pace after octets of a way were taken from the rows of the server and of the ways
+abbrev pub take_from_line : Way → ℕ → Paced → Paced
+take_from_line way octets p = record {
+  begun = p.begun;
+  moment = p.moment;
+  server = take_row octets p.server;
+  down = take_if_down way octets p.down;
+  up = take_if_up way octets p.up;
+  groups = p.groups;
+  users = p.users;
+  offered = p.offered;
+}
+
 -- the pace after octets of a way were granted to a user
 abbrev pub take_octets : Way → ℕ → ℕ → Paced → Paced
 take_octets way user octets p = record {

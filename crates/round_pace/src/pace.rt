@@ -7,7 +7,7 @@ ghost use Rattle.round_pace.specs.Offered.{refill_all, offer_all, with_offered, 
 ghost use Rattle.round_pace.specs.Paced.{Paced, new_group, new_user, IsPacedFrom};
 ghost use Rattle.round_pace.specs.Rows.{rows_of};
 ghost use Rattle.round_pace.specs.Spent.{due_for_in};
-ghost use Rattle.round_pace.specs.Taken.{take_octets};
+ghost use Rattle.round_pace.specs.Taken.{take_from_line, take_octets};
 
 use crate::changed::{changed_groups, changed_users};
 use crate::credit::{Credit, TICK_MICROS, changed_credit, is_dry, refill_row, take_row};
@@ -33,10 +33,13 @@ pub struct Pace<A: Allocator = Global> {
     groups: Vec<GroupPace, A>,
     users: Vec<UserPace, A>,
     offered: Limits<A>,
+    // the limits are those of the rows for each round of a tick that has begun
+    is_handed: bool,
 }
 
 impl<A: Allocator> Model for Pace<A> {
-    ghost use Rattle.round_pace.specs.Paced.{Paced, IsPaced, paced_code};
+    ghost use Rattle.round_pace.specs.Handed.{IsPaced};
+    ghost use Rattle.round_pace.specs.Paced.{Paced, paced_code};
 
     ghost Value = { Paced };
 
@@ -53,7 +56,8 @@ impl<A: Allocator> Model for Pace<A> {
       offered = p.offered;
     } };
 
-    ghost invariant = { λ p. IsPaced p.server p.down p.up p.groups.items p.users.items p.offered };
+    ghost invariant = { λ p. IsPaced p.begun p.is_handed p.server p.down p.up p.groups.items
+        p.users.items p.offered };
 }
 
 fn new_groups<A: Allocator>(alloc: A, rows: &[GroupRate]) -> Result<Vec<GroupPace, A>, AllocError>
@@ -129,6 +133,7 @@ impl<A: Allocator + Clone> Pace<A> {
             groups,
             users,
             offered: limits,
+            is_handed: false,
         })
     }
 
@@ -151,6 +156,7 @@ impl<A: Allocator + Clone> Pace<A> {
             groups,
             users,
             offered: limits,
+            is_handed: false,
         })
     }
 }
@@ -160,6 +166,7 @@ impl<A: Allocator> Pace<A> {
     fn begin(&mut self, tick: u64)
         requires tick { tick < 2 ^ 63 }
         ensures begun { self.new ≡ refill_all tick self.old }
+        ensures later { tick < self.new.begun }
     {
         let begun = self.begun;
         if tick < begun {
@@ -171,10 +178,12 @@ impl<A: Allocator> Pace<A> {
         refill_groups(&mut self.groups, begun, tick);
         refill_users(&mut self.users, begun, tick);
         self.begun = tick + 1;
+        self.is_handed = false;
     }
 
-    // Writes what is left into the limits.
+    // Writes what is left into the limits, for a round of a tick that has begun, after `begun` ticks had begun before it.
     fn hand_in(&mut self, begun: u64, tick: u64)
+        requires later { tick < self.old.begun }
         ensures offered { self.new ≡ with_offered (offer_all begun tick self.old) self.old }
         ensures handed { self.new.offered ≡ left_rates begun tick self.new }
     {
@@ -185,11 +194,12 @@ impl<A: Allocator> Pace<A> {
         );
         put_groups(&mut self.offered, &self.groups);
         put_users(&mut self.offered, &self.users, begun, tick);
+        self.is_handed = begun == self.begun;
         self.moment = self.moment.saturating_add(1_000);
     }
 
-    /// The moment of a round that is held now, in milliseconds of its own count; `limits` returns its limits. No
-    /// memory.
+    /// The moment of a round that is held now, in milliseconds of its own count; `limits` returns its limits. No memory.
+    /// The limits are not written again if nothing was subtracted since a round of the same tick was offered.
     pub fn offer(&mut self, now: u64) -> u64
         ensures round { self.new ≡ offer_round (tick_of now) self.old }
         ensures handed { self.new.offered ≡ left_rates self.old.begun (tick_of now) self.new }
@@ -197,6 +207,10 @@ impl<A: Allocator> Pace<A> {
     {
         let tick = now / TICK_MICROS;
         let begun = self.begun;
+        if tick < begun && self.is_handed {
+            self.moment = self.moment.saturating_add(1_000);
+            return self.moment;
+        }
         self.begin(tick);
         self.hand_in(begun, tick);
         self.moment
@@ -209,17 +223,30 @@ impl<A: Allocator> Pace<A> {
         &self.offered
     }
 
+    // Subtracts octets of a way from what is left under the rates of the server and of the way.
+    fn take_line(&mut self, way: Way, octets: u64)
+        ensures taken { self.new ≡ take_from_line way octets self.old }
+    {
+        let server = take_row(self.server, octets);
+        let down = take_if_down(self.down, way, octets);
+        let up = take_if_up(self.up, way, octets);
+        let is_same = server == self.server && down == self.down && up == self.up;
+        self.is_handed = self.is_handed && is_same;
+        self.server = server;
+        self.down = down;
+        self.up = up;
+    }
+
     /// Subtracts octets granted to a user from what is left under the rates of the server, the way, the user, their
     /// group and their sessions.
     pub fn took(&mut self, way: Way, user: u32, octets: u64)
         ensures taken { self.new ≡ take_octets way user octets self.old }
     {
         let group = group_of(&self.users, user);
-        self.server = take_row(self.server, octets);
-        self.down = take_if_down(self.down, way, octets);
-        self.up = take_if_up(self.up, way, octets);
-        take_groups(&mut self.groups, group, way, octets);
-        take_users(&mut self.users, user, way, octets);
+        self.take_line(way, octets);
+        let same_groups = take_groups(&mut self.groups, group, way, octets);
+        let same_users = take_users(&mut self.users, user, way, octets);
+        self.is_handed = self.is_handed && same_groups && same_users;
     }
 
     /// The earliest moment of the next round: at once if it is the first of its tick or something can be granted;

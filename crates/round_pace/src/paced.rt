@@ -1,6 +1,6 @@
 //! Paced rates of groups and users.
 
-ghost use Rattle.std.specs.Prelude.{◌≡◌, ◌≤◌, map, Some};
+ghost use Rattle.std.specs.Prelude.{◌≡◌, ◌≤◌, true, map, Some};
 ghost use Rattle.std.specs.List.{All};
 ghost use Rattle.line_rates.specs.Put.{FindsPlace};
 ghost use Rattle.line_rates.specs.Stated.{FitsGroup, FitsUser, IsRising};
@@ -141,17 +141,17 @@ pub(crate) fn refill_users<A: Allocator>(users: &mut Vec<UserPace, A>, begun: u6
     }
 }
 
-/// Writes the rows of groups into the limits.
+/// Writes the rows of groups into the limits: each at its own index, if these have the same rows.
 pub(crate) fn put_groups<L: Allocator>(offered: &mut Limits<L>, groups: &[GroupPace])
     requires paces { All IsGroupPace groups.now }
     ensures put { offered.new ≡ put_groups offered.old groups.now }
 {
-    for group in groups {
-        offered.put_group(offer_group(*group));
+    for place in 0..groups.len() {
+        offered.put_group(offer_group(groups[place]), place);
     }
 }
 
-/// Writes the rows of users into the limits.
+/// Writes the rows of users into the limits, likewise.
 pub(crate) fn put_users<L: Allocator>(
     offered: &mut Limits<L>,
     users: &[UserPace],
@@ -161,8 +161,8 @@ pub(crate) fn put_users<L: Allocator>(
     requires paces { All IsUserPace users.now }
     ensures put { offered.new ≡ put_users begun tick offered.old users.now }
 {
-    for user in users {
-        offered.put_user(offer_user(*user, begun, tick));
+    for place in 0..users.len() {
+        offered.put_user(offer_user(users[place], begun, tick), place);
     }
 }
 
@@ -249,51 +249,69 @@ pub(crate) fn group_of(users: &[UserPace], user: u32) -> Option<u32>
     }
 }
 
-/// Subtracts octets from the row of a user, if they have one.
+/// Subtracts octets from the row of a user, if they have one. Returns true only if that changed nothing.
 pub(crate) fn take_users<A: Allocator>(
     users: &mut Vec<UserPace, A>,
     user: u32,
     way: Way,
     octets: u64,
-)
+) -> bool
     requires paces { All IsUserPace users.old.items }
     requires rising { IsRising pace_number users.old.items }
     ensures taken { users.new.items ≡ take_users way user octets users.old.items }
     ensures paces { All IsUserPace users.new.items }
+    ensures same { result ≡ true → users.new.items ≡ users.old.items }
 {
     match find_user(users, user) {
-        Some(place) => users[place] = take_user(users[place], way, octets),
-        None => {}
+        Some(place) => {
+            let before = users[place];
+            let after = take_user(before, way, octets);
+            users[place] = after;
+            after == before
+        }
+        None => true,
     }
 }
 
-fn take_from_group<A: Allocator>(groups: &mut Vec<GroupPace, A>, group: u32, way: Way, octets: u64)
+fn take_from_group<A: Allocator>(
+    groups: &mut Vec<GroupPace, A>,
+    group: u32,
+    way: Way,
+    octets: u64,
+) -> bool
     requires paces { All IsGroupPace groups.old.items }
     requires rising { IsRising group_key groups.old.items }
     ensures taken { groups.new.items ≡ take_groups way (Some group) octets groups.old.items }
     ensures paces { All IsGroupPace groups.new.items }
+    ensures same { result ≡ true → groups.new.items ≡ groups.old.items }
 {
     match find_group(groups, group) {
-        Some(place) => groups[place] = take_group(groups[place], way, octets),
-        None => {}
+        Some(place) => {
+            let before = groups[place];
+            let after = take_group(before, way, octets);
+            groups[place] = after;
+            after == before
+        }
+        None => true,
     }
 }
 
-/// Subtracts octets from the row of a group, if there is one.
+/// Subtracts octets from the row of a group, if there is one. Returns true only if that changed nothing.
 pub(crate) fn take_groups<A: Allocator>(
     groups: &mut Vec<GroupPace, A>,
     group: Option<u32>,
     way: Way,
     octets: u64,
-)
+) -> bool
     requires paces { All IsGroupPace groups.old.items }
     requires rising { IsRising group_key groups.old.items }
     ensures taken { groups.new.items ≡ take_groups way group octets groups.old.items }
     ensures paces { All IsGroupPace groups.new.items }
+    ensures same { result ≡ true → groups.new.items ≡ groups.old.items }
 {
     match group {
         Some(group) => take_from_group(groups, group, way, octets),
-        None => {}
+        None => true,
     }
 }
 

@@ -252,20 +252,22 @@ fn rows_are_found_by_their_numbers(rt: HostRuntime) {
 /// Replaces the rates of the server, of group 2 and of user 40, and of a user and a group without a row.
 fn put_others(limits: &mut Limits) {
     limits.put_line(100, 200, 300);
-    for group in [2, 3] {
-        limits.put_group(GroupRate {
+    for (guess, group) in [(0, 2), (9, 3)] {
+        let row = GroupRate {
             group,
             down: 21,
             up: 22,
-        });
+        };
+        limits.put_group(row, guess);
     }
-    for user in [40, 41] {
-        limits.put_user(UserRate {
+    for (guess, user) in [(0, 40), (1, 41)] {
+        let row = UserRate {
             user,
             group: Some(2),
             down: 11,
             ..USER
-        });
+        };
+        limits.put_user(row, guess);
     }
 }
 

@@ -1,6 +1,5 @@
 use Rattle.std.proofs.Common.{◌<◌, ◌≤◌, length, take, sym, arith}
 use Rattle.std.proofs.lemmas.List.{length-take-le}
-use Rattle.std.proofs.lemmas.Result.{err_from_is_err_and}
 use Rattle.data_pump.proofs.BufferLemmas.{grown, kept}
 use Rattle.data_pump.proofs.buffer.read_after.Goals as goal
 

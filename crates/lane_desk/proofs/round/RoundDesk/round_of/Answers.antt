@@ -13,17 +13,17 @@ use Rattle.lane_desk.proofs.round.RoundDesk.round_of.Goals as goal
 
 pub decide-requires : goal.decide-requires
 decide-requires g c =
-    let t = c.collect_all-asks.ensures.tried in
-    record { apart = subst AreApart (sym c.as_slice.ensures.asks) (found_apart t.0 c.collect_all-asks.result.asks t.1.asks_are) }
+    let t = c.collect_all.ensures.tried in
+    record { apart = subst AreApart (sym c.as_slice.ensures.asks) (found_apart t.0 c.collect_all.new.asks.asks t.1.asks_are) }
 
 pub post_all-requires-clause-due : goal.post_all-requires-clause-due
 post_all-requires-clause-due g c =
-    let t = c.collect_all-asks.ensures.tried in
+    let t = c.collect_all.ensures.tried in
     let given : ℕ → Bool = is_given c.args.given.now in
     let old = turns c.args.self.now in
-    let mid = turns c.collect_all-asks.new.round in
-    let asks = c.collect_all-asks.result.asks in
-    let marks = c.collect_all-asks.result.answered in
+    let mid = turns c.collect_all.new.round in
+    let asks = c.collect_all.new.asks.asks in
+    let marks = c.collect_all.new.asks.answered in
     let rates = c.args.limits.now in
     let tick : ℕ = c.args.moment / 100 in
     let d = c.in-Ok.decision in
@@ -33,36 +33,36 @@ post_all-requires-clause-due g c =
 
 pub post_all-requires-clause-most : goal.post_all-requires-clause-most
 post_all-requires-clause-most g c =
-    let t = c.collect_all-asks.ensures.tried in
+    let t = c.collect_all.ensures.tried in
     let given : ℕ → Bool = is_given c.args.given.now in
     let old = turns c.args.self.now in
-    let mid = turns c.collect_all-asks.new.round in
-    let asks = c.collect_all-asks.result.asks in
-    let marks = c.collect_all-asks.result.answered in
+    let mid = turns c.collect_all.new.round in
+    let asks = c.collect_all.new.asks.asks in
+    let marks = c.collect_all.new.asks.answered in
     let rates = c.args.limits.now in
     let tick : ℕ = c.args.moment / 100 in
     omega (arith, posted_mid given t.0 old mid asks marks t.1, c.requires.issued, c.in-Ok.ensures.most, ap sum c.grants.ensures.grants)
 
 pub refuse_all-requires-clause-due : goal.refuse_all-requires-clause-due
 refuse_all-requires-clause-due g c =
-    let t = c.collect_all-asks.ensures.tried in
+    let t = c.collect_all.ensures.tried in
     let given : ℕ → Bool = is_given c.args.given.now in
     let old = turns c.args.self.now in
-    let mid = turns c.collect_all-asks.new.round in
-    let asks = c.collect_all-asks.result.asks in
-    let marks = c.collect_all-asks.result.answered in
+    let mid = turns c.collect_all.new.round in
+    let asks = c.collect_all.new.asks.asks in
+    let marks = c.collect_all.new.asks.answered in
     let rates = c.args.limits.now in
     let tick : ℕ = c.args.moment / 100 in
     subst (λ (xs : List Asker). AreDue (map lane_in xs) mid) (sym c.as_slice-in-Err.ensures.asks) (due_asks given t.0 old mid asks marks t.1 c.requires.answered)
 
 pub returns-in-Ok-clause-round : goal.returns-in-Ok-clause-round
 returns-in-Ok-clause-round g c =
-    let t = c.collect_all-asks.ensures.tried in
+    let t = c.collect_all.ensures.tried in
     let given : ℕ → Bool = is_given c.args.given.now in
     let old = turns c.args.self.now in
-    let mid = turns c.collect_all-asks.new.round in
-    let asks = c.collect_all-asks.result.asks in
-    let marks = c.collect_all-asks.result.answered in
+    let mid = turns c.collect_all.new.round in
+    let asks = c.collect_all.new.asks.asks in
+    let marks = c.collect_all.new.asks.answered in
     let rates = c.args.limits.now in
     let tick : ℕ = c.args.moment / 100 in
     let d = c.in-Ok.decision in
@@ -75,12 +75,12 @@ returns-in-Ok-clause-round g c =
 
 pub returns-in-Ok-clause-answered : goal.returns-in-Ok-clause-answered
 returns-in-Ok-clause-answered g c =
-    let t = c.collect_all-asks.ensures.tried in
+    let t = c.collect_all.ensures.tried in
     let given : ℕ → Bool = is_given c.args.given.now in
     let old = turns c.args.self.now in
-    let mid = turns c.collect_all-asks.new.round in
-    let asks = c.collect_all-asks.result.asks in
-    let marks = c.collect_all-asks.result.answered in
+    let mid = turns c.collect_all.new.round in
+    let asks = c.collect_all.new.asks.asks in
+    let marks = c.collect_all.new.asks.answered in
     let rates = c.args.limits.now in
     let tick : ℕ = c.args.moment / 100 in
     let d = c.in-Ok.decision in
@@ -92,12 +92,12 @@ returns-in-Ok-clause-answered g c =
 
 pub returns-in-Ok-clause-total : goal.returns-in-Ok-clause-total
 returns-in-Ok-clause-total g c =
-    let t = c.collect_all-asks.ensures.tried in
+    let t = c.collect_all.ensures.tried in
     let given : ℕ → Bool = is_given c.args.given.now in
     let old = turns c.args.self.now in
-    let mid = turns c.collect_all-asks.new.round in
-    let asks = c.collect_all-asks.result.asks in
-    let marks = c.collect_all-asks.result.answered in
+    let mid = turns c.collect_all.new.round in
+    let asks = c.collect_all.new.asks.asks in
+    let marks = c.collect_all.new.asks.answered in
     let rates = c.args.limits.now in
     let tick : ℕ = c.args.moment / 100 in
     let d = c.in-Ok.decision in
@@ -109,12 +109,12 @@ returns-in-Ok-clause-total g c =
 
 pub returns-in-Err-clause-refused : goal.returns-in-Err-clause-refused
 returns-in-Err-clause-refused g c =
-    let t = c.collect_all-asks.ensures.tried in
+    let t = c.collect_all.ensures.tried in
     let given : ℕ → Bool = is_given c.args.given.now in
     let old = turns c.args.self.now in
-    let mid = turns c.collect_all-asks.new.round in
-    let asks = c.collect_all-asks.result.asks in
-    let marks = c.collect_all-asks.result.answered in
+    let mid = turns c.collect_all.new.round in
+    let asks = c.collect_all.new.asks.asks in
+    let marks = c.collect_all.new.asks.answered in
     let rates = c.args.limits.now in
     let tick : ℕ = c.args.moment / 100 in
     let new = turns c.refuse_all.new.round in
@@ -125,12 +125,12 @@ returns-in-Err-clause-refused g c =
 
 pub returns-in-Err-clause-answered : goal.returns-in-Err-clause-answered
 returns-in-Err-clause-answered g c =
-    let t = c.collect_all-asks.ensures.tried in
+    let t = c.collect_all.ensures.tried in
     let given : ℕ → Bool = is_given c.args.given.now in
     let old = turns c.args.self.now in
-    let mid = turns c.collect_all-asks.new.round in
-    let asks = c.collect_all-asks.result.asks in
-    let marks = c.collect_all-asks.result.answered in
+    let mid = turns c.collect_all.new.round in
+    let asks = c.collect_all.new.asks.asks in
+    let marks = c.collect_all.new.asks.answered in
     let rates = c.args.limits.now in
     let tick : ℕ = c.args.moment / 100 in
     let new = turns c.refuse_all.new.round in
@@ -140,12 +140,12 @@ returns-in-Err-clause-answered g c =
 
 pub returns-in-Err-clause-unposted : goal.returns-in-Err-clause-unposted
 returns-in-Err-clause-unposted g c =
-    let t = c.collect_all-asks.ensures.tried in
+    let t = c.collect_all.ensures.tried in
     let given : ℕ → Bool = is_given c.args.given.now in
     let old = turns c.args.self.now in
-    let mid = turns c.collect_all-asks.new.round in
-    let asks = c.collect_all-asks.result.asks in
-    let marks = c.collect_all-asks.result.answered in
+    let mid = turns c.collect_all.new.round in
+    let asks = c.collect_all.new.asks.asks in
+    let marks = c.collect_all.new.asks.answered in
     let rates = c.args.limits.now in
     let tick : ℕ = c.args.moment / 100 in
     let new = turns c.refuse_all.new.round in

@@ -16,4 +16,5 @@ invariant_of-self g c =
       users_rise = users.0;
       are_groups = groups.1;
       are_users = users.1;
+      handed = λ q. absurd (cc);
     }

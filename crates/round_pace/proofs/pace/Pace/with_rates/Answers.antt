@@ -23,6 +23,7 @@ invariant_of-result g c =
       users_rise = users.0;
       are_groups = groups.1;
       are_users = users.1;
+      handed = λ q. absurd (cc);
     }
 
 pub returns : goal.returns

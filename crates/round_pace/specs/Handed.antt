@@ -1,0 +1,32 @@
+-- The invariant of a pace: its rows, and the limits that were written last.
+use Rattle.std.specs.Prelude.{◌≡◌, ℕ, ◌<◌, Bool, true, List, map}
+use Rattle.std.specs.List.{All}
+use Rattle.line_rates.specs.Rates.{Rates}
+use Rattle.line_rates.specs.Stated.{stated, IsRising}
+use Rattle.round_pace.specs.declared.credit.Credit.{Credit}
+use Rattle.round_pace.specs.declared.paced.GroupPace.{GroupPace}
+use Rattle.round_pace.specs.declared.paced.UserPace.{UserPace}
+use Rattle.round_pace.specs.Credits.{IsCredit}
+use Rattle.round_pace.specs.Offered.{credit_rate, offer_group, offer_user}
+use Rattle.round_pace.specs.Paced.{group_key, pace_number, IsGroupPace, IsUserPace, AreTheGroups, AreTheUsers}
+
+-- the limits are those of the rows, for each round of a tick that has begun
+abbrev pub AreHanded : ℕ → Credit → Credit → Credit → List GroupPace → List UserPace → Rates
+    → Type 0
+AreHanded begun server down up groups users offered = (tick : ℕ) → tick < begun
+    → stated (credit_rate server) (credit_rate down) (credit_rate up) (map offer_group groups)
+    (map (offer_user begun tick) users) ≡ offered
+
+-- the rows: those of the rates handed in, sorted by number
+pub record IsPaced (begun : ℕ) (is_handed : Bool) (server down up : Credit)
+    (groups : List GroupPace) (users : List UserPace) (offered : Rates) : Type 0 where
+  pub server_fits : IsCredit server
+  pub down_fits : IsCredit down
+  pub up_fits : IsCredit up
+  pub groups_fit : All IsGroupPace groups
+  pub users_fit : All IsUserPace users
+  pub groups_rise : IsRising group_key groups
+  pub users_rise : IsRising pace_number users
+  pub are_groups : AreTheGroups offered groups
+  pub are_users : AreTheUsers offered users
+  pub handed : is_handed ≡ true → AreHanded begun server down up groups users offered

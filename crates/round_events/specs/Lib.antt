@@ -1,0 +1,4 @@
+pub mod Events
+pub mod Worlds
+pub mod Decided
+pub mod Rounds

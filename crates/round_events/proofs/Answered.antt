@@ -29,7 +29,7 @@ waiting_from [] (n ∷ ns) ls e once h = absurd (omega (arith, e))
 waiting_from (i ∷ is) [] ls e once h = absurd (omega (arith, e))
 waiting_from (i ∷ is) (n ∷ ns) ls e once h = (h 0 (omega arith), once.0, waiting_from is ns ls (omega (arith, e)) once.1 (λ j less. h (suc j) (omega arith)))
 
-found_within : (found : List (Option Ask)) (i : ℕ) (a : Ask) → get_or found i None ≡ Some a → i < length found
+pub found_within : (found : List (Option Ask)) (i : ℕ) (a : Ask) → get_or found i None ≡ Some a → i < length found
 found_within [] i a e = absurd (cc)
 found_within (o ∷ found) zero a e = omega arith
 found_within (o ∷ found) (suc i) a e = omega (arith, found_within found i a e)

@@ -11,7 +11,7 @@ use Rattle.line_rates.specs.Rates.{Rates}
 use Rattle.line_rates.specs.TickTree.{Asker, IsPlan, lane_in}
 use Rattle.world_terms.specs.declared.event.LaneState.{LaneState}
 use Rattle.world_terms.specs.declared.event.LaneState.TheVariants as state
-use Rattle.world_terms.specs.Decisions.{AreGiven, IsDecision, IsGiven, IsReady, asker_of, in_round, in_round_from, with_amount}
+use Rattle.world_terms.specs.Decisions.{AllPosted, AreGiven, IsDecision, IsGiven, IsReady, IsShared, asker_of, decided_sum, in_round, in_round_from, with_amount}
 use Rattle.world_terms.specs.Lanes.{Lane}
 use Rattle.round_events.specs.Decided.{IsPlanned, decided_on}
 use Rattle.round_events.proofs.Collects.{at}
@@ -132,18 +132,22 @@ module _ (rates : Rates) (tick : ℕ) (ls : List Lane) (t : LimitTree) (lanes gr
             ∙ ap Some (amount_at lanes grants j once lanes_length less);
       }
 
+  -- the amounts decided are a decision of the core, and add up to the grants
+  pub decided_is : AllPosted ls → IsShared rates tick ls decided_lanes × (decided_sum decided_lanes ≡ sum grants)
+  unfolding planned
+  decided_is posted = (shared_of rates tick ls decided_lanes posted planned, planned_sum rates tick ls decided_lanes posted planned)
+
 -- a round's decision
 pub decides : (rates : Rates) (moment : ℕ) (last : Option ℕ) (issued : ℕ) (ls : List Lane) (t : LimitTree) (lanes grants : List ℕ) → All HasAsk ls → IsPlan rates (moment / 100) (in_round ls) t lanes → IsBest t grants → Once lanes
     → IsReady (at last issued ls) moment → issued + sum grants ≤ MAX_ISSUED
     → IsDecision rates (at last issued ls) moment (moment / 100) (sum grants) (at (Some (moment / 100)) (issued + sum grants) (give (amount_on lanes grants) 0 ls))
-unfolding planned
 decides rates moment last issued ls t lanes grants asked p best once ready room =
-    let plan = planned rates (moment / 100) ls t lanes grants asked p best once in
+    let is = decided_is rates (moment / 100) ls t lanes grants asked p best once ready.posted in
     record {
       ready = ready;
       tick_is = refl;
-      shared = shared_of rates (moment / 100) ls (give (amount_on lanes grants) 0 ls) ready.posted plan;
-      total_is = sym (planned_sum rates (moment / 100) ls (give (amount_on lanes grants) 0 ls) ready.posted plan);
+      shared = is.0;
+      total_is = sym is.1;
       last_is = refl;
       issued_is = refl;
       most = room;

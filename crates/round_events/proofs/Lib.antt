@@ -7,3 +7,4 @@ pub mod Found
 pub mod Tried
 pub mod Answered
 pub mod Rounds
+pub mod Refused

@@ -3,7 +3,11 @@ use Rattle.std.proofs.Common.{◌≡◌, ℕ, zero, suc, ◌+◌, ◌/◌, ◌<�
 use Rattle.std.specs.List.{list_any}
 use Rattle.std.proofs.lemmas.List.Elements.{All-nil}
 use Rattle.std.proofs.lemmas.Option.{slice_get-get_or}
+use Rattle.std.specs.Option.{option_map}
+use Rattle.limit_tree.specs.Faults.{first_fault, first_over}
 use Rattle.limit_tree.specs.Sharing.{LimitTree}
+use Rattle.limit_tree.specs.declared.fault.TreeFault.TheVariants.{FloorsOverLimit}
+use Rattle.limit_tree.proofs.Leaves.{or_else-parts, sound_leaves}
 use Rattle.limit_tree.specs.declared.bounds.TheConstants.{MAX_WANT}
 use Rattle.line_rates.specs.declared.ask.Ask.{Ask}
 use Rattle.line_rates.specs.Rates.{Rates}
@@ -19,7 +23,7 @@ use Rattle.lane_desk.specs.Posted.{turn_at}
 use Rattle.lane_desk.specs.Rounded.{IsAnswered}
 use Rattle.lane_desk.specs.Tried.{asks_from}
 use Rattle.round_events.specs.Events.{collects, given_lanes, post_replies, posts, round_events, round_replies, try_replies}
-use Rattle.round_events.specs.Rounds.{IsDecided, RoundIsEvents}
+use Rattle.round_events.specs.Rounds.{IsDecided, PlansAreSmall, RoundIsEvents}
 use Rattle.round_events.specs.Worlds.{AreFoundOn, AreShownBy, IsFoundOn, LeadsOn}
 use Rattle.round_events.proofs.Answered.{IsReadyFor, are_left, are_shown, waiting}
 use Rattle.round_events.proofs.Collects.{EachFound, OfGiven, at, collected, got, posted_got, tries_run}
@@ -56,7 +60,7 @@ length-give : (f : ℕ → ℕ) (k : ℕ) (ls : List Lane) → length (give f k 
 length-give f k [] = refl
 length-give f k (l ∷ ls) = ap suc (length-give f (suc k) ls)
 
-at_zero : (found : List (Option Ask)) (ls : List Lane) (i : ℕ) (l : Lane) → slice_get ls i ≡ Some l → slice_get (tried_lanes found ls) i ≡ Some (collected (find found i) l)
+pub at_zero : (found : List (Option Ask)) (ls : List Lane) (i : ℕ) (l : Lane) → slice_get ls i ≡ Some l → slice_get (tried_lanes found ls) i ≡ Some (collected (find found i) l)
 at_zero found ls i l e = got_at (find found) 0 ls i l e ∙ (let z : 0 + i ≡ i = omega arith in ap (λ (n : ℕ). Some (collected (find found n) l)) z)
 
 module _ (f : ℕ → ℕ) where
@@ -148,7 +152,7 @@ module _ (given : ℕ → Bool) (found : List (Option Ask)) (rates : Rates) (mom
   }
 
 pub round_is_events : RoundIsEvents
-round_is_events given rates moment old new answered t lanes asks grants w r decided before on =
+round_is_events given rates moment old new answered t lanes asks grants w r few decided before on =
     let found = r.found in
     let wide : length found ≡ length w.lanes = r.wide ∙ sym before.wide in
     let same : in_round (tried_lanes found w.lanes) ≡ asks_from 0 found = tried_asks rates given found old w before on r.only wide in
@@ -161,7 +165,13 @@ round_is_events given rates moment old new answered t lanes asks grants w r deci
       still = r.still;
       are = subst (AreFound found) (sym r.plan.lanes_are) (are_found found r.plan.order r.plan.all);
       plan = subst (λ (xs : List Asker). IsPlan rates (moment / 100) xs t lanes) (sym same) r.plan;
-      small = ap (list_any wants_too_much) same ∙ none_wants (asks_from 0 found) r.plan.order r.plan.all (subst (All (λ (n : ℕ). n ≤ MAX_WANT)) r.plan.tree.wants decided.wants);
+      small = ap (list_any wants_too_much) same ∙ few;
       untold = λ i less e. untold_on (given i) (turn_at old i) (turn_at new i) (get_or found i None) e (r.each i less);
       told = r.posted;
     })
+
+pub plans_are_small : PlansAreSmall
+plans_are_small rates tick asks outline lanes p sound =
+    let whole = first_fault 0 0 0 outline in
+    let none : whole ≡ None = (or_else-parts whole (option_map FloorsOverLimit (first_over 0 outline)) sound).0 in
+    none_wants asks p.order p.all (subst (All (λ (n : ℕ). n ≤ MAX_WANT)) p.tree.wants (sound_leaves 0 0 0 outline none).most)

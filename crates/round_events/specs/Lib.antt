@@ -2,3 +2,4 @@ pub mod Events
 pub mod Worlds
 pub mod Decided
 pub mod Rounds
+pub mod Refused

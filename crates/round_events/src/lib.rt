@@ -4,4 +4,4 @@
 
 mod laws;
 
-pub use laws::{decisions_are_one, round_is_events};
+pub use laws::{decisions_are_one, refused_round_is_events, round_is_events};

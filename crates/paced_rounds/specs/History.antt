@@ -76,4 +76,4 @@ pub record IsRun (p : Paced) (latest : ℕ) (ss : List Stretch) : Type 0 where
 
 -- Each round of the stretches was offered what guarantees within the rates in force in it need.
 abbrev pub WereGuaranteed : Paced → List Stretch → Type 0
-WereGuaranteed p ss = ∥ (begun : ℕ) × LeadGuaranteed (idle begun) ss p ∥₁
+WereGuaranteed p ss = ∥ ((begun : ℕ) × LeadGuaranteed (idle begun) ss p) ∥₁

@@ -1,5 +1,6 @@
-//! Laws over the definitions, and one of the type.
+//! Laws over the definitions, and of the type.
 
+ghost use Rattle.std.specs.Prelude.{ℕ};
 ghost use Rattle.round_pace.specs.Guaranteed.{AreBounded, IsGuaranteed};
 ghost use Rattle.round_pace.specs.Histories.{rates_of};
 ghost use Rattle.paced_rounds.specs.History.{stretches, WereGuaranteed};

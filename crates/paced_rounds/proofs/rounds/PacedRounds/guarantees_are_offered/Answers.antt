@@ -1,6 +1,6 @@
 use Rattle.paced_rounds.specs.History.{stretches, ended_in, history}
 use Rattle.paced_rounds.proofs.GuaranteeLemmas.{run_guaranteed, next_guaranteed}
-use Rattle.paced_rounds.proofs.laws.PacedRounds.guarantees_are_offered.Goals as goal
+use Rattle.paced_rounds.proofs.rounds.PacedRounds.guarantees_are_offered.Goals as goal
 
 pub returns-clause-rounds : goal.returns-clause-rounds
 returns-clause-rounds g c =

@@ -1,6 +1,7 @@
 //! Laws of rounds.
 
 ghost use Rattle.round_events.specs.Decided.{OneDecision};
+ghost use Rattle.round_events.specs.Desk.{DeskRunsAreRuns, OpenedIsNew, TablesAreShown, TriedAreDue};
 ghost use Rattle.round_events.specs.Refused.{RefusedRoundIsEvents};
 ghost use Rattle.round_events.specs.Rounds.{PlansAreSmall, RoundIsEvents};
 
@@ -20,4 +21,18 @@ pub fn refused_round_is_events<A>()
 /// What the core decides is what a plan for the asks in Round with best grants decides.
 pub fn decisions_are_one()
     ensures one { OneDecision }
+{}
+
+/// Each list of steps of the desk, by any of its threads in any order, is a run of the core, which begins in a new world
+/// if the desk was just opened.
+pub fn desk_runs_are_runs<N>()
+    ensures runs { DeskRunsAreRuns N }
+    ensures opened { OpenedIsNew N }
+{}
+
+/// Between rounds, the world of a desk's table is one in which a round begins; after the tries of a round, its decision
+/// is for the asks that it found.
+pub fn rounds_are_of_the_desk<N>()
+    ensures between { TablesAreShown N }
+    ensures due { TriedAreDue }
 {}

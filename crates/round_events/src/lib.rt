@@ -4,4 +4,7 @@
 
 mod laws;
 
-pub use laws::{decisions_are_one, refused_round_is_events, round_is_events};
+pub use laws::{
+    decisions_are_one, desk_runs_are_runs, refused_round_is_events, round_is_events,
+    rounds_are_of_the_desk,
+};

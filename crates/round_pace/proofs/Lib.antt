@@ -11,6 +11,7 @@ mod NewPaces
 mod GroupsIn
 mod UsersIn
 mod HandedIn
+mod Handing
 mod Keeping
 mod Credited
 mod Limits
@@ -20,3 +21,6 @@ mod Holding
 mod Rated
 mod Stretching
 mod Changing
+mod RowValues
+mod Guarantees
+mod Guaranteeing

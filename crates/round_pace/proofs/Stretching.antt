@@ -10,7 +10,7 @@ use Rattle.round_pace.specs.Changed.{changed_group, changed_user, idle}
 use Rattle.round_pace.specs.Earned.{tick_of, offered, most_kept}
 use Rattle.round_pace.specs.Histories.{Held, after, after_all, IsHeld, AreHeld, stated_group, stated_user, rates_of, round_under, rounds_under}
 use Rattle.round_pace.specs.Paced.{Paced}
-use Rattle.round_pace.specs.Rounds.{Round, granted_where, is_in, is_from}
+use Rattle.round_pace.specs.Rounds.{Round, granted_where, is_in}
 use Rattle.round_pace.specs.Stretches.{Stretch, Lead, RatedRound, rated, rated_under, round_of, rates_where, changes_from, changes, AreWithin, IsWindowed, AreWindowed, StretchesKeepRates, OneStretchKeeps, ChangedRates}
 use Rattle.round_pace.proofs.Credited.{credit_under, charged}
 use Rattle.round_pace.proofs.Holding.{good_after, begun_next, granted_charged, granted_within, left_next, are_rounds}
@@ -42,7 +42,7 @@ rounds_rated n rates p (h ∷ hs) rest good are more = (
       (rounds_rated n rates (after p h) hs rest (good_after rates p h good are.0) are.1 more),
 )
 
-good_last : (rates : Rates) (p : Paced) (hs : List Held) → Good rates p → AreHeld p hs → Good rates (after_all p hs)
+pub good_last : (rates : Rates) (p : Paced) (hs : List Held) → Good rates p → AreHeld p hs → Good rates (after_all p hs)
 good_last rates p [] good are = good
 good_last rates p (h ∷ hs) good are = good_last rates (after p h) hs (good_after rates p h good are.0) are.1
 

@@ -1,4 +1,4 @@
--- What is true of each pace: its rows, and the limits that were written last.
+-- The invariant of a pace: its rows, and the limits that were written last.
 use Rattle.std.specs.Prelude.{◌≡◌, ℕ, ◌<◌, Bool, true, List, map}
 use Rattle.std.specs.List.{All}
 use Rattle.line_rates.specs.Rates.{Rates}

@@ -10,7 +10,7 @@ use Rattle.round_pace.proofs.paced.take_from_group.Goals as goal
 
 pub returns-in-Some-clause-taken : goal.returns-in-Some-clause-taken
 returns-in-Some-clause-taken g c =
-    ap (set c.args.groups.now.items c.in-Some.place) c.take_group.ensures.group
+    ap (set c.args.groups.now.items c.in-Some.place) c.take_group-after.ensures.group
     ∙ (ap (λ (x : GroupPace). set c.args.groups.now.items c.in-Some.place (take_group c.args.way c.args.octets x)) c.index.ensures
     ∙ sym (changed_at group_key (take_group c.args.way c.args.octets) c.args.groups.now.items c.args.group c.in-Some.place c.index.result.now c.requires.rising
     (subst (λ (xs : List GroupPace). IsAt group_key xs c.args.group c.in-Some.place) c.deref.ensures.value c.in-Some.ensures.place)))

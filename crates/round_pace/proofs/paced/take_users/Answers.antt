@@ -11,7 +11,7 @@ use Rattle.round_pace.proofs.paced.take_users.Goals as goal
 
 pub returns-in-Some-clause-taken : goal.returns-in-Some-clause-taken
 returns-in-Some-clause-taken g c =
-    ap (set c.args.users.now.items c.in-Some.place) c.take_user.ensures.user
+    ap (set c.args.users.now.items c.in-Some.place) c.take_user-after.ensures.user
     ∙ (ap (λ (x : UserPace). set c.args.users.now.items c.in-Some.place (take_user c.args.way c.args.octets x)) c.index.ensures
     ∙ sym (changed_at pace_number (take_user c.args.way c.args.octets) c.args.users.now.items c.args.user c.in-Some.place c.index.result.now c.requires.rising
     (subst (λ (xs : List UserPace). IsAt pace_number xs c.args.user c.in-Some.place) c.deref.ensures.value c.in-Some.ensures.place)))
@@ -21,4 +21,4 @@ returns-in-None-clause-taken g c = sym (changed_nowhere pace_number (take_user c
     (subst (λ (xs : List UserPace). finite.get (by_number pace_number xs) c.args.user ≡ None) c.deref.ensures.value c.in-None.ensures.place))
 
 pub returns-in-Some-clause-paces : goal.returns-in-Some-clause-paces
-returns-in-Some-clause-paces g c = All-set IsUserPace c.args.users.now.items c.in-Some.place c.take_user.result c.take_user.ensures.fits c.requires.paces
+returns-in-Some-clause-paces g c = All-set IsUserPace c.args.users.now.items c.in-Some.place c.take_user-after.result c.take_user-after.ensures.fits c.requires.paces

@@ -1,12 +1,17 @@
-use Rattle.std.proofs.Common.{◌≡◌, ◌∙◌}
+use Rattle.std.proofs.Common.{◌≡◌, ◌∙◌, ℕ, ◌<◌, true, ap, arith, subst}
+use Rattle.std.specs.Prelude.{nat_eq}
+use Rattle.std.proofs.lemmas.Bool.{eqb-true}
 use Rattle.round_pace.specs.Offered.{left_rates}
 use Rattle.round_pace.specs.Paced.{Paced}
 use Rattle.round_pace.proofs.HandedIn.{hands_rows_in}
+use Rattle.round_pace.proofs.Handing.{handed_begun}
 use Rattle.round_pace.proofs.Keeping.{offered_all, groups_offered, users_offered}
 use Rattle.round_pace.proofs.pace.Pace.hand_in.Goals as goal
 
 pub invariant_of-self : goal.invariant_of-self
 invariant_of-self g c =
+    let later : c.args.tick < c.self.inside.begun = omega (arith, ap (λ (v : Paced). v.begun) c.self.view_is, c.requires.later) in
+    let here : nat_eq c.args.begun c.self.inside.begun ≡ true → c.args.begun ≡ c.self.inside.begun = λ q. eqb-true c.args.begun c.self.inside.begun q in
     let kept = c.self.invariant in
     let p : Paced = record {
       begun = c.self.inside.begun;
@@ -31,6 +36,7 @@ invariant_of-self g c =
       users_rise = kept.users_rise;
       are_groups = groups_offered c.args.begun c.args.tick p c.put_users.new.offered rates;
       are_users = users_offered c.args.begun c.args.tick p c.put_users.new.offered rates;
+      handed = λ q. handed_begun p.begun c.args.tick p.server p.down p.up p.groups p.users c.put_users.new.offered later (subst (λ (b : ℕ). c.put_users.new.offered ≡ left_rates b c.args.tick p) (here q) rates);
     }
 
 pub returns-clause-handed : goal.returns-clause-handed

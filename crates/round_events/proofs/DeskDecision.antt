@@ -88,7 +88,7 @@ due_asked f o k (x ∷ xs) h = All-cons HasAsk (record { shown = f k; hidden = x
     one y p (inl d) e = d.2
     one y p (inr d) e = absurd (d.0 e)
 
-grant_at : (is ns : List ℕ) (j : ℕ) → Once is → length is ≡ length ns → j < length is → grant_on is ns (get_or is j 0) ≡ Some (get_or ns j 0)
+pub grant_at : (is ns : List ℕ) (j : ℕ) → Once is → length is ≡ length ns → j < length is → grant_on is ns (get_or is j 0) ≡ Some (get_or ns j 0)
 grant_at [] ns j once long less = absurd (omega arith)
 grant_at (i ∷ is) [] j once long less = absurd (omega (arith, long))
 grant_at (i ∷ is) (n ∷ ns) zero once long less = ap (λ (b : Bool). cond b (Some n) (grant_on is ns i)) (eq-eqb i i refl)

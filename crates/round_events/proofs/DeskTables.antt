@@ -1,8 +1,8 @@
 -- The world of a table between rounds, and the asks that are due after the tries of one.
-use Rattle.std.proofs.Common.{◌≡◌, ◌≢◌, ℕ, zero, suc, ◌+◌, ◌<◌, Bool, true, false, List, [], ◌∷◌, ◌++◌, length, get_or, sym, refl, ap, ◌∙◌, subst, arith, inl, inr, Option, Some, None, slice_get}
+use Rattle.std.proofs.Common.{◌≡◌, ◌≢◌, ℕ, zero, suc, ◌+◌, ◌/◌, ◌<◌, Bool, true, false, List, [], ◌∷◌, ◌++◌, map, length, get_or, sym, refl, ap, ◌∙◌, subst, arith, inl, inr, Option, Some, None, slice_get}
 use mathlib.Core.Option.{some, some-injective}
 use lib.ListN.{get_elem?}
-use Rattle.std.proofs.lemmas.List.{length-append}
+use Rattle.std.proofs.lemmas.List.{length-append, length-map}
 use Rattle.std.proofs.lemmas.Option.{same_Some, slice_get_within}
 use Rattle.atomic_table.specs.Table.{State}
 use Rattle.line_rates.specs.declared.ask.Ask.{Ask}
@@ -17,11 +17,15 @@ use Rattle.desk_rule.specs.Lanes.{Kept, KnowsRound, has_collected, has_missed, u
 use Rattle.desk_rule.specs.Shown.{last_of, shown_in}
 use Rattle.desk_rule.proofs.Keeps.{index_at}
 use Rattle.lane_desk.specs.Posted.{AllAnswered, turn_at}
-use Rattle.lane_desk.specs.Tried.{tried_by}
-use Rattle.round_events.specs.Desk.{Holdings, NoneDecided, TablesAreShown, TriedAreDue, due_ask, lanes_by}
+use Rattle.lane_desk.specs.Tried.{asks_from, tried, tried_by}
+use Rattle.round_events.specs.Desk.{Holdings, NoneDecided, RoundDecides, TablesAreShown, TriedAreDue, due_ask, lanes_by}
+use Rattle.round_events.specs.Rounds.{AreSmall}
 use Rattle.round_events.specs.Worlds.{IsShownBy}
 use Rattle.round_events.proofs.Desk.{lane_at}
-use Rattle.round_events.proofs.DeskDecision.{IsDueOn, due_on, is_now_due, not_due}
+use Rattle.round_events.proofs.DeskDecision.{IsDueOn, due_on, grant_at, is_now_due, not_due}
+use Rattle.round_events.proofs.Decided.{plan_length}
+use Rattle.round_events.proofs.Found.{AreFound, are_found}
+use Rattle.line_rates.specs.TickTree.{IsPlan, lane_in}
 
 length-lanes : (f : ℕ → Shown) (k : ℕ) (xs : List Hidden) → length (lanes_by f k xs) ≡ length xs
 length-lanes f k [] = refl
@@ -86,3 +90,26 @@ tried_due given [] (t ∷ ts) e answered = absurd (omega (arith, e))
 tried_due given (o ∷ fs) [] e answered = absurd (omega (arith, e))
 tried_due given (o ∷ fs) (t ∷ ts) e answered =
     λ q. one_due (given 0) o t (answered 0 (omega arith)) q ∷ tried_due (λ i. given (suc i)) fs ts (omega (arith, e)) (λ i less. answered (suc i) (omega arith)) q
+
+pub round_decides : RoundDecides
+round_decides given rates moment old new answered t lanes asks grants h r all small best free later room =
+    let found = r.found in
+    let same : map due_ask (tried given found old) ≡ found = tried_due given found old r.wide all in
+    let are : AreFound found lanes = subst (AreFound found) (sym r.plan.lanes_are) (are_found found r.plan.order r.plan.all) in
+    let long : length lanes ≡ length grants = ap length r.plan.lanes_are ∙ length-map r.plan.order lane_in ∙ plan_length rates (moment / 100) (asks_from 0 found) t lanes grants r.plan best in (
+      record {
+        tree = t;
+        lanes = lanes;
+        grants = grants;
+        plan = subst (λ (os : List (Option Ask)). IsPlan rates (moment / 100) (asks_from 0 os) t lanes) (sym same) r.plan;
+        best = best;
+        small = subst (λ (os : List (Option Ask)). AreSmall (asks_from 0 os)) (sym same) small;
+        posted = free;
+        later = later;
+        tick_is = refl;
+        total_is = refl;
+        room = room;
+        rest = refl;
+      },
+      λ j less. grant_at lanes grants j are.once long less,
+    )

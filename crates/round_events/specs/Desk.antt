@@ -32,13 +32,15 @@ use Rattle.desk_rule.specs.Lanes.{Kept, first_round, dealer_after, dealt_to, tak
 use Rattle.desk_rule.specs.Shown.{last_of, shown_in}
 use Rattle.lane_desk.specs.Held.{is_due}
 use Rattle.lane_desk.specs.Posted.{AllAnswered}
+use Rattle.lane_desk.specs.Rounded.{IsRoundOver}
 use Rattle.lane_desk.specs.Tried.{asks_from, tried}
 use Rattle.round_events.specs.Events.{Reply}
 use Rattle.round_events.specs.Rounds.{AreSmall}
 use Rattle.round_events.specs.Worlds.{AreShownBy}
 
--- What words and views do not show: the octets that each lane's worker moved, gave back and has in
--- hand, and the amount decided for the lane and not posted; the book's last tick and octets issued.
+-- The parts that words and views do not show: the octets that each lane's worker moved, gave back
+-- and has in hand, and the amount decided for the lane and not posted; the book's last tick and
+-- octets issued.
 pub record Holdings : Type 0 where
   pub lanes : List Hidden
   pub last_tick : Option ℕ
@@ -145,7 +147,8 @@ module _ {N : Type 0} where
       (id : ℕ) × (v : DeskView) × (g : GrantView) × HasTurns s id i v
       × (length (turn_in i v).collected ≡ length (turn_in i v).posted + 1) × (g.lane ≡ i)
       × (posted_by v + g.octets ≤ most) × (g.octets ≡ n)
-      × (s' ≡ after s i 4 (some (WithGrant g)) id (with_turn i (has_posted g.octets (turn_in i v)) v))
+      × (s' ≡ after s i 4 (some (WithGrant g)) id
+      (with_turn i (has_posted g.octets (turn_in i v)) v))
   TableStep (event.Taken i) (answer.Taken n) s s' =
       (id : ℕ) × (v : DeskView) × (g : GrantView) × HasLane s id i v × (slice_index s.words i ≡ 4)
       × (get_elem? s.homes i ≡ some (some (WithGrant g))) × (g.octets ≡ n)
@@ -166,7 +169,8 @@ module _ {N : Type 0} where
   DealStep s s' =
       (id : ℕ) × (v : RoundView) × (get_elem? s.views id ≡ some (Round v))
       × (v.dealt < length v.turns)
-      × (s' ≡ with_views s (slice_set s.views id (dealer_after (Round v)) ++ dealt_to (Round v) ∷ []))
+      × (s' ≡ with_views s
+      (slice_set s.views id (dealer_after (Round v)) ++ dealt_to (Round v) ∷ []))
 
   -- the seat of the next lane is joined to the round's
   abbrev pub GatherStep : State (LaneSlot N) DeskView → State (LaneSlot N) DeskView → Type 0
@@ -236,7 +240,8 @@ new_held k = record { lanes = replicate k (hidden 0 0 None None); last_tick = No
 abbrev pub OpenedIsNew : Type 0 → Type 0
 OpenedIsNew N =
     (words : List ℕ) (slots : List (LaneSlot N)) (k : ℕ) → length slots ≡ k
-    → (r : Kept (opening words slots (Round (first_round k)))) → world_of r (new_held k) ≡ new_world k
+    → (r : Kept (opening words slots (Round (first_round k))))
+    → world_of r (new_held k) ≡ new_world k
 
 -- Between rounds, the world that a table and the holdings are shows the round's views of the lanes.
 abbrev pub TablesAreShown : Type 0 → Type 0
@@ -246,8 +251,31 @@ TablesAreShown N =
     → length h.lanes ≡ length s.homes → AreShownBy v.turns (world_of r h).lanes
 
 -- After the tries of a round that has answered all earlier asks, the asks that are due are those
--- found: a decision is then made for exactly these.
+-- found.
 abbrev pub TriedAreDue : Type 0
 TriedAreDue =
     (given : ℕ → Bool) (found : List (Option Ask)) (old : List TurnView)
     → length found ≡ length old → AllAnswered old → map due_ask (tried given found old) ≡ found
+
+-- the holdings after a decision of these grants for these lanes
+abbrev pub after_decision : ℕ → List ℕ → List ℕ → Holdings → Holdings
+after_decision tick lanes grants h =
+    record {
+      lanes = decided_by (grant_on lanes grants) 0 h.lanes;
+      last_tick = Some tick;
+      issued = h.issued + sum grants;
+    }
+
+-- So a round, made after its tries, is such a decision, and each leaf's grant is the amount decided
+-- for the leaf's lane, which a Post of that lane replies.
+abbrev pub RoundDecides : Type 0
+RoundDecides =
+    (given : ℕ → Bool) (rates : Rates) (moment : ℕ) (old new : List TurnView) (answered : ℕ)
+    (t : LimitTree) (lanes : List ℕ) (asks : List Ask) (grants : List ℕ) (h : Holdings)
+    (r : IsRoundOver given rates (moment / 100) old new answered t lanes asks grants)
+    → AllAnswered old → AreSmall (asks_from 0 r.found) → IsBest t grants → NoneDecided h.lanes
+    → IsLater (moment / 100) h.last_tick → h.issued + sum grants ≤ MAX_ISSUED
+    → HoldsDecision rates (tried given r.found old) moment (moment / 100) (sum grants) h
+    (after_decision (moment / 100) lanes grants h)
+    × ((j : ℕ) → j < length lanes
+    → grant_on lanes grants (slice_index lanes j) ≡ Some (slice_index grants j))

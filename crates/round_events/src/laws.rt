@@ -1,7 +1,7 @@
 //! Laws of rounds.
 
 ghost use Rattle.round_events.specs.Decided.{OneDecision};
-ghost use Rattle.round_events.specs.Desk.{DeskRunsAreRuns, OpenedIsNew, TablesAreShown, TriedAreDue};
+ghost use Rattle.round_events.specs.Desk.{DeskRunsAreRuns, OpenedIsNew, RoundDecides, TablesAreShown, TriedAreDue};
 ghost use Rattle.round_events.specs.Refused.{RefusedRoundIsEvents};
 ghost use Rattle.round_events.specs.Rounds.{PlansAreSmall, RoundIsEvents};
 
@@ -30,9 +30,10 @@ pub fn desk_runs_are_runs<N>()
     ensures opened { OpenedIsNew N }
 {}
 
-/// Between rounds, the world of a desk's table is one in which a round begins; after the tries of a round, its decision
-/// is for the asks that it found.
+/// Between rounds, the world of a desk's table is one in which a round begins. After the tries of a round, the asks that
+/// are due are those found, and the round is a decision for these, as a run of the desk has it.
 pub fn rounds_are_of_the_desk<N>()
     ensures between { TablesAreShown N }
     ensures due { TriedAreDue }
+    ensures decision { RoundDecides }
 {}

@@ -95,7 +95,7 @@ gives_at f ms [] j h less = absurd (omega arith)
 gives_at f ms (x ∷ xs) zero h less = All-head (GivesTo f ms) x xs h
 gives_at f ms (x ∷ xs) (suc j) h less = gives_at f ms xs j (All-tail (GivesTo f ms) x xs h) (omega arith)
 
-names_other : (i : ℕ) (is : List ℕ) (k : ℕ) → NamesNot i is → k < length is → get_or is k 0 ≢ i
+pub names_other : (i : ℕ) (is : List ℕ) (k : ℕ) → NamesNot i is → k < length is → get_or is k 0 ≢ i
 names_other i [] k ne h = absurd (omega arith)
 names_other i (j ∷ is) zero ne h = λ e. ne.0 (sym e)
 names_other i (j ∷ is) (suc k) ne h = names_other i is k ne.1 (omega arith)

@@ -40,10 +40,11 @@ pub record HasBook (book : BookView) (w : World) : Type 0 where
   pub last_is : w.last_tick ≡ book.last_tick
   pub issued_is : w.issued ≡ book.issued
 
--- Of at most 64 lanes, and rates that are not too large: from each world that shows the lanes as the
--- round finds them, and the book, a Collect of each given lane, a Decide that is refused for the same reason, and a Post of each lane with an ask,
--- which replies with 0 octets, lead to a world that shows the lanes as the round leaves them, with
--- the same last tick and the same octets issued.
+-- Of at most 64 lanes, and rates that are not too large: from each world that shows the lanes as
+-- the round finds them, and the book, a Collect of each given lane, a Decide that is refused for
+-- the same reason, and a Post of each lane with an ask, which replies with 0 octets, lead to a
+-- world that shows the lanes as the round leaves them, with the same last tick and the same octets
+-- issued.
 abbrev pub RefusedRoundIsEvents : Type 0 → Type 0
 RefusedRoundIsEvents A =
     (given : ℕ → Bool) (rates : Rates) (moment : ℕ) (book : BookView)

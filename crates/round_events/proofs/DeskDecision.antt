@@ -23,7 +23,9 @@ use Rattle.desk_rule.specs.Lanes.{Agrees, Kept, KnowsRound, Phase, free, worker,
 use Rattle.desk_rule.specs.Shown.{last_of, shown_in, state_in}
 use Rattle.lane_desk.specs.Tried.{asks_from}
 use Rattle.round_events.specs.Desk.{HoldsDecision, Holdings, NoneDecided, decided_by, due_ask, grant_on, lanes_by, world_of}
-use Rattle.round_events.proofs.Deciding.{HasAsk, Once, amount_on, amount_at, decides, give, given_to, lanes_length, names_other, to_other}
+use Rattle.share_world.specs.Turns.{HasAsk}
+use Rattle.lane_desk.proofs.PostedLemmas.{names_other}
+use Rattle.round_events.proofs.Deciding.{Once, amount_on, amount_at, decides, give, given_to, lanes_length, to_other}
 use Rattle.round_events.proofs.Desk.{all_decided}
 use Rattle.round_events.proofs.Found.{AreFound, are_found}
 

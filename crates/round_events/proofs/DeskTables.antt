@@ -6,19 +6,20 @@ use Rattle.std.proofs.lemmas.List.{length-append, length-map}
 use Rattle.std.proofs.lemmas.Option.{same_Some, slice_get_within}
 use Rattle.atomic_table.specs.Table.{State}
 use Rattle.line_rates.specs.declared.ask.Ask.{Ask}
+use Rattle.world_terms.specs.declared.event.LaneState.{LaneState}
 use Rattle.world_terms.specs.declared.event.LaneState.TheVariants as state
-use Rattle.world_terms.specs.Lanes.{Hidden, Lane, Shown}
+use Rattle.world_terms.specs.Lanes.{Hidden, Lane, Shown, shown}
 use Rattle.desk_rule.specs.declared.view.DeskView.{DeskView}
 use Rattle.desk_rule.specs.declared.view.DeskView.TheVariants.{Round}
 use Rattle.desk_rule.specs.declared.view.LaneSlot.{LaneSlot}
 use Rattle.desk_rule.specs.declared.view.RoundView.{RoundView}
 use Rattle.desk_rule.specs.declared.view.TurnView.{TurnView}
-use Rattle.desk_rule.specs.Lanes.{Kept, KnowsRound, has_collected, has_missed, unturned}
-use Rattle.desk_rule.specs.Shown.{last_of, shown_in}
-use Rattle.desk_rule.proofs.Keeps.{index_at}
+use Rattle.desk_rule.specs.Lanes.{Phase, free, worker, asked, round, granted, code, Kept, KnowsRound, has_collected, has_missed, unturned}
+use Rattle.desk_rule.specs.Shown.{last_of, shown_in, state_in}
+use Rattle.desk_rule.proofs.Keeps.{index_at, own, ruled}
 use Rattle.lane_desk.specs.Posted.{AllAnswered, turn_at}
 use Rattle.lane_desk.specs.Tried.{asks_from, tried, tried_by}
-use Rattle.round_events.specs.Desk.{Holdings, NoneDecided, RoundDecides, TablesAreShown, TriedAreDue, due_ask, lanes_by}
+use Rattle.round_events.specs.Desk.{Holdings, NoneDecided, RoundDecides, ShownIsOne, TablesAreShown, TriedAreDue, due_ask, lanes_by}
 use Rattle.round_events.specs.Rounds.{AreSmall}
 use Rattle.round_events.specs.Worlds.{IsShownBy}
 use Rattle.round_events.proofs.Desk.{lane_at}
@@ -40,7 +41,7 @@ not_in_round : (o : Option Ask) (x : Shown) → IsDueOn o x → o ≡ None → x
 not_in_round o x (inl d) e = let bad : Some d.2.0 ≡ None = sym d.2.1 ∙ sym d.1 ∙ e in absurd (cc)
 not_in_round o x (inr d) e = d.0
 
-module _ {N : Type 0} (s : State (LaneSlot N) DeskView) (r : Kept s) (h : Holdings) (seat : ℕ) (v : RoundView) (there : get_elem? s.views seat ≡ some (Round v)) (answered : AllAnswered v.turns) (free : NoneDecided h.lanes) (long : length h.lanes ≡ length s.homes) where
+module _ {N : Type 0} (s : State (LaneSlot N) DeskView) (r : Kept s) (h : Holdings) (seat : ℕ) (v : RoundView) (there : get_elem? s.views seat ≡ some (Round v)) (answered : AllAnswered v.turns) (unset : NoneDecided h.lanes) (long : length h.lanes ≡ length s.homes) where
   kn : KnowsRound (length s.homes) r.lane r.turn r.owner r.desk r.dealt seat v
   kn = r.each_view seat (Round v) there
 
@@ -64,13 +65,43 @@ module _ {N : Type 0} (s : State (LaneSlot N) DeskView) (r : Kept s) (h : Holdin
       let x = hidden_there h.lanes i within in
       let at : 0 + i ≡ i = omega arith in
       let is : ◌≡◌ {A = Lane} (record { shown = shown_in r i; hidden = x.0 }) l = same_Some _ l (sym (lane_at (shown_in r) 0 h.lanes i x.0 x.1 ∙ ap (λ (n : ℕ). Some (record { shown = shown_in r n; hidden = x.0 })) at) ∙ e) in
-      subst (IsShownBy (turn_at v.turns i)) is (shown_lane i x.0 (omega (arith, within, long)) (ap (λ (y : Hidden). y.decided) (sym (x.2 x.0)) ∙ free i x.0 within))
+      subst (IsShownBy (turn_at v.turns i)) is (shown_lane i x.0 (omega (arith, within, long)) (ap (λ (y : Hidden). y.decided) (sym (x.2 x.0)) ∙ unset i x.0 within))
 
 pub tables_shown : (N : Type 0) → TablesAreShown N
-tables_shown N s r h seat v there answered free long = record {
-  wide = length-lanes (shown_in r) 0 h.lanes ∙ long ∙ sym (kn s r h seat v there answered free long).wide;
-  each = shown_at s r h seat v there answered free long;
+tables_shown N s r h seat v there answered unset long = record {
+  wide = length-lanes (shown_in r) 0 h.lanes ∙ long ∙ sym (kn s r h seat v there answered unset long).wide;
+  each = shown_at s r h seat v there answered unset long;
 }
+
+-- ---- one table, one world
+
+state_by : ℕ → LaneState
+state_by zero = state.Free
+state_by (suc zero) = state.Worker
+state_by (suc (suc zero)) = state.Asked
+state_by (suc (suc (suc zero))) = state.Round
+state_by (suc (suc (suc (suc n)))) = state.Granted
+
+state_of_code : {N : Type 0} (ph : Phase N) → state_in ph ≡ state_by (code ph)
+unfolding state_by
+state_of_code free = refl
+state_of_code worker = refl
+state_of_code (asked a) = refl
+state_of_code round = refl
+state_of_code (granted g) = refl
+
+pub shown_is_one : (N : Type 0) → ShownIsOne N
+shown_is_one N s r r' i j k v w hv hw =
+    let here = own (length s.homes) r.lane r.turn r.owner r.desk r.dealt j i v (r.each_view j v hv.0) hv.1 in
+    let there = own (length s.homes) r'.lane r'.turn r'.owner r'.desk r'.dealt j i v (r'.each_view j v hv.0) hv.1 in
+    let turn = ruled (length s.homes) r.lane r.turn r.owner r.desk r.dealt k i w (r.each_view k w hw.0) hw.1 in
+    let turn' = ruled (length s.homes) r'.lane r'.turn r'.owner r'.desk r'.dealt k i w (r'.each_view k w hw.0) hw.1 in
+    let less : i < length s.homes = turn.2 in
+    let lanes : r'.lane i ≡ r.lane i = there.1 ∙ sym here.1 in
+    let turns : r'.turn i ≡ r.turn i = turn'.1 ∙ sym turn.1 in
+    let states : state_in (r'.phase i) ≡ state_in (r.phase i) =
+    state_of_code (r'.phase i) ∙ ap state_by (sym (r'.each_lane i less).word_is ∙ (r.each_lane i less).word_is) ∙ sym (state_of_code (r.phase i)) in
+    λ q. shown (states q) (last_of (lanes q).asks) (turns q).posted (lanes q).taken
 
 -- ---- the asks that are due
 
@@ -92,7 +123,7 @@ tried_due given (o ∷ fs) (t ∷ ts) e answered =
     λ q. one_due (given 0) o t (answered 0 (omega arith)) q ∷ tried_due (λ i. given (suc i)) fs ts (omega (arith, e)) (λ i less. answered (suc i) (omega arith)) q
 
 pub round_decides : RoundDecides
-round_decides given rates moment old new answered t lanes asks grants h r all small best free later room =
+round_decides given rates moment old new answered t lanes asks grants h r all small best unset later room =
     let found = r.found in
     let same : map due_ask (tried given found old) ≡ found = tried_due given found old r.wide all in
     let are : AreFound found lanes = subst (AreFound found) (sym r.plan.lanes_are) (are_found found r.plan.order r.plan.all) in
@@ -104,7 +135,7 @@ round_decides given rates moment old new answered t lanes asks grants h r all sm
         plan = subst (λ (os : List (Option Ask)). IsPlan rates (moment / 100) (asks_from 0 os) t lanes) (sym same) r.plan;
         best = best;
         small = subst (λ (os : List (Option Ask)). AreSmall (asks_from 0 os)) (sym same) small;
-        posted = free;
+        posted = unset;
         later = later;
         tick_is = refl;
         total_is = refl;

@@ -232,6 +232,13 @@ DeskRunsAreRuns N =
     × IsRun rates (world_of r x.held) (map done_event (events_of ds))
     (map done_reply (events_of ds)) (world_of r' z.held)
 
+-- The part of a lane that a table shows is one, whatever proof of its rule is given, if the seat of
+-- the lane and that of the round are there.
+abbrev pub ShownIsOne : Type 0 → Type 0
+ShownIsOne N =
+    (s : State (LaneSlot N) DeskView) (r r' : Kept s) (i j k : ℕ) (v w : DeskView)
+    → HasLane s j i v → HasTurns s k i w → shown_in r' i ≡ shown_in r i
+
 -- nothing was moved, given back, taken or decided
 abbrev pub new_held : ℕ → Holdings
 new_held k = record { lanes = replicate k (hidden 0 0 None None); last_tick = None; issued = 0 }

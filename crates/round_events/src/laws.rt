@@ -1,7 +1,7 @@
 //! Laws of rounds.
 
 ghost use Rattle.round_events.specs.Decided.{OneDecision};
-ghost use Rattle.round_events.specs.Desk.{DeskRunsAreRuns, OpenedIsNew, RoundDecides, TablesAreShown, TriedAreDue};
+ghost use Rattle.round_events.specs.Desk.{DeskRunsAreRuns, OpenedIsNew, RoundDecides, ShownIsOne, TablesAreShown, TriedAreDue};
 ghost use Rattle.round_events.specs.Refused.{RefusedRoundIsEvents};
 ghost use Rattle.round_events.specs.Rounds.{PlansAreSmall, RoundIsEvents};
 
@@ -24,10 +24,11 @@ pub fn decisions_are_one()
 {}
 
 /// Each list of steps of the desk, by any of its threads in any order, is a run of the core, which begins in a new world
-/// if the desk was just opened.
+/// if the desk was just opened. The part of a lane that a table shows is one.
 pub fn desk_runs_are_runs<N>()
     ensures runs { DeskRunsAreRuns N }
     ensures opened { OpenedIsNew N }
+    ensures one { ShownIsOne N }
 {}
 
 /// Between rounds, the world of a desk's table is one in which a round begins. After the tries of a round, the asks that

@@ -7,3 +7,6 @@ pub mod Deals
 pub mod Sharing
 pub mod Turning
 pub mod Longer
+pub mod Pigeons
+pub mod Above
+pub mod Small

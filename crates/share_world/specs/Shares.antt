@@ -1,10 +1,10 @@
 -- Grants assigned to lanes by number.
-use Rattle.std.specs.Prelude.{◌≡◌, ℕ, List, [], ◌∷◌, slice_get, slice_index_or, slice_set, Some, ⊤}
+use Rattle.std.specs.Prelude.{◌≡◌, ◌≤◌, ℕ, List, [], ◌∷◌, slice_get, slice_index_or, slice_set, Some, ⊤}
 use Rattle.grant_ledger.specs.Books.{NamesNot}
-use Rattle.limit_tree.specs.declared.fault.TreeFault.{TreeFault}
-use Rattle.limit_tree.specs.declared.fault.TreeFault.TheVariants as tree
 use Rattle.line_rates.specs.FloorSums.{FloorsFit}
-use Rattle.line_rates.specs.Rates.{Rates}
+use Rattle.line_rates.specs.Rates.{Rates, rate_of}
+use Rattle.line_rates.specs.declared.ask.Name.{Name}
+use Rattle.line_rates.specs.declared.rate.TheConstants.{MAX_RATE}
 use Rattle.line_rates.specs.TickTree.{Asker, ask_in}
 use Rattle.std.specs.Prelude.{map}
 use Rattle.world_terms.specs.declared.event.LaneState.TheVariants as state
@@ -12,7 +12,6 @@ use Rattle.world_terms.specs.declared.fault.StepFault.{StepFault}
 use Rattle.world_terms.specs.declared.fault.StepFault.TheVariants as fault
 use Rattle.world_terms.specs.Decisions.{IsPosted, with_amount}
 use Rattle.world_terms.specs.Lanes.{Lane, new_lane}
-use Rattle.world_terms.specs.Steps.{HasOtherFault}
 
 -- each amount is decided for its lane
 abbrev pub dealt : List ℕ → List ℕ → List Lane → List Lane
@@ -35,12 +34,10 @@ AreOpen (i ∷ numbers) ls = IsOpen i ls × NamesNot i numbers × AreOpen number
 
 -- why no best grants were found for these asks in a tick
 abbrev pub IsUnshared : Rates → ℕ → List Asker → StepFault → Type 0
-IsUnshared rates tick asks fault.TooMuch = HasOtherFault rates tick asks
 IsUnshared rates tick asks fault.FloorsOver = FloorsFit rates tick (map ask_in asks) → ⊥
 IsUnshared rates tick asks fault.Memory = ⊤
 IsUnshared rates tick asks f = ⊥
 
--- the refusal for a fault of the tree of a tick
-abbrev pub fault_for : TreeFault → StepFault
-fault_for (tree.FloorsOverLimit branch) = fault.FloorsOver
-fault_for f = fault.TooMuch
+-- no rate is larger than a rate may be
+abbrev pub AreFitRates : Rates → Type 0
+AreFitRates rates = (name : Name) → rate_of rates name ≤ MAX_RATE

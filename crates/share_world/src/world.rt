@@ -6,7 +6,7 @@ ghost use Rattle.world_terms.specs.Lanes.{new_world};
 ghost use Rattle.world_terms.specs.Runs.{IsRun};
 ghost use Rattle.world_terms.specs.Steps.{RefusesDecide, Step, lane_of};
 ghost use Rattle.world_terms.specs.Sums.{shares_in};
-ghost use Rattle.world_terms.specs.Decisions.{IsReady, in_round};
+ghost use Rattle.world_terms.specs.Decisions.{IsReady, has_large_want, in_round};
 ghost use Rattle.limit_tree.specs.Outline.{limits as seen};
 ghost use Rattle.limit_tree.specs.Sharing.{IsBest};
 ghost use Rattle.line_rates.specs.TickTree.{IsPlan};
@@ -170,6 +170,7 @@ impl<A: Allocator + Clone> World<A> {
 
     // The lanes of a plan for the asks in Round, and its best grants.
     fn share(&self, tick: u64) -> Result<(Vec<u8, A>, Sealed<A>), StepFault>
+        requires wants { has_large_want self.now.world.lanes ≡ false }
         ensures plan { IfOk result (λ r.
             IsPlan self.now.rates tick (in_round self.now.world.lanes) (seen r.1.tree) r.0.items) }
         ensures best { IfOk result (λ r. IsBest (seen r.1.tree) r.1.grants) }

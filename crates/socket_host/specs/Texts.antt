@@ -1,6 +1,6 @@
 -- The octets of a read and of a last reply, the errors of a read that only found nothing, and the
 -- octets of an address.
-use Rattle.std.specs.Prelude.{◌≡◌, ◌++◌, ◌&&◌, ◌||◌, not, if◌then◌else◌, ⊤, ℕ, Bool, true, false, List, [], ◌∷◌, Option, Some, None, codes, take}
+use Rattle.std.specs.Prelude.{◌≡◌, ◌++◌, nat_lt, ◌&&◌, ◌||◌, not, if◌then◌else◌, ⊤, ℕ, Bool, true, false, List, [], ◌∷◌, Option, Some, None, codes, take}
 use Rattle.std.specs.Net.Addr.{ipv4_octets}
 use Rattle.std.specs.Net.Socket.{v4_ip}
 use Rattle.std.specs.declared.net.socket_addr.SocketAddr.{SocketAddr}
@@ -24,6 +24,12 @@ is_pause WouldBlock = true
 is_pause TimedOut = true
 is_pause Interrupted = true
 is_pause _ = false
+
+-- the time-out of a read, in milliseconds: one while something runs, otherwise 200, or 1,000 once
+-- fifty reads in a row found nothing
+abbrev pub time_out_of : Bool → ℕ → ℕ
+time_out_of true silences = 1
+time_out_of false silences = if nat_lt silences 50 then 200 else 1000
 
 -- the octets of an IPv4 address
 abbrev pub IsOctetsOf : SocketAddr → List ℕ → Type 0

@@ -3,7 +3,7 @@
 ghost use Rattle.std.specs.Prelude.{◌<◌, ◌≡◌, ◌≤◌, IfOk, length, take};
 ghost use Rattle.control_session.specs.Calls.{reads_within};
 ghost use Rattle.line_mender.specs.Mended.{after_all, after_silence, ending_of, kept};
-ghost use Rattle.socket_host.specs.Texts.{IsOctetsOf, is_pause, octets_in};
+ghost use Rattle.socket_host.specs.Texts.{IsOctetsOf, is_pause, octets_in, time_out_of};
 
 use crate::replying::write_reply;
 use control_session::Piece;
@@ -16,6 +16,12 @@ use std::time::Duration;
 
 /// The time-out of a read while nothing runs, in milliseconds.
 const IDLE: u64 = 200;
+
+/// The same of a client that is silent: more seldom, since each time-out wakes the session's thread.
+const SILENT: u64 = 1_000;
+
+/// Number of reads in a row that found nothing, after which a client is silent: ten seconds.
+const SILENCES: u32 = 50;
 
 /// The time-out of a read while something runs, in milliseconds.
 const QUICK: u64 = 1;
@@ -36,7 +42,20 @@ const LF: u8 = 10;
 pub struct ControlSocket {
     stream: TcpStream,
     mender: Mender,
-    is_quick: bool,
+    // the time-out of its reads, in milliseconds
+    wait: u64,
+    // number of reads in a row that found nothing, while nothing ran
+    silences: u32,
+}
+
+// The time-out of a read, in milliseconds, by the number of reads in a row that found nothing.
+fn time_out_of(is_quick: bool, silences: u32) -> u64
+    ensures wait { result ≡ time_out_of is_quick silences }
+{
+    if is_quick {
+        return QUICK;
+    }
+    if silences < SILENCES { IDLE } else { SILENT }
 }
 
 /// Returns whether a read only found nothing, or a write no room.
@@ -68,19 +87,29 @@ impl ControlSocket {
         ControlSocket {
             stream,
             mender: Mender::new(),
-            is_quick: false,
+            wait: IDLE,
+            silences: 0,
         }
     }
 
     // Sets the time-out of reads, only if it changes: it is a system call.
     fn set_pace(&mut self, is_quick: bool) {
-        if self.is_quick != is_quick {
-            let wait = if is_quick { QUICK } else { IDLE };
+        let wait = time_out_of(is_quick, self.silences);
+        if self.wait != wait {
             let _ = self
                 .stream
                 .set_read_timeout(Some(Duration::from_millis(wait)));
-            self.is_quick = is_quick;
+            self.wait = wait;
         }
+    }
+
+    // Counts a read that found nothing, or begins anew if it found something, or something runs.
+    fn count_silence(&mut self, is_silent: bool) {
+        self.silences = if is_silent {
+            self.silences.saturating_add(1)
+        } else {
+            0
+        };
     }
 
     // Takes the octets read at the start of the buffer.
@@ -115,7 +144,8 @@ impl ControlSocket {
         }
     }
 
-    /// Reads once. Waits at most `QUICK` milliseconds if `is_quick`, otherwise at most `IDLE`.
+    /// Reads once. Waits at most `QUICK` milliseconds if `is_quick`, otherwise at most `IDLE`, or `SILENT` if the client
+    /// is silent.
     pub fn read(&mut self, is_quick: bool, buffer: &mut [u8]) -> io::Result<Piece>
         requires room { 0 < length buffer.old }
         ensures bound { IfOk result (λ piece. reads_within piece buffer.new) }
@@ -123,9 +153,13 @@ impl ControlSocket {
         self.set_pace(is_quick);
         match self.stream.read(buffer) {
             Ok(0) => Ok(Piece::AtEnd),
-            Ok(count) => Ok(self.mend(buffer, count)),
+            Ok(count) => {
+                self.count_silence(false);
+                Ok(self.mend(buffer, count))
+            }
             Err(error) => {
                 if is_pause(error.kind()) {
+                    self.count_silence(!is_quick);
                     Ok(self.take_silence(buffer))
                 } else {
                     Err(error)

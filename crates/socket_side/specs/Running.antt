@@ -1,5 +1,5 @@
 -- The transfer of a session, step by step.
-use Rattle.std.specs.Prelude.{◌≡◌, ◌⊎◌, ⊤, ℕ, Bool, true, false, not, ◌||◌, IsTrue, Option, Some, None}
+use Rattle.std.specs.Prelude.{◌≡◌, ◌⊎◌, ⊤, ℕ, ◌/◌, max, min, Bool, true, false, not, ◌||◌, IsTrue, Option, Some, None}
 use Rattle.std.specs.declared.alloc.Global.{Global}
 use Rattle.std.specs.declared.net.tcp.TcpListener.{TcpListener}
 use Rattle.data_sockets.specs.declared.connection.DataConnection.{DataConnection}
@@ -45,6 +45,11 @@ event_of (Some told) = Some (Ended told.end told.sink)
 abbrev pub IsMovedBy : {K : Type 0} → Option (TransferEnd K) → ℕ → Type 0
 IsMovedBy None moved = ⊤
 IsMovedBy (Some told) moved = moved ≡ told.moved
+
+-- the time until the next look for a data connection, in milliseconds, by the microseconds waited
+-- so far: a tenth of these, from 20 to 200
+abbrev pub pause_after : ℕ → ℕ
+pause_after waited = min (max (waited / 10000) 20) 200
 
 module _ {J : Type 0} where
   -- the session has asked for the end of what is on its ticket

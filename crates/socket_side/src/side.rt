@@ -5,7 +5,7 @@ ghost use Rattle.session_core.specs.declared.events.DataEvent.TheVariants.{Ready
 ghost use Rattle.server_house.specs.declared.cause.EndCause.TheVariants as cause;
 ghost use Rattle.session_table.specs.declared.inputs.End.TheVariants.{Aborted, NoConnection, NoMemory};
 ghost use Rattle.socket_side.specs.Causes.{AbortCause, GoesCause, LookCause, StartCause, TakenCause, cause_of};
-ghost use Rattle.socket_side.specs.Running.{Aborts, GoesOn, IsAwaited, IsConnecting, IsHandedOver, IsMovedBy, IsNoTarget, Looks, RestsOn, Settles, Starts, TakesEnd, event_of, is_busy, is_moving, over, port_in};
+ghost use Rattle.socket_side.specs.Running.{Aborts, GoesOn, IsAwaited, IsConnecting, IsHandedOver, IsMovedBy, IsNoTarget, Looks, RestsOn, Settles, Starts, TakesEnd, event_of, is_busy, is_moving, over, pause_after, port_in};
 ghost use Rattle.transfer_ticket.specs.Tickets as ticket;
 ghost use Rattle.transfer_ticket.specs.Views.{owner_view};
 ghost use Rattle.transfer_ticket.specs.declared.view.TicketView.TheVariants.{Idle};
@@ -49,8 +49,17 @@ const LOOK: u64 = 50;
 /// The time in which a data connection usually comes, in microseconds: the session looks for it each millisecond.
 const USUAL: u64 = 100_000;
 
-/// The time between two looks for one that has not come by then, in milliseconds.
-const SELDOM: u64 = 20;
+/// The shortest and the longest time between two looks for one that has not come by then, in milliseconds.
+const SHORTEST_PAUSE: u64 = 20;
+
+const LONGEST_PAUSE: u64 = 200;
+
+// The time until the next look for a data connection, in milliseconds: a tenth of the microseconds waited so far.
+fn pause_after(waited: u64) -> u64
+    ensures pause { result ≡ pause_after waited }
+{
+    (waited / 10_000).max(SHORTEST_PAUSE).min(LONGEST_PAUSE)
+}
 
 // The end of a transfer: that which its lane reports, or `Aborted` if it was aborted.
 fn end_of(is_aborted: bool, end: End) -> End
@@ -525,8 +534,10 @@ where
             Running::Over(_) => true,
             Running::Nothing => false,
             Running::Awaited { since, .. } | Running::Connecting { since, .. } => {
-                if has_passed(*since, micros(self.rt), USUAL) {
-                    thread::sleep(self.rt, Duration::from_millis(SELDOM));
+                let now = micros(self.rt);
+                if has_passed(*since, now, USUAL) {
+                    let pause = pause_after(now.saturating_sub(*since));
+                    thread::sleep(self.rt, Duration::from_millis(pause));
                 }
                 false
             }

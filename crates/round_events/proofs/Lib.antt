@@ -1,0 +1,10 @@
+pub mod Runs
+pub mod Collects
+pub mod Posts
+pub mod Decided
+pub mod Deciding
+pub mod Found
+pub mod Tried
+pub mod Answered
+pub mod Rounds
+pub mod Refused

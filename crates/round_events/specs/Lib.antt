@@ -1,0 +1,5 @@
+pub mod Events
+pub mod Worlds
+pub mod Decided
+pub mod Rounds
+pub mod Refused

@@ -17,7 +17,7 @@ pub fn refused_round_is_events<A>()
     ensures events { RefusedRoundIsEvents A }
 {}
 
-/// What the core decides is what a plan for the asks in Round with best grants decides.
+/// A decision of the core is that of a plan for the asks in Round with best grants, and the other way round.
 pub fn decisions_are_one()
     ensures one { OneDecision }
 {}

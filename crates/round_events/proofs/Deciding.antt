@@ -6,13 +6,14 @@ use Rattle.std.proofs.lemmas.List.Sorted.{All-permutation}
 use Rattle.grant_ledger.specs.Books.{NamesNot}
 use Rattle.grant_ledger.specs.declared.ledger.TheConstants.{MAX_ISSUED}
 use Rattle.limit_tree.specs.Sharing.{LimitTree, IsBest}
-use Rattle.line_rates.specs.declared.ask.Ask.{Ask}
 use Rattle.line_rates.specs.Rates.{Rates}
 use Rattle.line_rates.specs.TickTree.{Asker, IsPlan, lane_in}
 use Rattle.world_terms.specs.declared.event.LaneState.{LaneState}
 use Rattle.world_terms.specs.declared.event.LaneState.TheVariants as state
 use Rattle.world_terms.specs.Decisions.{AllPosted, AreGiven, IsDecision, IsGiven, IsReady, IsShared, asker_of, decided_sum, in_round, in_round_from, with_amount}
 use Rattle.world_terms.specs.Lanes.{Lane}
+use Rattle.share_world.specs.Turns.{HasAsk}
+use Rattle.lane_desk.proofs.PostedLemmas.{names_other}
 use Rattle.round_events.specs.Decided.{IsPlanned, decided_on}
 use Rattle.round_events.proofs.Collects.{at}
 use Rattle.round_events.proofs.Decided.{decided_at, none_asks, one_asks, plan_length, planned_sum, shared_of}
@@ -32,10 +33,6 @@ abbrev pub amount_on : List ℕ → List ℕ → ℕ → ℕ
 amount_on [] ns i = 0
 amount_on (k ∷ ks) [] i = 0
 amount_on (k ∷ ks) (n ∷ ns) i = cond (nat_eq k i) n (amount_on ks ns i)
-
--- a lane in Round has an ask
-abbrev pub HasAsk : Lane → Type 0
-HasAsk l = l.shown.state ≡ state.Round → (a : Ask) × (l.shown.ask ≡ Some a)
 
 -- no number occurs twice
 abbrev pub Once : List ℕ → Type 0
@@ -94,11 +91,6 @@ gives_at : (f : ℕ → ℕ) (ms : List Lane) (xs : List Asker) (j : ℕ) → Al
 gives_at f ms [] j h less = absurd (omega arith)
 gives_at f ms (x ∷ xs) zero h less = All-head (GivesTo f ms) x xs h
 gives_at f ms (x ∷ xs) (suc j) h less = gives_at f ms xs j (All-tail (GivesTo f ms) x xs h) (omega arith)
-
-names_other : (i : ℕ) (is : List ℕ) (k : ℕ) → NamesNot i is → k < length is → get_or is k 0 ≢ i
-names_other i [] k ne h = absurd (omega arith)
-names_other i (j ∷ is) zero ne h = λ e. ne.0 (sym e)
-names_other i (j ∷ is) (suc k) ne h = names_other i is k ne.1 (omega arith)
 
 -- each leaf's amount is found by its lane
 pub amount_at : (is ns : List ℕ) (j : ℕ) → Once is → length is ≡ length ns → j < length is → amount_on is ns (get_or is j 0) ≡ get_or ns j 0

@@ -8,3 +8,8 @@ pub mod Tried
 pub mod Answered
 pub mod Rounds
 pub mod Refused
+pub mod Desk
+pub mod DeskDecision
+pub mod DeskRuns
+pub mod DeskEnds
+pub mod DeskTables

@@ -1,7 +1,7 @@
 -- The answers of a round: a Post of each lane that waits.
 use Rattle.std.proofs.Common.{◌≡◌, ◌≢◌, ℕ, zero, suc, ◌<◌, List, [], ◌∷◌, ◌++◌, length, set, get_or, sym, refl, ap, ◌∙◌, arith, Option, Some, None, Ok, slice_get}
 use Rattle.std.proofs.lemmas.List.{length-set}
-use Rattle.std.proofs.lemmas.Option.{get_or_from_slice_get, slice_get_within}
+use Rattle.std.proofs.lemmas.Option.{get_or_from_slice_get}
 use Rattle.grant_ledger.specs.Books.{NamesNot}
 use Rattle.line_rates.specs.Rates.{Rates}
 use Rattle.world_terms.specs.declared.event.Event.TheVariants as event
@@ -10,6 +10,8 @@ use Rattle.world_terms.specs.declared.event.LaneState.TheVariants as state
 use Rattle.world_terms.specs.Lanes.{Lane, amount, hidden, new_lane, shown}
 use Rattle.world_terms.specs.Runs.{IsRun}
 use Rattle.world_terms.specs.Steps.{IsChange}
+use Rattle.share_world.proofs.Deals.{get_here, get_other}
+use Rattle.lane_desk.proofs.PostedLemmas.{names_other}
 use Rattle.round_events.specs.Events.{post_replies, posts}
 use Rattle.round_events.proofs.Collects.{at}
 use Rattle.round_events.proofs.Runs.{run_from, run_none}
@@ -41,20 +43,8 @@ AreWaiting [] (n ∷ ns) ls = ⊥
 AreWaiting (i ∷ is) [] ls = ⊥
 AreWaiting (i ∷ is) (n ∷ ns) ls = WaitsFor n i ls × NamesNot i is × AreWaiting is ns ls
 
-pub set_elsewhere : (ls : List Lane) (i j : ℕ) (m : Lane) → j ≢ i → slice_get (set ls i m) j ≡ slice_get ls j
-set_elsewhere [] i j m ne = refl
-set_elsewhere (x ∷ ls) zero zero m ne = absurd (ne refl)
-set_elsewhere (x ∷ ls) zero (suc j) m ne = refl
-set_elsewhere (x ∷ ls) (suc i) zero m ne = refl
-set_elsewhere (x ∷ ls) (suc i) (suc j) m ne = set_elsewhere ls i j m (λ e. ne (ap suc e))
-
-pub set_here : (ls : List Lane) (i : ℕ) (m : Lane) → i < length ls → slice_get (set ls i m) i ≡ Some m
-set_here [] i m h = absurd (omega arith)
-set_here (x ∷ ls) zero m h = refl
-set_here (x ∷ ls) (suc i) m h = set_here ls i m (omega arith)
-
 still_waits : (n i j : ℕ) (ls : List Lane) (m : Lane) → j ≢ i → WaitsFor n j ls → WaitsFor n j (set ls i m)
-still_waits n i j ls m ne h = record { lane = h.lane; there = set_elsewhere ls i j m ne ∙ h.there; round = h.round; amount_is = h.amount_is }
+still_waits n i j ls m ne h = record { lane = h.lane; there = get_other ls i j m ne ∙ h.there; round = h.round; amount_is = h.amount_is }
 
 others_wait : (i : ℕ) (is ns : List ℕ) (ls : List Lane) (m : Lane) → NamesNot i is → AreWaiting is ns ls → AreWaiting is ns (set ls i m)
 others_wait i [] [] ls m ne h = tt
@@ -87,22 +77,17 @@ posts_run rates last issued (i ∷ is) (n ∷ ns) ls h =
 pub posted_else : (is ns : List ℕ) (ls : List Lane) (j : ℕ) → NamesNot j is → slice_get (posted is ns ls) j ≡ slice_get ls j
 posted_else [] ns ls j ne = refl
 posted_else (i ∷ is) [] ls j ne = refl
-posted_else (i ∷ is) (n ∷ ns) ls j ne = posted_else is ns (set ls i (granted n (get_or ls i new_lane))) j ne.1 ∙ set_elsewhere ls i j (granted n (get_or ls i new_lane)) ne.0
-
-names_other : (i : ℕ) (is : List ℕ) (k : ℕ) → NamesNot i is → k < length is → get_or is k 0 ≢ i
-names_other i [] k ne h = absurd (omega arith)
-names_other i (j ∷ is) zero ne h = λ e. ne.0 (sym e)
-names_other i (j ∷ is) (suc k) ne h = names_other i is k ne.1 (omega arith)
+posted_else (i ∷ is) (n ∷ ns) ls j ne = posted_else is ns (set ls i (granted n (get_or ls i new_lane))) j ne.1 ∙ get_other ls i j (granted n (get_or ls i new_lane)) ne.0
 
 -- lane k of those that are answered
 pub posted_at : (is ns : List ℕ) (ls : List Lane) (k : ℕ) (l : Lane) → AreWaiting is ns ls → k < length is → slice_get ls (get_or is k 0) ≡ Some l → slice_get (posted is ns ls) (get_or is k 0) ≡ Some (granted (get_or ns k 0) l)
 posted_at [] ns ls k l h less e = absurd (omega arith)
 posted_at (i ∷ is) [] ls k l h less e = absurd h
 posted_at (i ∷ is) (n ∷ ns) ls zero l h less e =
-    posted_else is ns (set ls i (granted n (get_or ls i new_lane))) i h.1 ∙ set_here ls i (granted n (get_or ls i new_lane)) (slice_get_within ls i l e) ∙ ap (λ (x : Lane). Some (granted n x)) (get_or_from_slice_get ls i l new_lane e)
+    posted_else is ns (set ls i (granted n (get_or ls i new_lane))) i h.1 ∙ get_here ls i l (granted n (get_or ls i new_lane)) e ∙ ap (λ (x : Lane). Some (granted n x)) (get_or_from_slice_get ls i l new_lane e)
 posted_at (i ∷ is) (n ∷ ns) ls (suc k) l h less e =
     let m : Lane = granted n (get_or ls i new_lane) in
-    posted_at is ns (set ls i m) k l (others_wait i is ns ls m h.1 h.2) (omega arith) (set_elsewhere ls i (get_or is k 0) m (names_other i is k h.1 (omega arith)) ∙ e)
+    posted_at is ns (set ls i m) k l (others_wait i is ns ls m h.1 h.2) (omega arith) (get_other ls i (get_or is k 0) m (names_other i is k h.1 (omega arith)) ∙ e)
 
 pub length-posted : (is ns : List ℕ) (ls : List Lane) → length (posted is ns ls) ≡ length ls
 length-posted [] ns ls = refl

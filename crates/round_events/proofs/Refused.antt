@@ -1,9 +1,12 @@
 -- A refused round is a run: its tries, a decision that is refused, and answers of 0 octets.
-use Rattle.std.proofs.Common.{◌≡◌, ℕ, zero, suc, ◌/◌, ◌<◌, Bool, cond, true, false, if◌then◌else◌, List, [], ◌∷◌, ◌++◌, map, length, get_or, sym, refl, ap, ◌∙◌, subst, arith, All, Option, Some, None, Err, IsPermutation, slice_get}
+use Rattle.std.proofs.Common.{◌≡◌, ℕ, zero, suc, ◌+◌, ◌/◌, ◌<◌, ◌≤◌, Bool, true, false, if◌then◌else◌, List, [], ◌∷◌, ◌++◌, map, length, get_or, sym, refl, ap, ◌∙◌, subst, arith, All, Option, Some, None, Err, IsPermutation, slice_get}
 use Rattle.std.specs.List.{list_any}
 use Rattle.std.proofs.lemmas.List.{length-map}
 use Rattle.std.proofs.lemmas.List.Sorted.{IsPermutation-refl}
 use Rattle.grant_ledger.specs.Books.{BookView}
+use Rattle.grant_ledger.specs.declared.ledger.TheConstants.{MAX_LANES}
+use Rattle.share_world.specs.Shares.{AreFitRates}
+use Rattle.share_world.proofs.Small.{no_other_fault}
 use Rattle.limit_tree.specs.declared.fault.TreeFault.{TreeFault}
 use Rattle.limit_tree.specs.declared.fault.TreeFault.TheVariants.{TooDeep, TooManyLeaves, WantTooLarge, LimitTooLarge, FloorTooLarge, FloorsOverLimit}
 use Rattle.line_rates.specs.declared.ask.Ask.{Ask}
@@ -23,19 +26,20 @@ use Rattle.world_terms.specs.Steps.{Refuses}
 use Rattle.world_terms.specs.declared.fault.StepFault.{StepFault}
 use Rattle.world_terms.specs.Steps as core
 use Rattle.desk_rule.specs.declared.view.TurnView.{TurnView}
-use Rattle.desk_rule.specs.Lanes.{has_missed}
 use Rattle.lane_desk.specs.declared.refusal.RoundRefusal.{RoundRefusal}
 use Rattle.lane_desk.specs.declared.refusal.RoundRefusal.TheVariants as reason
 use Rattle.lane_desk.specs.Posted.{nothing_for, turn_at}
 use Rattle.lane_desk.specs.Refusals.{IsRefused, PassesMost}
 use Rattle.lane_desk.specs.Rounded.{IsRefusedRoundOver, IsTurnedAway}
 use Rattle.lane_desk.specs.Tried.{asks_from}
+use Rattle.lane_desk.proofs.TriedLemmas.{posted_same}
 use Rattle.round_events.specs.Events.{collects, given_lanes, post_replies, posts, round_events, round_replies, try_replies}
-use Rattle.round_events.specs.Refused.{HasBook, HasNoOtherFault, RefusedRoundIsEvents, fault_for, refusal_for}
+use Rattle.round_events.specs.Refused.{HasBook, RefusedRoundIsEvents, fault_for, refusal_for}
 use Rattle.round_events.specs.Worlds.{AreFoundOn, AreShownBy, LeadsOn}
 use Rattle.round_events.proofs.Answered.{IsReadyFor, are_left, are_shown, found_within, waiting}
 use Rattle.round_events.proofs.Collects.{at, collected}
-use Rattle.round_events.proofs.Deciding.{HasAsk, Once, decided_is, decided_lanes}
+use Rattle.share_world.specs.Turns.{HasAsk}
+use Rattle.round_events.proofs.Deciding.{Once, decided_is, decided_lanes}
 use Rattle.round_events.proofs.Found.{AreFound, are_found}
 use Rattle.round_events.proofs.Posts.{AreWaiting, posted, posts_run}
 use Rattle.round_events.proofs.Rounds.{at_zero, find, tried_asked, tried_asks, tried_lanes, tried_posted, tries}
@@ -63,7 +67,12 @@ floors_over A r tick asks k has fit = none_over has.root k has.is (floors_within
 abbrev if_large : Bool → RoundRefusal → StepFault
 if_large b why = if b then fault.TooMuch else fault_for why
 
-module _ (A : Type 0) (rates : Rates) (moment : ℕ) (last : Option ℕ) (issued : ℕ) (asks : List Asker) (ls : List Lane) (k : IsAsking asks ls) (once : (order : List Asker) → IsPermutation asks order → Once (map lane_in order)) where
+few_asks : (k : ℕ) (found : List (Option Ask)) → length (asks_from k found) ≤ length found
+few_asks k [] = omega arith
+few_asks k (None ∷ found) = omega (arith, few_asks (k + 1) found)
+few_asks k (Some a ∷ found) = omega (arith, few_asks (k + 1) found)
+
+module _ (A : Type 0) (rates : Rates) (moment : ℕ) (last : Option ℕ) (issued : ℕ) (asks : List Asker) (ls : List Lane) (k : IsAsking asks ls) (fit : AreFitRates rates) (few : length asks ≤ MAX_LANES) (once : (order : List Asker) → IsPermutation asks order → Once (map lane_in order)) where
   abbrev here : World
   here = at last issued ls
 
@@ -76,27 +85,27 @@ module _ (A : Type 0) (rates : Rates) (moment : ℕ) (last : Option ℕ) (issued
   of_floors : (n : ℕ) → HasFault A rates (moment / 100) asks (FloorsOverLimit n) → IsReady here moment → Refuses rates here (event.Decide moment) fault.FloorsOver
   of_floors n has r = (r, λ fit. floors_over A rates (moment / 100) asks n has (subst (λ (xs : List Asker). FloorsFit rates (moment / 100) (map ask_in xs)) k.asks_are fit))
 
-  other : (f : TreeFault) → IsNotOfFloors (plan.Tree f) → HasNoOtherFault asks (reason.Plan f) → list_any wants_too_much asks ≡ false → ⊥
-  other f is none e = let yes : true ≡ false = sym (none f refl is) ∙ e in cc
+  other : (f : TreeFault) → IsNotOfFloors (plan.Tree f) → HasFault A rates (moment / 100) asks f → list_any wants_too_much asks ≡ false → ⊥
+  other f is has small = no_other_fault A rates (moment / 100) asks f fit few small has is
 
-  refuses : (b : Bool) (why : RoundRefusal) → list_any wants_too_much asks ≡ b → HasNoOtherFault asks why → (((n : ℕ) → why ≡ reason.NotYet n → ⊥)) → IsLater (moment / 100) last
+  refuses : (b : Bool) (why : RoundRefusal) → list_any wants_too_much asks ≡ b → ((n : ℕ) → why ≡ reason.NotYet n → ⊥) → IsLater (moment / 100) last
       → (book : BookView) → issued ≡ book.issued → IsRefused A rates (moment / 100) asks book why → Refuses rates here (event.Decide moment) (if_large b why)
-  refuses true why e none yet later book same h = large later e
-  refuses false (reason.NotYet n) e none yet later book same h = absurd (yet n refl)
-  refuses false reason.BookFull e none yet later book same h = (ready later e, passes rates moment last issued asks ls k once (subst (PassesMost rates (moment / 100) asks) (sym same) h.1))
-  refuses false reason.Memory e none yet later book same h = ready later e
-  refuses false (reason.Plan (FloorsOverLimit n)) e none yet later book same h = of_floors n h.1 (ready later e)
-  refuses false (reason.Plan TooDeep) e none yet later book same h = absurd (other TooDeep tt none e)
-  refuses false (reason.Plan TooManyLeaves) e none yet later book same h = absurd (other TooManyLeaves tt none e)
-  refuses false (reason.Plan WantTooLarge) e none yet later book same h = absurd (other WantTooLarge tt none e)
-  refuses false (reason.Plan LimitTooLarge) e none yet later book same h = absurd (other LimitTooLarge tt none e)
-  refuses false (reason.Plan FloorTooLarge) e none yet later book same h = absurd (other FloorTooLarge tt none e)
+  refuses true why e yet later book same h = large later e
+  refuses false (reason.NotYet n) e yet later book same h = absurd (yet n refl)
+  refuses false reason.BookFull e yet later book same h = (ready later e, passes rates moment last issued asks ls k once (subst (PassesMost rates (moment / 100) asks) (sym same) h.1))
+  refuses false reason.Memory e yet later book same h = ready later e
+  refuses false (reason.Plan (FloorsOverLimit n)) e yet later book same h = of_floors n h.1 (ready later e)
+  refuses false (reason.Plan TooDeep) e yet later book same h = absurd (other TooDeep tt h.1 e)
+  refuses false (reason.Plan TooManyLeaves) e yet later book same h = absurd (other TooManyLeaves tt h.1 e)
+  refuses false (reason.Plan WantTooLarge) e yet later book same h = absurd (other WantTooLarge tt h.1 e)
+  refuses false (reason.Plan LimitTooLarge) e yet later book same h = absurd (other LimitTooLarge tt h.1 e)
+  refuses false (reason.Plan FloorTooLarge) e yet later book same h = absurd (other FloorTooLarge tt h.1 e)
 
-  refused_for : (why : RoundRefusal) → HasNoOtherFault asks why → (book : BookView) → last ≡ book.last_tick → issued ≡ book.issued → IsRefused A rates (moment / 100) asks book why → Refuses rates here (event.Decide moment) (refusal_for asks why)
-  refused_for (reason.NotYet n) none book l i h = (k.posted, l ∙ h.0, h.1)
-  refused_for reason.BookFull none book l i h = refuses (list_any wants_too_much asks) reason.BookFull refl none (λ n e. cc) (subst (IsLater (moment / 100)) (sym l) h.0) book i h
-  refused_for reason.Memory none book l i h = refuses (list_any wants_too_much asks) reason.Memory refl none (λ n e. cc) (subst (IsLater (moment / 100)) (sym l) h) book i h
-  refused_for (reason.Plan f) none book l i h = refuses (list_any wants_too_much asks) (reason.Plan f) refl none (λ n e. cc) (subst (IsLater (moment / 100)) (sym l) h.0) book i h
+  refused_for : (why : RoundRefusal) → (book : BookView) → last ≡ book.last_tick → issued ≡ book.issued → IsRefused A rates (moment / 100) asks book why → Refuses rates here (event.Decide moment) (refusal_for asks why)
+  refused_for (reason.NotYet n) book l i h = (k.posted, l ∙ h.0, h.1)
+  refused_for reason.BookFull book l i h = refuses (list_any wants_too_much asks) reason.BookFull refl (λ n e. cc) (subst (IsLater (moment / 100)) (sym l) h.0) book i h
+  refused_for reason.Memory book l i h = refuses (list_any wants_too_much asks) reason.Memory refl (λ n e. cc) (subst (IsLater (moment / 100)) (sym l) h) book i h
+  refused_for (reason.Plan f) book l i h = refuses (list_any wants_too_much asks) (reason.Plan f) refl (λ n e. cc) (subst (IsLater (moment / 100)) (sym l) h.0) book i h
 
 -- ---- the whole
 
@@ -113,14 +122,10 @@ told_on : (given : Bool) (t t' : TurnView) (o : Option Ask) (a : Ask) → o ≡ 
 told_on given t t' o a e h = ap (λ (x : TurnView). x.posted) (subst (λ (p : Option Ask). IsTurnedAway given p t t') e h)
 
 untold_on : (given : Bool) (t t' : TurnView) (o : Option Ask) → o ≡ None → IsTurnedAway given o t t' → t'.posted ≡ t.posted
-untold_on given t t' o e h = ap (λ (x : TurnView). x.posted) (subst (λ (p : Option Ask). IsTurnedAway given p t t') e h) ∙ missed given
-  where
-    missed : (b : Bool) → (cond b (has_missed t) t).posted ≡ t.posted
-    missed true = refl
-    missed false = refl
+untold_on given t t' o e h = ap (λ (x : TurnView). x.posted) (subst (λ (p : Option Ask). IsTurnedAway given p t t') e h) ∙ posted_same given None t
 
 module _ (A : Type 0) (given : ℕ → Bool) (rates : Rates) (moment : ℕ) (book : BookView) (old new : List TurnView) (marks : ℕ) (why : RoundRefusal) (w : World) (r : IsRefusedRoundOver A given rates (moment / 100) book old new marks why)
-    (none : HasNoOtherFault (asks_from 0 r.found) why) (books : HasBook book w) (before : AreShownBy old w.lanes) (on : AreFoundOn given r.found w.lanes) where
+    (fit : AreFitRates rates) (few : length old ≤ MAX_LANES) (books : HasBook book w) (before : AreShownBy old w.lanes) (on : AreFoundOn given r.found w.lanes) where
   abbrev found : List (Option Ask)
   found = r.found
 
@@ -172,7 +177,7 @@ module _ (A : Type 0) (given : ℕ → Bool) (rates : Rates) (moment : ℕ) (boo
   }
 
   refusal : Refuses rates (at w.last_tick w.issued tried) (event.Decide moment) (refusal_for asks why)
-  refusal = refused_for A rates moment w.last_tick w.issued asks tried asking (λ order p. (are_found found order p).once) why none book books.last_is books.issued_is r.refused
+  refusal = refused_for A rates moment w.last_tick w.issued asks tried asking fit (omega (arith, few_asks 0 found, r.wide, few)) (λ order p. (are_found found order p).once) why book books.last_is books.issued_is r.refused
 
   decision : IsRun rates (at w.last_tick w.issued tried) (event.Decide moment ∷ posts lanes) (Err (refusal_for asks why) ∷ post_replies zeros) end
   decision = run_from rates (at w.last_tick w.issued tried) (at w.last_tick w.issued tried) end (event.Decide moment) (Err (refusal_for asks why)) (posts lanes) (post_replies zeros) (refl, refusal) (posts_run rates w.last_tick w.issued lanes zeros tried waits)
@@ -189,4 +194,4 @@ module _ (A : Type 0) (given : ℕ → Bool) (rates : Rates) (moment : ℕ) (boo
   }
 
 pub refused_is_events : (A : Type 0) → RefusedRoundIsEvents A
-refused_is_events A given rates moment book old new answered why w r none books before on = leads A given rates moment book old new answered why w r none books before on
+refused_is_events A given rates moment book old new answered why w r fit few books before on = leads A given rates moment book old new answered why w r fit few books before on

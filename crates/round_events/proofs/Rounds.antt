@@ -1,5 +1,5 @@
 -- A round is a run: its tries, its decision, its answers.
-use Rattle.std.proofs.Common.{◌≡◌, ℕ, zero, suc, ◌+◌, ◌/◌, ◌<◌, ◌≤◌, Bool, cond, true, false, List, [], ◌∷◌, ◌++◌, length, get_or, sum, sym, refl, ap, ◌∙◌, subst, arith, All, Option, Some, None, Ok, slice_get}
+use Rattle.std.proofs.Common.{◌≡◌, ℕ, zero, suc, ◌+◌, ◌/◌, ◌<◌, ◌≤◌, Bool, false, List, [], ◌∷◌, ◌++◌, length, get_or, sum, sym, refl, ap, ◌∙◌, subst, arith, All, Option, Some, None, Ok, slice_get}
 use Rattle.std.specs.List.{list_any}
 use Rattle.std.proofs.lemmas.List.Elements.{All-nil}
 use Rattle.std.proofs.lemmas.Option.{slice_get-get_or}
@@ -18,16 +18,17 @@ use Rattle.world_terms.specs.Decisions.{AllPosted, IsPosted, has_large_want, in_
 use Rattle.world_terms.specs.Lanes.{Lane, World}
 use Rattle.world_terms.specs.Runs.{IsRun}
 use Rattle.desk_rule.specs.declared.view.TurnView.{TurnView}
-use Rattle.desk_rule.specs.Lanes.{has_missed}
 use Rattle.lane_desk.specs.Posted.{turn_at}
 use Rattle.lane_desk.specs.Rounded.{IsAnswered}
 use Rattle.lane_desk.specs.Tried.{asks_from}
+use Rattle.lane_desk.proofs.TriedLemmas.{posted_same}
 use Rattle.round_events.specs.Events.{collects, given_lanes, post_replies, posts, round_events, round_replies, try_replies}
 use Rattle.round_events.specs.Rounds.{IsDecided, PlansAreSmall, RoundIsEvents}
 use Rattle.round_events.specs.Worlds.{AreFoundOn, AreShownBy, IsFoundOn, LeadsOn}
 use Rattle.round_events.proofs.Answered.{IsReadyFor, are_left, are_shown, waiting}
 use Rattle.round_events.proofs.Collects.{EachFound, OfGiven, at, collected, got, posted_got, tries_run}
-use Rattle.round_events.proofs.Deciding.{HasAsk, amount_at, amount_on, decides, give, given_to, lanes_length, to_other}
+use Rattle.share_world.specs.Turns.{HasAsk}
+use Rattle.round_events.proofs.Deciding.{amount_at, amount_on, decides, give, given_to, lanes_length, to_other}
 use Rattle.round_events.proofs.Found.{AreFound, are_found}
 use Rattle.round_events.proofs.Posts.{AreWaiting, posted, posts_run}
 use Rattle.round_events.proofs.Runs.{run_from, run_then}
@@ -89,11 +90,7 @@ module _ (rates : Rates) (given : ℕ → Bool) (found : List (Option Ask)) (old
 -- ---- the whole
 
 untold_on : (given : Bool) (t t' : TurnView) (o : Option Ask) → o ≡ None → IsAnswered given o t t' → t'.posted ≡ t.posted
-untold_on given t t' o e h = ap (λ (x : TurnView). x.posted) (subst (λ (p : Option Ask). IsAnswered given p t t') e h) ∙ missed given
-  where
-    missed : (b : Bool) → (cond b (has_missed t) t).posted ≡ t.posted
-    missed true = refl
-    missed false = refl
+untold_on given t t' o e h = ap (λ (x : TurnView). x.posted) (subst (λ (p : Option Ask). IsAnswered given p t t') e h) ∙ posted_same given None t
 
 -- a decided round, from what is known of its plan
 record IsKnown (given : ℕ → Bool) (found : List (Option Ask)) (rates : Rates) (moment : ℕ) (old new : List TurnView) (t : LimitTree) (lanes grants : List ℕ) (w : World) : Type 0 where

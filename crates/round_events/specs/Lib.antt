@@ -3,3 +3,4 @@ pub mod Worlds
 pub mod Decided
 pub mod Rounds
 pub mod Refused
+pub mod Desk

@@ -134,6 +134,17 @@ def equal(rate, number, line):
     return f"rate = {rate}", (("ann", ""),), [("ann", line)] * number, [rate / number] * number
 
 
+def session(rate):
+    """One transfer under the rate of each session of a user."""
+    return "", (("ann", f"session_down_rate = {rate}"),), [("ann", DOWN)], [rate]
+
+
+def unlimited_beside(users):
+    """A transfer without a limit beside one of a user with a rate, who is one of this many."""
+    rated = [(f"user{number}", "down_rate = 1000000") for number in range(users)]
+    return "", (("ann", ""), *rated), [("user0", DOWN), ("ann", DOWN)], [1_000_000, None]
+
+
 LINE = 4 * MEGABYTE
 DRIBBLES = [("ann", UP, 0, 1_400, 0.014)] * 5
 # case: lines of the server's table, users, transfers (user, command, and how it reads or sends), and what each ought to have
@@ -150,9 +161,14 @@ CASES = {
     "4 MiB: three fast readers and a slow one": (f"rate = {LINE}", (("ann", ""),), [("ann", DOWN)] * 3 + [("ann", DOWN, LINE // 16)], [LINE * 5 / 16] * 3 + [LINE / 16]),
     "8 of a user with 1,000, beside one of a user with 4 MiB": ("", (("ann", "down_rate = 1000"), ("bob", f"down_rate = {LINE}")), [("ann", DOWN)] * 8 + [("bob", DOWN)], [125] * 8 + [LINE]),
     "4 MiB: 60 of a user with 10,000, and two others": (f"rate = {LINE}", (("ann", "down_rate = 10000"), ("bob", "")), [("ann", DOWN)] * 60 + [("bob", DOWN)] * 2, [10_000 / 60] * 60 + [(LINE - 10_000) / 2] * 2),
-    "a session's rate of 2 MB alone": ("", (("ann", "session_down_rate = 2000000"),), [("ann", DOWN)], [2_000_000]),
+    "a session's rate of 2 MB alone": session(2_000_000),
+    "a session's rate of 15 MB alone": session(15_000_000),
+    "a session's rate of 30 MB alone": session(30_000_000),
+    "four sessions' rates of 2 MB": ("", (("ann", "session_down_rate = 2000000"),), [("ann", DOWN)] * 4, [2_000_000] * 4),
     "a guarantee of 1 MiB in 4 MiB, under 12 others": (f"rate = {LINE}", (("ann", f"session_down_floor = {MEGABYTE}"), ("bob", "")), [("ann", DOWN)] + [("bob", DOWN)] * 12, [MEGABYTE] + [MEGABYTE / 4] * 12),
     "1 MB: a download beside five uploads that dribble": ("rate = 1000000", (("ann", ""), ("bob", "")), [("bob", DOWN), *DRIBBLES], [500_000] + [100_000] * 5),
+    "a user without a limit, and 1 user with a rate": unlimited_beside(1),
+    "a user without a limit, and 400 users with rates": unlimited_beside(400),
     "a user without a limit beside 60 of a user with 10,000": ("", (("ann", "down_rate = 10000"), ("bob", "")), [("ann", DOWN)] * 60 + [("bob", DOWN)], [10_000 / 60] * 60 + [None]),
 }
 

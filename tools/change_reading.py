@@ -80,7 +80,7 @@ def name_line(kind, name, change, key):
     if change == "changed":
         return f"user {name}: {key} changes {'at once' if key == 'group' else 'for logins from then on'}"
     is_gone = kind == "user" and change == "taken out"
-    return f"{kind} {name} is {change}{': no login, and 421 for each session once no transfer of it runs' if is_gone else ''}"
+    return f"{kind} {name} is {change}{', and its sessions end' if is_gone else ''}"
 
 
 def is_refused(old, new):

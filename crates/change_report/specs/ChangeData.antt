@@ -1,5 +1,5 @@
 -- The report on a change as JSON: a value, whose members docs/configuration.md describes.
-use Rattle.std.specs.Prelude.{ℕ, Bool, List, [], ◌∷◌, Option, Some, None, codes, if◌then◌else◌, is_some, map}
+use Rattle.std.specs.Prelude.{ℕ, List, Option, Some, None, codes, if◌then◌else◌, is_some, map}
 use Rattle.serde_json.specs.Data.{Data, array, boolean, member, no_members, null, object, string}
 use Rattle.serde_json.specs.View.{items_of}
 use Rattle.config_report.specs.ReportData.{count_data, masquerade_data, rate_data}

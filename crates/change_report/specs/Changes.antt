@@ -1,7 +1,7 @@
 -- The differences of two configurations: settings, rates and guarantees that have another value,
 -- groups and users that only one of the two has, and users whose terms differ. Groups and users are
 -- the same if their names are.
-use Rattle.std.specs.Prelude.{ℕ, Bool, true, false, ◌&&◌, ◌||◌, cond, if◌then◌else◌, nat_eq, not, List, [], ◌∷◌, ◌++◌, bytes_eq, codes, Option, Some, None, Vec}
+use Rattle.std.specs.Prelude.{ℕ, Bool, true, false, ◌&&◌, ◌||◌, cond, if◌then◌else◌, nat_eq, List, [], ◌∷◌, ◌++◌, bytes_eq, codes, Option, Some, None, Vec}
 use Rattle.std.specs.Borrow.{Bor}
 use Rattle.std.specs.List.{flat_map}
 use Rattle.std.specs.Net.Addr.{ipv4_bits}

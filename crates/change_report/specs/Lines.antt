@@ -74,15 +74,20 @@ term_line user key =
     codes "user " ++ user ++ codes ": " ++ key_text key ++ codes " changes " ++ when_text key
     ++ 10 ∷ []
 
+-- the consequence for a user who is taken out
+abbrev pub removal_text : List ℕ
+removal_text =
+    codes " is taken out, and its sessions end"
+
+abbrev pub removal_line : List ℕ → List ℕ
+removal_line user = codes "user " ++ user ++ removal_text ++ 10 ∷ []
+
 abbrev pub name_line : NameChange → List ℕ
 name_line (name.GroupAdded group) = codes "group " ++ group.now ++ codes " is added" ++ 10 ∷ []
 name_line (name.GroupTakenOut group) =
     codes "group " ++ group.now ++ codes " is taken out" ++ 10 ∷ []
 name_line (name.UserAdded user) = codes "user " ++ user.now ++ codes " is added" ++ 10 ∷ []
-name_line (name.UserTakenOut user) =
-    codes "user " ++ user.now
-    ++ codes " is taken out: no login, and 421 for each session once no transfer of it runs"
-    ++ 10 ∷ []
+name_line (name.UserTakenOut user) = removal_line user.now
 name_line (name.UserChanged user key) = term_line user.now key
 
 -- ---- rates and guarantees

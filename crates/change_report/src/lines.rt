@@ -4,7 +4,7 @@ ghost use Rattle.std.specs.Prelude.{◌≡◌, ◌++◌, IfOk, OnOk, string_byte
 ghost use Rattle.std.specs.Fmt.{decimal};
 ghost use Rattle.std.specs.List.{flat_map};
 ghost use Rattle.config_report.specs.Lines.{rate_column};
-ghost use Rattle.change_report.specs.Lines.{address_text, becomes_line, flag_text, key_column, limit_line, lines_text, name_line, outcome_line, owner_column, rates_table, refused_line, setting_line, table_head, taken_line, term_line};
+ghost use Rattle.change_report.specs.Lines.{address_text, becomes_line, flag_text, key_column, limit_line, lines_text, name_line, outcome_line, owner_column, rates_table, refused_line, removal_line, removal_text, setting_line, table_head, taken_line, term_line};
 
 use crate::changes::Changes;
 use crate::limits::{LimitChange, Owner};
@@ -137,6 +137,21 @@ fn write_term(text: &mut String, name: &str, key: TermKey) -> Result<(), AllocEr
     writeln!(text, "user {name}: {word} changes {when}")
 }
 
+// The consequence for a user who is taken out.
+fn removal_text() -> &'static str
+    ensures text { result.now ≡ removal_text }
+{
+    " is taken out, and its sessions end"
+}
+
+fn write_removal(text: &mut String, name: &str) -> Result<(), AllocError>
+    ensures line { OnOk result
+        (string_bytes text.new ≡ string_bytes text.old ++ removal_line name.now) }
+{
+    let removal = removal_text();
+    writeln!(text, "user {name}{removal}")
+}
+
 fn write_name(text: &mut String, change: NameChange<'_>) -> Result<(), AllocError>
     ensures line { OnOk result
         (string_bytes text.new ≡ string_bytes text.old ++ name_line change.entry) }
@@ -145,10 +160,7 @@ fn write_name(text: &mut String, change: NameChange<'_>) -> Result<(), AllocErro
         NameChange::GroupAdded { name } => writeln!(text, "group {name} is added"),
         NameChange::GroupTakenOut { name } => writeln!(text, "group {name} is taken out"),
         NameChange::UserAdded { name } => writeln!(text, "user {name} is added"),
-        NameChange::UserTakenOut { name } => writeln!(
-            text,
-            "user {name} is taken out: no login, and 421 for each session once no transfer of it runs"
-        ),
+        NameChange::UserTakenOut { name } => write_removal(text, name),
         NameChange::UserChanged { name, key } => write_term(text, name, key),
     }
 }

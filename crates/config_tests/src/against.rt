@@ -70,7 +70,7 @@ sessions: 0 becomes 5, at the next start alone
 group night is added
 group build is taken out
 user carol is added
-user bob is taken out: no login, and 421 for each session once no transfer of it runs
+user bob is taken out, and its sessions end
 user ann: password changes for logins from then on
 user ann: perms changes for logins from then on
 user ann: override changes for logins from then on

@@ -1,6 +1,7 @@
 -- The causes for which a command ends with its fault, and the files that it opens, one after
 -- another. `refused` and `fails` are tests of a path: that its file may be refused, and that
 -- reading it may fail.
+use Rattle.std.specs.Borrow.{Bor}
 use Rattle.std.specs.Prelude.{◌≡◌, ◌≢◌, ◌≤◌, ◌+◌, ◌⊎◌, ℕ, List, Option, Some, None, IfSome, length}
 use Rattle.command_line.specs.declared.words.Words.{Words}
 use Rattle.command_line.specs.declared.words.Words.TheVariants.{Sheet, CheckConfig, Migrate, Script, Serve, Plan, Top}
@@ -78,15 +79,27 @@ AreAgainstOpened {O} opens old new config other ending =
     ⊎ ((opens old config new × IsWithoutText ending)
     ⊎ ((between : O) × opens old config between × opens between other new))
 
+-- the same two of `check-config`, with another configuration if one is stated
+abbrev pub IsConfigWhy : (List ℕ → Type 0) → (List ℕ → Type 0) → Bor (List ℕ)
+    → Option (Bor (List ℕ)) → FtpdExit → Type 0
+IsConfigWhy refused fails config None ending =
+    IsReadWhy config.now (refused config.now ⊎ fails config.now) ending
+IsConfigWhy refused fails config (Some other) ending =
+    IsAgainstWhy refused fails config.now other.now ending
+
+abbrev pub AreConfigOpened : {O : Type 0} → (O → List ℕ → O → Type 0) → O → O → Bor (List ℕ)
+    → Option (Bor (List ℕ)) → FtpdExit → Type 0
+AreConfigOpened opens old new config None ending = opens old config.now new
+AreConfigOpened opens old new config (Some other) ending =
+    AreAgainstOpened opens old new config.now other.now ending
+
 -- the cause of the fault with which that command ends, if it ends with one
 abbrev pub IsCommandWhy : (List ℕ → Octets) → (List ℕ → Type 0) → (List ℕ → Type 0)
     → (List ℕ → Type 0) → Type 0 → Words → FtpdExit → Type 0
 IsCommandWhy gives refused fails refuses breaks (Sheet words) ending =
     IsCommon (IsSheetWhy gives refused fails refuses words) ending
-IsCommandWhy gives refused fails refuses breaks (CheckConfig config json None) ending =
-    IsReadWhy config.now (refused config.now ⊎ fails config.now) ending
-IsCommandWhy gives refused fails refuses breaks (CheckConfig config json (Some other)) ending =
-    IsAgainstWhy refused fails config.now other.now ending
+IsCommandWhy gives refused fails refuses breaks (CheckConfig config json against) ending =
+    IsConfigWhy refused fails config against ending
 IsCommandWhy gives refused fails refuses breaks (Migrate config) ending =
     IsReadWhy config.now (refused config.now ⊎ fails config.now) ending
 IsCommandWhy gives refused fails refuses breaks (Script config) ending =
@@ -103,10 +116,8 @@ abbrev pub AreCommandOpened : {O : Type 0} → (O → List ℕ → O → Type 0)
     → Words → FtpdExit → Type 0
 AreCommandOpened opens old new refused (Sheet words) ending =
     IsCommon (AreOpened opens old new refused words) ending
-AreCommandOpened opens old new refused (CheckConfig config json None) ending =
-    opens old config.now new
-AreCommandOpened opens old new refused (CheckConfig config json (Some other)) ending =
-    AreAgainstOpened opens old new config.now other.now ending
+AreCommandOpened opens old new refused (CheckConfig config json against) ending =
+    AreConfigOpened opens old new config against ending
 AreCommandOpened opens old new refused (Migrate config) ending = opens old config.now new
 AreCommandOpened opens old new refused (Script config) ending =
     AreScriptOpened opens old new refused config.now ending

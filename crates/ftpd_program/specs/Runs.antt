@@ -91,16 +91,23 @@ IsScriptEnd gives config old new (Session fault) =
     × IsUnscripted text before after old new (Unserved fault))
 IsScriptEnd gives config old new _ = ⊥
 
+-- the ending of `check-config` for the path of a configuration, and that of another one if it is
+-- stated
+abbrev pub IsConfigEnd : (List ℕ → Octets) → Shown → (List ℕ → Type 0) → Bor (List ℕ) → Bool
+    → Option (Bor (List ℕ)) → Option (List ℕ) → Option (List ℕ) → FtpdExit → Type 0
+IsConfigEnd gives shown Refuses config json None old new ending =
+    IsPrintEnd (report_print json config) shown (gives config.now) Refuses old new ending
+IsConfigEnd gives shown Refuses config json (Some other) old new ending =
+    IsAgainstEnd json gives config.now other.now Refuses old new ending
+
 -- the ending of that command, given the possible results of looks at the machine, and the possible
 -- calls of a server
 abbrev pub IsCommandEnd : (List ℕ → Octets) → Shown → Service → (List ℕ → Type 0) → Words
     → Option (List ℕ) → Option (List ℕ) → FtpdExit → Type 0
 IsCommandEnd gives shown serves Refuses (Sheet words) old new ending =
     IsCommon (IsSheetEnd gives words old new) ending
-IsCommandEnd gives shown serves Refuses (CheckConfig config json None) old new ending =
-    IsPrintEnd (report_print json config) shown (gives config.now) Refuses old new ending
-IsCommandEnd gives shown serves Refuses (CheckConfig config json (Some other)) old new ending =
-    IsAgainstEnd json gives config.now other.now Refuses old new ending
+IsCommandEnd gives shown serves Refuses (CheckConfig config json against) old new ending =
+    IsConfigEnd gives shown Refuses config json against old new ending
 IsCommandEnd gives shown serves Refuses (Migrate config) old new ending =
     IsPrintEnd Latest shown (gives config.now) Refuses old new ending
 IsCommandEnd gives shown serves Refuses (Script config) old new ending =

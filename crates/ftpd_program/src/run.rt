@@ -14,9 +14,9 @@ ghost use Rattle.script_session.specs.Breaks.{MayBreakWriting};
 ghost use Rattle.sheets_program.specs.Endings.{IsOutOfMemory, IsToldEnd};
 ghost use Rattle.sheets_program.specs.Runs.{IsCheckEnd, IsShareEnd};
 ghost use Rattle.ftpd_program.specs.Against.{IsAgainstEnd};
-ghost use Rattle.ftpd_program.specs.Causes.{AreCommandOpened, AreScriptOpened, IsCommandWhy, IsReadWhy, IsScriptWhy};
+ghost use Rattle.ftpd_program.specs.Causes.{AreCommandOpened, AreConfigOpened, AreScriptOpened, IsCommandWhy, IsConfigWhy, IsReadWhy, IsScriptWhy};
 ghost use Rattle.ftpd_program.specs.Endings.{IsCommon, IsUnwritten};
-ghost use Rattle.ftpd_program.specs.Runs.{IsCommandEnd, IsPlanEnd, IsPrintEnd, IsReportEnd, IsScriptEnd, IsTopEnd, after_table, plan_print, report_print};
+ghost use Rattle.ftpd_program.specs.Runs.{IsCommandEnd, IsConfigEnd, IsPlanEnd, IsPrintEnd, IsReportEnd, IsScriptEnd, IsTopEnd, after_table, plan_print, report_print};
 ghost use Rattle.ftpd_program.specs.Serving.{IsServeEnd};
 
 use super::against::check_against;
@@ -169,6 +169,28 @@ fn script<'w, O: Opener, W: TextWriter>(
     }
 }
 
+/// Runs `check-config`, with another configuration if one is stated.
+fn check_config<'w, O: Opener + Lookout, W: TextWriter>(
+    alloc: Global,
+    json: bool,
+    config: &'w str,
+    against: Option<&'w str>,
+    files: &mut O,
+    output: &mut W,
+) -> FtpdExit<'w>
+    ensures end { IsConfigEnd (O.Gives files.old) (O.Shows files.new) (W.may_refuse output.old)
+        config.entry json against.entry (W.contents output.old) (W.contents output.new) result }
+    ensures why { IsConfigWhy (O.MayRefuse files.old) (O.MayFail files.old) config.entry
+        against.entry result }
+    ensures opened { AreConfigOpened O.Opens files.old files.new config.entry against.entry result }
+    ensures unwritten { IsUnwritten result → output.new ≡ output.old }
+{
+    match against {
+        None => print_text(alloc, report_print(config, json), config, files, output),
+        Some(other) => check_against(alloc, json, config, other, files, output),
+    }
+}
+
 fn run_command<'w, O: Opener + Lookout, W: TextWriter, V: Server<W>>(
     alloc: Global,
     words: Words<'w>,
@@ -190,13 +212,8 @@ fn run_command<'w, O: Opener + Lookout, W: TextWriter, V: Server<W>>(
         Words::CheckConfig {
             config,
             json,
-            against: None,
-        } => print_text(alloc, report_print(config, json), config, files, output),
-        Words::CheckConfig {
-            config,
-            json,
-            against: Some(other),
-        } => check_against(alloc, json, config, other, files, output),
+            against,
+        } => check_config(alloc, json, config, against, files, output),
         Words::Migrate { config } => print_text(alloc, Print::Latest, config, files, output),
         Words::Script { config } => script(alloc, config, files, output),
         Words::Plan {

@@ -1,3 +1,4 @@
 mod RunLemmas
 mod SecondLemmas
 mod BeatLemmas
+mod GuaranteeLemmas

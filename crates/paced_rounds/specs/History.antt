@@ -7,6 +7,7 @@ use Rattle.lane_desk.specs.declared.record.RoundFault.{RoundFault}
 use Rattle.proof_log.specs.declared.log.ProofLog.{ProofLog}
 use Rattle.round_pace.specs.Earned.{tick_of}
 use Rattle.round_pace.specs.Changed.{idle}
+use Rattle.round_pace.specs.Guaranteed.{LeadGuaranteed}
 use Rattle.round_pace.specs.Histories.{Held, rates_of}
 use Rattle.round_pace.specs.Paced.{Paced}
 use Rattle.round_pace.specs.Stretches.{Stretch, Lead}
@@ -72,3 +73,7 @@ pub record IsRun (p : Paced) (latest : ℕ) (ss : List Stretch) : Type 0 where
   pub begun : ℕ
   pub lead : Lead (idle begun) ss p
   pub near : p.begun ≤ tick_of latest + 1
+
+-- Each round of the stretches was offered what guarantees within the rates in force in it need.
+abbrev pub WereGuaranteed : Paced → List Stretch → Type 0
+WereGuaranteed p ss = ∥ ((begun : ℕ) × LeadGuaranteed (idle begun) ss p) ∥₁

@@ -1,6 +1,14 @@
-//! Laws over the definitions.
+//! Laws over the definitions, and of the type.
 
+ghost use Rattle.std.specs.Prelude.{ℕ};
+ghost use Rattle.round_pace.specs.Guaranteed.{AreBounded, IsGuaranteed};
+ghost use Rattle.round_pace.specs.Histories.{rates_of};
+ghost use Rattle.paced_rounds.specs.History.{stretches, WereGuaranteed};
 ghost use Rattle.paced_rounds.specs.Seconds.{SecondsAreKept, ChangesAreKept};
+
+use crate::rounds::PacedRounds;
+use round_pace::guarantees_are_offered;
+use std::alloc::Allocator;
 
 /// If there is a history in which all rates are kept, and its moments are in some seconds of the clock, then at most the
 /// rate of the server is issued for each of these seconds; with an octet for each change of it between two rounds of one
@@ -9,3 +17,16 @@ pub fn seconds_are_kept()
     ensures kept { SecondsAreKept }
     ensures changes { ChangesAreKept }
 {}
+
+impl<N, A: Allocator> PacedRounds<N, A> {
+    /// A law of the type: guarantees of counted sessions that are within the rates in force are within what each of the
+    /// rounds so far was offered, and within what the next one is, in whatever tick it is held.
+    pub fn guarantees_are_offered(&self)
+        ensures rounds { WereGuaranteed self.now.pace
+            (stretches self.now.ended.items self.now.pace self.now.log.items) }
+        ensures next { AreBounded (rates_of self.now.pace) → (tick : ℕ)
+            → IsGuaranteed (rates_of self.now.pace) tick self.now.pace }
+    {
+        guarantees_are_offered();
+    }
+}

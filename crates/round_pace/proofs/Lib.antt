@@ -21,3 +21,6 @@ mod Holding
 mod Rated
 mod Stretching
 mod Changing
+mod RowValues
+mod Guarantees
+mod Guaranteeing

@@ -42,7 +42,7 @@ rounds_rated n rates p (h ∷ hs) rest good are more = (
       (rounds_rated n rates (after p h) hs rest (good_after rates p h good are.0) are.1 more),
 )
 
-good_last : (rates : Rates) (p : Paced) (hs : List Held) → Good rates p → AreHeld p hs → Good rates (after_all p hs)
+pub good_last : (rates : Rates) (p : Paced) (hs : List Held) → Good rates p → AreHeld p hs → Good rates (after_all p hs)
 good_last rates p [] good are = good
 good_last rates p (h ∷ hs) good are = good_last rates (after p h) hs (good_after rates p h good are.0) are.1
 

@@ -12,3 +12,4 @@ pub mod Histories
 pub mod Rows
 pub mod Changed
 pub mod Stretches
+pub mod Guaranteed

@@ -7,6 +7,9 @@ ghost use Rattle.round_pace.specs.Stretches.{StretchesKeepRates, OneStretchKeeps
 ghost use Rattle.round_pace.specs.Offered.{HandsRowsIn};
 ghost use Rattle.round_pace.specs.FloorsFit.{FloorsFitOffers, FloorFitsSession};
 ghost use Rattle.round_pace.specs.PromisesOffered.{PromisesStayFit, EarnsItsTicks};
+ghost use Rattle.round_pace.specs.Guaranteed.{StretchesAreGuaranteed, NextIsGuaranteed, HistoriesAreGuaranteed};
+
+use rate_floors::promises_are_kept;
 
 /// The limits offered are exactly the octets left.
 pub fn credits_are_offered()
@@ -60,3 +63,13 @@ pub fn stretches_keep_rates()
     ensures changed { ChangedRates }
     ensures new { NewIsChanged }
 {}
+
+/// In each round of a history, guarantees of counted sessions that are within the rates in force are within what the
+/// round is offered of each rate.
+pub fn guarantees_are_offered()
+    ensures stretches { StretchesAreGuaranteed }
+    ensures next { NextIsGuaranteed }
+    ensures histories { HistoriesAreGuaranteed }
+{
+    promises_are_kept();
+}

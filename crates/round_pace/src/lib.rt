@@ -27,8 +27,8 @@ mod rows;
 pub use credit::{Credit, MOST_OFFERED, TICK_MICROS, TICKS};
 pub use due::Due;
 pub use laws::{
-    credits_are_offered, floors_fit_what_is_offered, histories_keep_rates, nothing_is_lost,
-    rates_are_kept, rates_are_reached, rows_are_handed_in, stretches_keep_rates,
+    credits_are_offered, floors_fit_what_is_offered, guarantees_are_offered, histories_keep_rates,
+    nothing_is_lost, rates_are_kept, rates_are_reached, rows_are_handed_in, stretches_keep_rates,
 };
 pub use pace::Pace;
 pub use paced::{GroupPace, UserPace};

@@ -291,7 +291,8 @@ fn few_octets_are_topped_up(rt: HostRuntime) {
     }
     holds(&rt, out.ended());
     drop(out);
-    holds(&rt, taken == text && funds.settle().moved == 100_000);
+    let settled = funds.settle();
+    holds(&rt, taken == text && settled.moved == 100_000);
 }
 
 // Under TYPE A only an empty buffer is filled.

@@ -22,8 +22,8 @@ use std::io::{Read, Write};
 use std::sync::Wait;
 use virtual_tree::{Sink, Source};
 
-/// Sits down, asks, takes, pumps and tops up until the transfer has ended, and rises. Returns true if the gate said `Stop`: a
-/// seat that had asked then keeps that state.
+/// Sits down, asks, takes, pumps and tops up until the transfer has ended, and rises. Returns true if the gate said
+/// `Stop`: a seat that had asked then keeps that state.
 fn run_transfer<R, K, C, A, G, W, N, D>(
     rt: &W,
     desk: &Desk<N, D>,

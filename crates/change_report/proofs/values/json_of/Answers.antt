@@ -1,4 +1,4 @@
-use Rattle.std.proofs.Common.{◌≡◌, ◌≤◌, ◌++◌, ◌∙◌, ℕ, List, Some, arith, ap, string_bytes, subst, sym}
+use Rattle.std.proofs.Common.{◌≤◌, ◌++◌, ◌∙◌, ℕ, List, Some, arith, ap, string_bytes, subst, sym}
 use Rattle.serde_json.specs.Data.{Data, depth}
 use Rattle.change_report.proofs.Depths.{change_depth}
 use Rattle.change_report.proofs.values.json_of.Goals as goal

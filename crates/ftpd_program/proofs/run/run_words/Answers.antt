@@ -119,11 +119,11 @@ returns-in-Err-clause-check_config_json g c = λ config plain are.
 
 pub returns-in-Err-clause-check_against : goal.returns-in-Err-clause-check_against
 returns-in-Err-clause-check_against g c = λ config other plain also are.
-    no_against false (g.O.Opener.Gives c.args.files.now) _ _ _ _ _ _ _ (c.in-Err.ensures.check_against config other plain also are) c.tell.ensures.told
+    no_against false (g.O.Opener.Gives c.args.files.now) config other (g.W.TextWriter.may_refuse c.args.output.now) _ _ _ _ (c.in-Err.ensures.check_against config other plain also are) c.tell.ensures.told
 
 pub returns-in-Err-clause-check_against_json : goal.returns-in-Err-clause-check_against_json
 returns-in-Err-clause-check_against_json g c = λ config other plain also are.
-    no_against true (g.O.Opener.Gives c.args.files.now) _ _ _ _ _ _ _ (c.in-Err.ensures.check_against_json config other plain also are) c.tell.ensures.told
+    no_against true (g.O.Opener.Gives c.args.files.now) config other (g.W.TextWriter.may_refuse c.args.output.now) _ _ _ _ (c.in-Err.ensures.check_against_json config other plain also are) c.tell.ensures.told
 
 pub returns-in-Err-clause-serve_ready : goal.returns-in-Err-clause-serve_ready
 returns-in-Err-clause-serve_ready g c = λ config path ready plain also third are.

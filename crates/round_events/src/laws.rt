@@ -1,0 +1,40 @@
+//! Laws of rounds.
+
+ghost use Rattle.round_events.specs.Decided.{OneDecision};
+ghost use Rattle.round_events.specs.Desk.{DeskRunsAreRuns, OpenedIsNew, RoundDecides, ShownIsOne, TablesAreShown, TriedAreDue};
+ghost use Rattle.round_events.specs.Refused.{RefusedRoundIsEvents};
+ghost use Rattle.round_events.specs.Rounds.{PlansAreSmall, RoundIsEvents};
+
+/// A round of the desk is a list of the core's events, with these replies, from each world that shows the lanes as the
+/// round finds them to one that shows them as it leaves them.
+pub fn round_is_events()
+    ensures events { RoundIsEvents }
+    ensures wants { PlansAreSmall }
+{}
+
+/// A refused round of the desk is a list of the core's events too: its decision is refused, and it answers each ask with
+/// 0 octets.
+pub fn refused_round_is_events<A>()
+    ensures events { RefusedRoundIsEvents A }
+{}
+
+/// A decision of the core is that of a plan for the asks in Round with best grants, and the other way round.
+pub fn decisions_are_one()
+    ensures one { OneDecision }
+{}
+
+/// Each list of steps of the desk, by any of its threads in any order, is a run of the core, which begins in a new world
+/// if the desk was just opened. The part of a lane that a table shows is one.
+pub fn desk_runs_are_runs<N>()
+    ensures runs { DeskRunsAreRuns N }
+    ensures opened { OpenedIsNew N }
+    ensures one { ShownIsOne N }
+{}
+
+/// Between rounds, the world of a desk's table is one in which a round begins. After the tries of a round, the asks that
+/// are due are those found, and the round is a decision for these, as a run of the desk has it.
+pub fn rounds_are_of_the_desk<N>()
+    ensures between { TablesAreShown N }
+    ensures due { TriedAreDue }
+    ensures decision { RoundDecides }
+{}

@@ -2,6 +2,7 @@
 
 No contract says what a call does to the machine. Each row here is refused by a server in which such a call is made otherwise.
 """
+import os
 import socket
 import threading
 import time
@@ -156,6 +157,19 @@ def an_upload_keeps_its_rate():
         same(server.ended()[1], 6_000_000, "octets moved")
 
 
+def closed_streams_are_the_null_device():
+    """A server whose standard streams were closed has the null device in the place of each, so that none of its files or sockets is one of them."""
+    with Server(sessions=1, root="folder", before="exec <&- >&- 2>&-", words=["--login-delay", "0", "--ready-file", "started"]) as server:
+        for number in range(3):
+            same(os.readlink(f"/proc/{server.process.pid}/fd/{number}"), "/dev/null", f"the stream {number}")
+        client = Client(server)
+        client.store("up", b"abc")
+        client.quit()
+        until(lambda: server.process.poll() is not None, "the server's end")
+        same(server.process.returncode, 0, "its status")
+        same(server.get("up"), b"abc", "the file")
+
+
 ROWS = [
     it_listens_at_its_address_alone,
     one_guarantee_comes_back_once,
@@ -164,4 +178,5 @@ ROWS = [
     an_upload_is_of_now,
     a_small_rate_of_many,
     an_upload_keeps_its_rate,
+    closed_streams_are_the_null_device,
 ]

@@ -123,7 +123,7 @@ class Server:
 
     `root` is "memory", or "folder" for a fresh one of these `files`: each a path with its octets, a length of zeros, or None for a
     directory. `server` are more lines of its table, `rates` more lines of ann's. With `stop` it has a stop file, `stop`, and
-    with `drain` and `reload` a drain file and a reload file of these names. In place of all this there may be the whole `text` of its configuration, with its port. `words` are more words of its command line, `before`
+    with `drain` and `reload` a drain file and a reload file of these names. In place of all this there may be the whole `text` of its configuration, with its port. `words` are more words of its command line, of which `started` may be its ready file, `before`
     is what the shell does that starts it, and `mode` are the permission bits of its configuration.
     """
 
@@ -177,7 +177,7 @@ class Server:
         words = ["/bin/sh", "-c", f'{self.before}; exec "$@"', "sh"] if self.before else []
         words += [SERVER, "serve", "ftpd.toml", *self.words]
         self.process = subprocess.Popen(words, cwd=self.place, stdin=subprocess.DEVNULL, stdout=self.output, stderr=self.notes, env={})
-        until(lambda: self.told().startswith("ready\n") or self.process.poll() is not None, "ready")
+        until(lambda: self.told().startswith("ready\n") or os.path.exists(f"{self.place}/started") or self.process.poll() is not None, "ready")
 
     def __enter__(self):
         for _ in range(5):

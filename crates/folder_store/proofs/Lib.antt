@@ -1,2 +1,8 @@
 pub mod Places
 pub mod Rising
+pub mod Counting
+pub mod Writing
+pub mod Walking
+pub mod Names
+pub mod Entries
+pub mod Serving

@@ -10,3 +10,5 @@ pub mod Moving
 pub mod Honest
 pub mod Listings
 pub mod Places
+pub mod Walks
+pub mod Served

@@ -1,8 +1,17 @@
 //! Paths of entries in a folder of the machine, and their metadata.
 
-ghost use Rattle.std.specs.Prelude.{◌≡◌, ◌⊎◌, ◌++◌, ◌∷◌, [], map, IfOk, OnOk, string_bytes};
+ghost use Rattle.std.specs.Prelude.{◌≡◌, ◌⊎◌, ◌++◌, ◌∷◌, [], false, map, Err, IfOk, Ok, OnOk, Some, string_bytes};
+ghost use Rattle.folder_store.specs.Looks.{meta_of};
+ghost use Rattle.folder_store.specs.MachineCalls.MachineCall.{Follows, Looks};
+ghost use Rattle.folder_store.specs.Served.{StatsEntry};
+ghost use Rattle.folder_store.specs.Walks.{FindsNumber, GoesInto, StepsInto, Walks, WalksTo, walker};
+ghost use Rattle.folder_store.specs.declared.looked.Looked.{Looked};
 ghost use Rattle.folder_store.specs.MachinePaths.{IsEntered, IsOpenText};
 ghost use Rattle.folder_store.specs.Places.{LeadsTo};
+ghost use Rattle.ftp_terms.specs.declared.entries.EntryKind.TheVariants as entry;
+ghost use Rattle.std.specs.IoError.{error_kind};
+ghost use Rattle.std.specs.declared.io.Error.{Error};
+ghost use Rattle.std.specs.declared.io.ErrorKind.TheVariants.{PermissionDenied};
 
 use crate::fault::MachineFault;
 use crate::look::{fault_of, found, is_same, meta_of};
@@ -24,7 +33,9 @@ pub(crate) struct Folder<M: FolderMachine + Drop> {
 }
 
 /// The metadata of a directory or a file; anything else is not found.
-fn known(looked: &Looked) -> Result<Meta, MachineFault> {
+fn known(looked: &Looked) -> Result<Meta, MachineFault>
+    ensures known { IfOk result (λ meta. meta_of looked.now ≡ Some meta) }
+{
     meta_of(looked).ok_or(MachineFault::NotFound)
 }
 
@@ -32,6 +43,7 @@ impl<M: FolderMachine + Drop> Folder<M> {
     /// The folder, by its path. It may be reached through a link.
     fn top(&self) -> Result<MachinePath<M::Directory, M::A>, MachineFault>
         ensures place { IfOk result (LeadsTo (string_bytes self.now.path) []) }
+        ensures top { IfOk result (λ place. place ≡ string_bytes self.now.path) }
     {
         let place = MachinePath::named(self.machine.alloc(), self.path.as_str())?;
         Ok(place)
@@ -41,6 +53,9 @@ impl<M: FolderMachine + Drop> Folder<M> {
     /// found once. `NotFound` if another entry is at the place by now.
     fn is_numbered(&mut self, place: &str, text: &str) -> Result<bool, MachineFault>
         ensures path { self.new.path ≡ self.old.path }
+        ensures found { IfOk result (λ found. FindsNumber M.Does
+            (walker self.old.machine self.old.has_proc) place.now text.now found
+            (walker self.new.machine self.new.has_proc)) }
     {
         if self.has_proc {
             return Ok(true);
@@ -65,6 +80,9 @@ impl<M: FolderMachine + Drop> Folder<M> {
     ) -> Result<(), MachineFault>
         ensures entered { OnOk result (IsEntered place.old place.new) }
         ensures path { self.new.path ≡ self.old.path }
+        ensures went { OnOk result (GoesInto M.Does (λ directory. M.Directory.raw_fd directory)
+            (walker self.old.machine self.old.has_proc) directory place.old place.new
+            (walker self.new.machine self.new.has_proc)) }
     {
         let text = open_text(self.machine.alloc(), &directory)?;
         if self.is_numbered(place.text(), text.as_str())? {
@@ -77,6 +95,11 @@ impl<M: FolderMachine + Drop> Folder<M> {
     /// read is followed by its name.
     pub fn is_file_at(&mut self, place: &str, error: &io::Error) -> Result<bool, MachineFault>
         ensures path { self.new.path ≡ self.old.path }
+        ensures proc { self.new.has_proc ≡ self.old.has_proc }
+        ensures directory { IfOk result (λ is_file. is_file ≡ false
+            → (error_kind error.now ≡ PermissionDenied) × ((looked : Looked) × (meta : Meta)
+            × M.Does self.old.machine (Looks place.now (Ok looked)) self.new.machine
+            × (meta_of looked ≡ Some meta) × (meta.kind ≡ entry.Directory))) }
     {
         let is_denied = error.kind() == ErrorKind::PermissionDenied;
         let is_none = error.kind() == ErrorKind::NotADirectory
@@ -102,6 +125,10 @@ impl<M: FolderMachine + Drop> Folder<M> {
         ensures place { OnOk result (IsOpenText place.new
             ⊎ (place.new ≡ place.old ++ 47 ∷ name.now)) }
         ensures path { self.new.path ≡ self.old.path }
+        ensures stepped { IfOk result (λ is_file. is_file ≡ false → StepsInto M.Does
+            (λ directory. M.Directory.raw_fd directory) (walker self.old.machine self.old.has_proc)
+            (place.old ++ 47 ∷ name.now) place.new
+            (walker self.new.machine self.new.has_proc)) }
     {
         place.push(name)?;
         match self.machine.enter(place.text()) {
@@ -124,6 +151,11 @@ impl<M: FolderMachine + Drop> Folder<M> {
         ensures place { IfOk result
             (LeadsTo (string_bytes self.old.path) (map (λ name. name.now) names.now)) }
         ensures path { self.new.path ≡ self.old.path }
+        ensures walked { IfOk result (λ place. Walks M.Does
+            (λ directory. M.Directory.raw_fd directory)
+            (walker self.old.machine self.old.has_proc) (string_bytes self.old.path)
+            (map (λ name. name.now) names.now) place
+            (walker self.new.machine self.new.has_proc)) }
     {
         let mut place = self.top()?;
         let mut is_file = false;
@@ -149,6 +181,11 @@ impl<M: FolderMachine + Drop> Folder<M> {
             (LeadsTo (string_bytes self.old.path)
             (map (λ name. name.now) above.now ++ last.now ∷ [])) }
         ensures path { self.new.path ≡ self.old.path }
+        ensures walked { IfOk result (λ place. WalksTo M.Does
+            (λ directory. M.Directory.raw_fd directory)
+            (walker self.old.machine self.old.has_proc) (string_bytes self.old.path)
+            (map (λ name. name.now) above.now ++ last.now ∷ []) place
+            (walker self.new.machine self.new.has_proc)) }
     {
         let mut place = self.directory(above)?;
         place.push(last)?;
@@ -162,6 +199,10 @@ impl<M: FolderMachine + Drop> Folder<M> {
     ) -> Result<MachinePath<M::Directory, M::A>, MachineFault>
         ensures place { IfOk result (LeadsTo (string_bytes self.old.path) path.now) }
         ensures path { self.new.path ≡ self.old.path }
+        ensures walked { IfOk result (λ place. WalksTo M.Does
+            (λ directory. M.Directory.raw_fd directory)
+            (walker self.old.machine self.old.has_proc) (string_bytes self.old.path) path.now place
+            (walker self.new.machine self.new.has_proc)) }
     {
         let mut names = path.names(self.machine.alloc())?;
         match names.pop() {
@@ -177,6 +218,10 @@ impl<M: FolderMachine + Drop> Folder<M> {
     ) -> Result<MachinePath<M::Directory, M::A>, MachineFault>
         ensures place { IfOk result (LeadsTo (string_bytes self.old.path) path.now) }
         ensures path { self.new.path ≡ self.old.path }
+        ensures walked { IfOk result (λ place. WalksTo M.Does
+            (λ directory. M.Directory.raw_fd directory)
+            (walker self.old.machine self.old.has_proc) (string_bytes self.old.path) path.now place
+            (walker self.new.machine self.new.has_proc)) }
     {
         match self.place(path) {
             Err(MachineFault::NotDir) => Err(MachineFault::NotFound),
@@ -187,13 +232,23 @@ impl<M: FolderMachine + Drop> Folder<M> {
     /// The metadata of the entry at a path of the machine.
     pub fn look(&mut self, place: &str) -> Result<Meta, MachineFault>
         ensures path { self.new.path ≡ self.old.path }
+        ensures proc { self.new.has_proc ≡ self.old.has_proc }
+        ensures shown { IfOk result (λ meta. (looked : Looked)
+            × M.Does self.old.machine (Looks place.now (Ok looked)) self.new.machine
+            × (meta_of looked ≡ Some meta)) }
     {
         let looked = found(self.machine.look(place))?;
         known(&looked)
     }
 
     /// The metadata of the entry at a path.
-    pub fn look_at(&mut self, path: &VPath<M::A>) -> Result<Meta, MachineFault> {
+    pub fn look_at(&mut self, path: &VPath<M::A>) -> Result<Meta, MachineFault>
+        ensures path { self.new.path ≡ self.old.path }
+        ensures shown { IfOk result (λ meta. StatsEntry M.Does
+            (λ directory. M.Directory.raw_fd directory)
+            (walker self.old.machine self.old.has_proc) (string_bytes self.old.path) path.now meta
+            (walker self.new.machine self.new.has_proc)) }
+    {
         if path.is_root() {
             return self.itself();
         }
@@ -202,7 +257,13 @@ impl<M: FolderMachine + Drop> Folder<M> {
     }
 
     /// The metadata of the folder itself, which may be reached through a link.
-    fn itself(&mut self) -> Result<Meta, MachineFault> {
+    fn itself(&mut self) -> Result<Meta, MachineFault>
+        ensures path { self.new.path ≡ self.old.path }
+        ensures proc { self.new.has_proc ≡ self.old.has_proc }
+        ensures shown { IfOk result (λ meta. (looked : Looked)
+            × M.Does self.old.machine (Follows (string_bytes self.old.path) (Ok looked))
+            self.new.machine × (meta_of looked ≡ Some meta)) }
+    {
         let looked = found(self.machine.follow(self.path.as_str()))?;
         known(&looked)
     }
@@ -214,6 +275,10 @@ impl<M: FolderMachine + Drop> Folder<M> {
     ) -> Result<MachinePath<M::Directory, M::A>, MachineFault>
         ensures place { IfOk result (LeadsTo (string_bytes self.old.path) path.now) }
         ensures path { self.new.path ≡ self.old.path }
+        ensures walked { IfOk result (λ place. WalksTo M.Does
+            (λ directory. M.Directory.raw_fd directory)
+            (walker self.old.machine self.old.has_proc) (string_bytes self.old.path) path.now place
+            (walker self.new.machine self.new.has_proc)) }
     {
         if path.is_root() {
             return Err(MachineFault::IsDir);
@@ -222,7 +287,12 @@ impl<M: FolderMachine + Drop> Folder<M> {
     }
 
     /// Refuses if there is any entry, even a link.
-    pub fn nothing_at(&mut self, place: &str) -> Result<(), MachineFault> {
+    pub fn nothing_at(&mut self, place: &str) -> Result<(), MachineFault>
+        ensures path { self.new.path ≡ self.old.path }
+        ensures proc { self.new.has_proc ≡ self.old.has_proc }
+        ensures nothing { OnOk result ((error : Error)
+            × M.Does self.old.machine (Looks place.now (Err error)) self.new.machine) }
+    {
         match found(self.machine.look(place)) {
             Ok(_) => Err(MachineFault::Exists),
             Err(MachineFault::NotFound) => Ok(()),

@@ -33,6 +33,7 @@
 
 mod changes;
 mod count;
+mod counted;
 mod fault;
 mod files;
 mod files_machine;

@@ -2,13 +2,13 @@
 
 ghost use Rattle.std.specs.Prelude.{◌≡◌, ◌-◌, ◌<◌, ◌≤◌, length, take, None, IfOk, IfErr, OnErr, OnOk};
 ghost use Rattle.std.specs.Io.KnownBytes.{Appends, Consumes, ReadConsumes};
-ghost use Rattle.folder_store.specs.Ends.{least};
+ghost use Rattle.folder_store.specs.Ends.{TellsRead, TellsWrite, least, no_calls};
 ghost use Rattle.virtual_tree.specs.Calls.{IsEndFault};
 
+use crate::counted::CountedFile;
 use crate::look::kept_end_fault;
 use last_fault::LastFault;
-use std::io;
-use std::io::{ErrorKind, Read, Write};
+use std::io::{Read, Write};
 use std::marker::Model;
 use virtual_tree::{Sink, Source, StoreFault};
 
@@ -25,7 +25,7 @@ pub(crate) enum Rest {
 /// length when it was opened. Once it is at its end, it is not read again.
 #[derive(Drop)]
 pub struct DirSource<F: Read + Drop> {
-    file: F,
+    file: CountedFile<F>,
     rest: Rest,
     // has the error of the last fault of the device
     fault: LastFault,
@@ -36,19 +36,25 @@ impl<F: Read + Drop> Model for DirSource<F> {
 
     ghost Value = { SourceState F };
 
-    ghost view = { λ source. record { file = source.file; left = least source.rest } };
+    ghost view = { λ source. record {
+      file = source.file.file;
+      calls = source.file.calls;
+      left = least source.rest;
+    } };
 }
 
 /// A file open for writing: octets are in it as soon as they are written.
 #[derive(Drop)]
 pub struct DirSink<F: Write + Drop> {
-    file: F,
+    file: CountedFile<F>,
     // has the error of the last fault of the device
     fault: LastFault,
 }
 
 impl<F: Write + Drop> Model for DirSink<F> {
-    ghost Value = { F };
+    ghost use Rattle.folder_store.specs.Ends.{FileWithCalls};
+
+    ghost Value = { FileWithCalls F };
 
     ghost view = { λ sink. sink.file };
 }
@@ -64,6 +70,7 @@ impl<F: Read + Drop> Source for DirSource<F> {
         ensures whole { IfOk result
             (λ count. count ≡ 0 → 0 < length buffer.old → self.old.left ≡ 0) }
         ensures kept { OnErr result (self.new.left ≡ self.old.left) }
+        ensures told { TellsRead result self.old self.new }
         ensures file { IfOk result (λ count. Consumes (F.remaining self.old.file)
             (F.remaining self.new.file) (take count buffer.new)) }
     {
@@ -84,10 +91,11 @@ impl<F: Read + Drop> DirSource<F> {
         ensures left { IfOk result (λ count. self.new.left ≡ left - count) }
         ensures whole { IfOk result (λ count. count ≡ 0 → 0 < length buffer.old → left ≡ 0) }
         ensures kept { OnErr result (self.new.left ≡ left) }
+        ensures told { TellsRead result self.old self.new }
         ensures file { IfOk result (λ count. Consumes (F.remaining self.old.file)
             (F.remaining self.new.file) (take count buffer.new)) }
     {
-        match read_through(&mut self.file, buffer) {
+        match self.file.read(buffer) {
             Ok(count) => {
                 if count == 0 && left > 0 && !buffer.is_empty() {
                     // The machine has no error of this fault, and an earlier one is not its reason.
@@ -114,20 +122,6 @@ fn rest_after(left: u64, count: u64, room: u64) -> Rest
     }
 }
 
-/// Reads once, and again if the read is interrupted.
-fn read_through<F: Read>(file: &mut F, buffer: &mut [u8]) -> io::Result<usize>
-    ensures bound { IfOk result (λ count. count ≤ length buffer.new) }
-    ensures octets { ReadConsumes (F.remaining file.old) (F.remaining file.new) result buffer.new }
-{
-    'reads: for _ in 0..u64::MAX {
-        match file.read(buffer) {
-            Err(error) if error.kind() == ErrorKind::Interrupted => {}
-            answer => return answer,
-        }
-    }
-    Err(io::Error::from(ErrorKind::Interrupted))
-}
-
 impl<F: Write + Drop> Sink for DirSink<F> {
     ghost collected = { λ _. None };
 
@@ -137,9 +131,10 @@ impl<F: Write + Drop> Sink for DirSink<F> {
         ensures octets { OnOk result (Appends None None octets.now) }
         ensures refusal { IfErr result (IsEndFault None) }
         ensures file { OnOk result
-            (Appends (F.contents self.old) (F.contents self.new) octets.now) }
+            (Appends (F.contents self.old.file) (F.contents self.new.file) octets.now) }
+        ensures told { TellsWrite result self.old.calls self.new.calls }
     {
-        match self.file.write_all(octets) {
+        match self.file.write(octets) {
             Ok(()) => Ok(()),
             Err(error) => Err(kept_end_fault(&self.fault, error)),
         }
@@ -157,10 +152,11 @@ pub(crate) struct FileRest<F: Drop> {
 pub(crate) fn read_rest<F: Read + Drop>(rest: FileRest<F>, fault: LastFault) -> DirSource<F>
     ensures file { result.file ≡ rest.file }
     ensures left { result.left ≡ rest.left }
+    ensures none { result.calls ≡ no_calls }
 {
     let FileRest { file, left } = rest;
     DirSource {
-        file,
+        file: CountedFile::new(file),
         rest: Rest::AtLeast(left),
         fault,
     }
@@ -168,18 +164,21 @@ pub(crate) fn read_rest<F: Read + Drop>(rest: FileRest<F>, fault: LastFault) -> 
 
 /// The sink of a file that is open for writing, which leaves the errors of its faults in `fault`.
 pub fn write_new<F: Write + Drop>(file: F, fault: LastFault) -> DirSink<F>
-    ensures file { result ≡ file }
+    ensures file { result ≡ record { file = file; calls = no_calls } }
 {
-    DirSink { file, fault }
+    DirSink {
+        file: CountedFile::new(file),
+        fault,
+    }
 }
 
 impl<F: Write + Drop> DirSink<F> {
     /// The file.
     pub(crate) fn into_file(self) -> F
-        ensures file { result ≡ self }
+        ensures file { result ≡ self.file }
     {
         let DirSink { file, fault } = self;
         drop(fault);
-        file
+        file.into_file()
     }
 }

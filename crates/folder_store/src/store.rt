@@ -1,7 +1,6 @@
 //! The store.
 
-ghost use Rattle.std.specs.Prelude.{◌≡◌, ◌⊎◌, IfOk, IfErr, MatchResult};
-ghost use Rattle.std.specs.Result.{result_err};
+ghost use Rattle.std.specs.Prelude.{◌≡◌, ◌⊎◌, IfOk, IfErr, Some};
 ghost use Rattle.folder_store.specs.Honest.{IsHonest};
 ghost use Rattle.folder_store.specs.Refusals.{store_fault};
 
@@ -31,18 +30,25 @@ pub struct DirStore<M: FolderMachine + Drop> {
 }
 
 impl<M: FolderMachine + Drop> Model for DirStore<M> {
-    ghost use Rattle.folder_store.specs.declared.count.FaultCount.{FaultCount};
+    ghost use Rattle.std.specs.Prelude.{string_bytes};
+    ghost use Rattle.folder_store.specs.Honest.{FolderState};
 
-    ghost Value = { FaultCount };
+    ghost Value = { FolderState M };
 
-    ghost view = { λ store. store.faults };
+    ghost view = { λ store. record {
+      machine = store.folder.machine;
+      numbered = store.folder.has_proc;
+      folder = string_bytes store.folder.path;
+      faults = store.faults;
+    } };
 }
 
 impl<M: FolderMachine + Drop> DirStore<M> {
     /// The folder at a path of the machine, which must exist. A link at its end is followed. The errors of its faults
     /// are left in `fault`.
     pub fn new(machine: M, folder: &str, fault: LastFault) -> Result<DirStore<M>, StoreFault>
-        ensures new { IfOk result (λ store. store.count ≡ 0) }
+        ensures new { IfOk result (λ store. store.faults.count ≡ 0) }
+        ensures folder { IfOk result (λ store. store.folder ≡ folder.now) }
         ensures faults { IfErr result (λ fault. (fault ≡ StoreFault.NotFound)
             ⊎ (fault ≡ StoreFault.NotDir) ⊎ (fault ≡ StoreFault.Device)
             ⊎ (fault ≡ StoreFault.Memory)) }
@@ -78,27 +84,22 @@ impl<M: FolderMachine + Drop> DirStore<M> {
         })
     }
 
-    /// The result as a store returns it. A fault of the device is counted, and its error kept.
-    fn answer<T>(&mut self, answer: Result<T, MachineFault>) -> Result<T, StoreFault>
-        ensures same { MatchResult answer (λ told. result ≡ Ok told)
-            (λ fault. result ≡ Err (store_fault fault)) }
-        ensures honest { IsHonest self.old.count self.new.count (result_err result) }
+    /// The fault as a store returns it. A fault of the device is counted, and its error kept.
+    fn refused(&mut self, fault: MachineFault) -> StoreFault
+        ensures same { result ≡ store_fault fault }
+        ensures honest { IsHonest self.old.faults.count self.new.faults.count (Some result) }
+        ensures folder { self.new.folder ≡ self.old.folder }
     {
-        match answer {
-            Ok(told) => Ok(told),
-            Err(fault) => {
-                if let MachineFault::Device(error) = fault {
-                    self.fault.put(error);
-                }
-                let fault = fault.in_store();
-                if fault == StoreFault::Device {
-                    self.faults = FaultCount {
-                        count: self.faults.count.wrapping_add(1),
-                    };
-                }
-                Err(fault)
-            }
+        if let MachineFault::Device(error) = fault {
+            self.fault.put(error);
         }
+        let fault = fault.in_store();
+        if fault == StoreFault::Device {
+            self.faults = FaultCount {
+                count: self.faults.count.wrapping_add(1),
+            };
+        }
+        fault
     }
 }
 
@@ -110,26 +111,31 @@ impl<M: FolderMachine + Drop> Store<M::A> for DirStore<M> {
 
     type Sink = DirSink<M::File>;
 
-    ghost Step = { FolderStep };
+    ghost Step = { λ old exchange new.
+        FolderStep M.Does (λ directory. M.Directory.raw_fd directory) old exchange new };
 
     ghost capacity = { λ _. None };
 
     ghost would_hold = { λ _ _ _. 0 };
 
-    ghost fault_count = { λ store. store.count };
+    ghost fault_count = { λ store. store.faults.count };
 
     fn faults(&self) -> u64 {
         self.faults.count
     }
 
     fn stat(&mut self, path: &VPath<M::A>) -> Result<Meta, StoreFault> {
-        let answer = self.folder.look_at(path);
-        self.answer(answer)
+        match self.folder.look_at(path) {
+            Ok(told) => Ok(told),
+            Err(fault) => Err(self.refused(fault)),
+        }
     }
 
     fn list(&mut self, path: &VPath<M::A>) -> Result<Vec<ListedEntry<M::A>, M::A>, StoreFault> {
-        let answer = self.folder.list(path);
-        self.answer(answer)
+        match self.folder.list(path) {
+            Ok(told) => Ok(told),
+            Err(fault) => Err(self.refused(fault)),
+        }
     }
 
     fn open_read(
@@ -140,10 +146,9 @@ impl<M: FolderMachine + Drop> Store<M::A> for DirStore<M> {
         let Ok(fault) = self.fault.another() else {
             return Err(StoreFault::Memory);
         };
-        let answer = self.folder.read_from(path, offset);
-        match self.answer(answer) {
+        match self.folder.read_from(path, offset) {
             Ok(rest) => Ok(read_rest(rest, fault)),
-            Err(refused) => Err(refused),
+            Err(refused) => Err(self.refused(refused)),
         }
     }
 
@@ -156,41 +161,50 @@ impl<M: FolderMachine + Drop> Store<M::A> for DirStore<M> {
         let Ok(fault) = self.fault.another() else {
             return Err(StoreFault::Memory);
         };
-        let answer = self.folder.write_by(path, mode);
-        match self.answer(answer) {
+        match self.folder.write_by(path, mode) {
             Ok(file) => Ok(write_new(file, fault)),
-            Err(refused) => Err(refused),
+            Err(refused) => Err(self.refused(refused)),
         }
     }
 
     fn finish(&mut self, sink: DirSink<M::File>, _moment: u64) -> Result<(), StoreFault> {
-        let answer = self.folder.finish(sink.into_file());
-        self.answer(answer)
+        match self.folder.finish(sink.into_file()) {
+            Ok(told) => Ok(told),
+            Err(fault) => Err(self.refused(fault)),
+        }
     }
 
     fn make_dir(&mut self, path: &VPath<M::A>) -> Result<(), StoreFault> {
-        let answer = self.folder.make_directory(path);
-        self.answer(answer)
+        match self.folder.make_directory(path) {
+            Ok(told) => Ok(told),
+            Err(fault) => Err(self.refused(fault)),
+        }
     }
 
     fn remove_dir(&mut self, path: &VPath<M::A>) -> Result<(), StoreFault> {
-        let answer = self.folder.remove_directory(path);
-        self.answer(answer)
+        match self.folder.remove_directory(path) {
+            Ok(told) => Ok(told),
+            Err(fault) => Err(self.refused(fault)),
+        }
     }
 
     fn remove_file(&mut self, path: &VPath<M::A>) -> Result<(), StoreFault> {
-        let answer = self.folder.remove_file(path);
-        self.answer(answer)
+        match self.folder.remove_file(path) {
+            Ok(told) => Ok(told),
+            Err(fault) => Err(self.refused(fault)),
+        }
     }
 
     fn rename(&mut self, from: &VPath<M::A>, to: &VPath<M::A>) -> Result<(), StoreFault> {
-        let answer = self.folder.rename(from, to);
-        self.answer(answer)
+        match self.folder.rename(from, to) {
+            Ok(told) => Ok(told),
+            Err(fault) => Err(self.refused(fault)),
+        }
     }
 
-    ghost honest = { λ old new exchange step. step.device };
+    ghost honest = { λ old new exchange step. step.honest.device };
 
-    ghost fits = { λ old new exchange step full. absurd (step.never_full full) };
+    ghost fits = { λ old new exchange step full. absurd (step.honest.never_full full) };
 
-    ghost counts = { λ store. store.small };
+    ghost counts = { λ store. store.faults.small };
 }

@@ -292,7 +292,8 @@ where
         let terms = &self.house.terms;
         if self.standing.is_behind(terms.exchanges()) {
             if let Ok(newest) = terms.hold(self.rt) {
-                self.standing.compare(newest);
+                self.standing.judge(&newest.terms().users);
+                self.standing.take(newest);
             }
         }
     }

@@ -1,6 +1,6 @@
 //! The user of a session, and the terms that it holds.
 
-ghost use Rattle.std.specs.Prelude.{◌≡◌, false, not, option_map, true, unwrap_or};
+ghost use Rattle.std.specs.Prelude.{◌≡◌, false, not, option_map, string_bytes, true, unwrap_or};
 ghost use Rattle.std.specs.FinMap as map;
 ghost use Rattle.socket_host.specs.Standing.{is_user};
 
@@ -116,19 +116,28 @@ impl Standing {
         self.seen != exchanges || !self.is_inside && self.held.exchanges() != exchanges
     }
 
-    /// Compares the terms in force: a session without a user holds them from now on; of a user who is logged in it is
-    /// noted whether they are one.
-    pub fn compare(&mut self, newest: HeldTerms)
+    /// Notes of a user who is logged in whether they are none of these users, who are in force.
+    pub fn judge(&mut self, users: &Authorizer)
+        ensures judged { self.old.is_inside ≡ true → self.new.is_removed
+            ≡ not (is_user users.now.users (string_bytes self.old.name) self.old.user) }
+        ensures stays { self.old.is_inside ≡ false → self.new.is_removed ≡ self.old.is_removed }
+        ensures inside { self.new.is_inside ≡ self.old.is_inside }
+        ensures held { self.new.held ≡ self.old.held }
+    {
+        if self.is_inside {
+            self.is_removed = !is_user(users, self.name.as_str(), self.user);
+        }
+    }
+
+    /// Takes the terms in force: a session without a user holds them from now on.
+    pub fn take(&mut self, newest: HeldTerms)
         ensures kept { self.old.is_inside ≡ true → self.new.held ≡ self.old.held }
         ensures taken { self.old.is_inside ≡ false → self.new.held ≡ newest }
         ensures inside { self.new.is_inside ≡ self.old.is_inside }
-        ensures stays { self.old.is_inside ≡ false → self.new.is_removed ≡ self.old.is_removed }
+        ensures removed { self.new.is_removed ≡ self.old.is_removed }
     {
         self.seen = newest.exchanges();
-        if self.is_inside {
-            let users = &newest.terms().users;
-            self.is_removed = !is_user(users, self.name.as_str(), self.user);
-        } else {
+        if !self.is_inside {
             self.held = newest;
         }
     }

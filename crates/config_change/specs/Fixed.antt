@@ -96,7 +96,7 @@ IsFixedKey before after (Some (Lanes old new)) =
 -- none, and it is neither
 abbrev pub IsCountFault : ℕ → ℕ → ℕ → Option CountFault → Type 0
 IsCountFault room connected stated None = (stated ≤ room) × (connected ≤ stated)
-IsCountFault room connected stated (Some (NoRoom most told)) =
-    (most ≡ room) × (told ≡ stated) × (room < stated)
-IsCountFault room connected stated (Some (TooMany there told)) =
-    (there ≡ connected) × (told ≡ stated) × (stated ≤ room) × (stated < connected)
+IsCountFault room connected stated (Some (NoRoom most reported)) =
+    (most ≡ room) × (reported ≡ stated) × (room < stated)
+IsCountFault room connected stated (Some (TooMany there reported)) =
+    (there ≡ connected) × (reported ≡ stated) × (stated ≤ room) × (stated < connected)

@@ -14,7 +14,7 @@ use Rattle.config_file.specs.declared.fault.KeyFault.{KeyFault}
 use Rattle.config_file.specs.declared.fault.Fault.TheVariants as fault
 use Rattle.config_file.specs.declared.fault.TableName.TheVariants.{Override}
 use Rattle.config_file.specs.Lists.{IsRow, AreRows, RowIsFine, RowIsRefused, IsFirstRefused, IsListFault}
-use Rattle.config_file.specs.Refused.{IsOverrideFault, Tells}
+use Rattle.config_file.specs.Refused.{IsOverrideFault, Reports}
 use Rattle.config_file.specs.Tables.{AreOverrides}
 use Rattle.config_file.specs.TableKeys.{override_rows, override_values}
 use Rattle.config_file.specs.Values.{Held}
@@ -94,8 +94,8 @@ stands_at : {X : Type 0} (xs : List X) (i : ℕ) (x : X) → i < length xs → x
 stands_at xs i x within at = slice_get-get_or xs i x within ∙ ap (λ y. Some y) (sym at)
 
 -- the overrides of a user are refused
-pub override_refused : (users : List UserTable) (i : ℕ) (user : UserTable) (read : List (Vec OverrideTable Global)) (told : Fault KeyFault) → i < length users
+pub override_refused : (users : List UserTable) (i : ℕ) (user : UserTable) (read : List (Vec OverrideTable Global)) (reported : Fault KeyFault) → i < length users
     → user ≡ get_or users i user → AreOverrides (take i users) read
-    → Tells (IsListFault true override_rows Override (Some user.name.now) (codes "override") (items_view user.overrides.now)) told → Tells (IsOverrideFault users) told
-override_refused users i user read (fault.At header told) within at before refused = (i, user, read, stands_at users i user within at, before, refused)
+    → Reports (IsListFault true override_rows Override (Some user.name.now) (codes "override") (items_view user.overrides.now)) reported → Reports (IsOverrideFault users) reported
+override_refused users i user read (fault.At header reported) within at before refused = (i, user, read, stands_at users i user within at, before, refused)
 override_refused users i user read fault.Memory within at before refused = tt

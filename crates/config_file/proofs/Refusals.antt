@@ -16,72 +16,72 @@ use Rattle.config_file.specs.declared.stated.Top.{Top}
 use Rattle.config_file.specs.declared.stated.UserTable.{UserTable}
 use Rattle.config_file.specs.Keys.{States}
 use Rattle.config_file.specs.Lists.{AreRows, IsListFault, Place}
-use Rattle.config_file.specs.Refused.{IsDirFault, IsFaultOfOverrides, IsFileFault, IsFirstFault, IsGroupFault, IsOverrideFault, IsServerFault, IsUserFault, IsWholeFault, Tells}
+use Rattle.config_file.specs.Refused.{IsDirFault, IsFaultOfOverrides, IsFileFault, IsFirstFault, IsGroupFault, IsOverrideFault, IsServerFault, IsUserFault, IsWholeFault, Reports}
 use Rattle.config_file.specs.TableKeys.{server_rows, server_values, group_rows, group_values, user_rows, user_values, dir_rows, dir_values}
 use Rattle.config_file.specs.Tables.{AreOverrides, is_grouped, top_rows, top_values}
 
-tells_more : (First Second : Place → List ℕ → Problem → Type 0) → ((place : Place) (key : List ℕ) (problem : Problem) → First place key problem → Second place key problem)
-    → (told : Fault KeyFault) → Tells First told → Tells Second told
-tells_more First Second more (fault.At header told) is = more _ _ _ is
-tells_more First Second more fault.Memory is = tt
+reports_more : (First Second : Place → List ℕ → Problem → Type 0) → ((place : Place) (key : List ℕ) (problem : Problem) → First place key problem → Second place key problem)
+    → (reported : Fault KeyFault) → Reports First reported → Reports Second reported
+reports_more First Second more (fault.At header reported) is = more _ _ _ is
+reports_more First Second more fault.Memory is = tt
 
-below_top : (grouped : Bool) (document : Members) (top : Top) (told : Fault KeyFault) → grouped ≡ is_grouped document → States grouped top_rows document (top_values top)
-    → Tells (IsServerFault grouped top) told → Tells (IsFirstFault document) told
-below_top grouped document top told same stated is =
-    tells_more (IsServerFault (is_grouped document) top) (IsFirstFault document)
-    (λ place key problem it. inr (top, subst (λ (b : Bool). States b top_rows document (top_values top)) same stated, it)) told
-    (subst (λ (b : Bool). Tells (IsServerFault b top) told) same is)
+below_top : (grouped : Bool) (document : Members) (top : Top) (reported : Fault KeyFault) → grouped ≡ is_grouped document → States grouped top_rows document (top_values top)
+    → Reports (IsServerFault grouped top) reported → Reports (IsFirstFault document) reported
+below_top grouped document top reported same stated is =
+    reports_more (IsServerFault (is_grouped document) top) (IsFirstFault document)
+    (λ place key problem it. inr (top, subst (λ (b : Bool). States b top_rows document (top_values top)) same stated, it)) reported
+    (subst (λ (b : Bool). Reports (IsServerFault b top) reported) same is)
 
-module _ (grouped : Bool) (document : Members) (top : Top) (told : Fault KeyFault) (same : grouped ≡ is_grouped document) (stated : States grouped top_rows document (top_values top)) where
-  pub server_refused : Tells (IsWholeFault true server_rows name.Server (table_view top.server.now)) told → Tells (IsFirstFault document) told
+module _ (grouped : Bool) (document : Members) (top : Top) (reported : Fault KeyFault) (same : grouped ≡ is_grouped document) (stated : States grouped top_rows document (top_values top)) where
+  pub server_refused : Reports (IsWholeFault true server_rows name.Server (table_view top.server.now)) reported → Reports (IsFirstFault document) reported
   server_refused is =
-      below_top grouped document top told same stated
-      (tells_more (IsWholeFault true server_rows name.Server (table_view top.server.now)) (IsServerFault grouped top) (λ place key problem it. inl it) told is)
+      below_top grouped document top reported same stated
+      (reports_more (IsWholeFault true server_rows name.Server (table_view top.server.now)) (IsServerFault grouped top) (λ place key problem it. inl it) reported is)
 
   module _ (server : ServerTable) (is_server : States true server_rows (table_view top.server.now) (server_values server)) where
-    below_server : Tells (IsGroupFault grouped top) told → Tells (IsFirstFault document) told
+    below_server : Reports (IsGroupFault grouped top) reported → Reports (IsFirstFault document) reported
     below_server is =
-        below_top grouped document top told same stated
-        (tells_more (IsGroupFault grouped top) (IsServerFault grouped top) (λ place key problem it. inr (server, is_server, it)) told is)
+        below_top grouped document top reported same stated
+        (reports_more (IsGroupFault grouped top) (IsServerFault grouped top) (λ place key problem it. inr (server, is_server, it)) reported is)
 
-    pub groups_refused : Tells (IsListFault true group_rows name.Group None (codes "group") (items_view top.groups.now)) told → Tells (IsFirstFault document) told
+    pub groups_refused : Reports (IsListFault true group_rows name.Group None (codes "group") (items_view top.groups.now)) reported → Reports (IsFirstFault document) reported
     groups_refused is =
         below_server
-        (tells_more (IsListFault true group_rows name.Group None (codes "group") (items_view top.groups.now)) (IsGroupFault grouped top) (λ place key problem it. inl it) told is)
+        (reports_more (IsListFault true group_rows name.Group None (codes "group") (items_view top.groups.now)) (IsGroupFault grouped top) (λ place key problem it. inl it) reported is)
 
     module _ (groups : List GroupTable) (are_groups : AreRows true group_rows group_values (items_view top.groups.now) groups) where
-      below_groups : Tells (IsUserFault grouped top) told → Tells (IsFirstFault document) told
+      below_groups : Reports (IsUserFault grouped top) reported → Reports (IsFirstFault document) reported
       below_groups is =
-          below_server (tells_more (IsUserFault grouped top) (IsGroupFault grouped top) (λ place key problem it. inr (groups, are_groups, it)) told is)
+          below_server (reports_more (IsUserFault grouped top) (IsGroupFault grouped top) (λ place key problem it. inr (groups, are_groups, it)) reported is)
 
-      pub users_refused : Tells (IsListFault grouped user_rows name.User None (codes "user") (items_view top.users.now)) told → Tells (IsFirstFault document) told
+      pub users_refused : Reports (IsListFault grouped user_rows name.User None (codes "user") (items_view top.users.now)) reported → Reports (IsFirstFault document) reported
       users_refused is =
           below_groups
-          (tells_more (IsListFault grouped user_rows name.User None (codes "user") (items_view top.users.now)) (IsUserFault grouped top) (λ place key problem it. inl it) told is)
+          (reports_more (IsListFault grouped user_rows name.User None (codes "user") (items_view top.users.now)) (IsUserFault grouped top) (λ place key problem it. inl it) reported is)
 
       module _ (users : List UserTable) (are_users : AreRows grouped user_rows user_values (items_view top.users.now) users) where
-        below_users : Tells (IsFaultOfOverrides top users) told → Tells (IsFirstFault document) told
+        below_users : Reports (IsFaultOfOverrides top users) reported → Reports (IsFirstFault document) reported
         below_users is =
-            below_groups (tells_more (IsFaultOfOverrides top users) (IsUserFault grouped top) (λ place key problem it. inr (users, are_users, it)) told is)
+            below_groups (reports_more (IsFaultOfOverrides top users) (IsUserFault grouped top) (λ place key problem it. inr (users, are_users, it)) reported is)
 
-        pub overrides_refused : (seen : List UserTable) → seen ≡ users → Tells (IsOverrideFault seen) told → Tells (IsFirstFault document) told
+        pub overrides_refused : (seen : List UserTable) → seen ≡ users → Reports (IsOverrideFault seen) reported → Reports (IsFirstFault document) reported
         overrides_refused seen here is =
             below_users
-            (tells_more (IsOverrideFault users) (IsFaultOfOverrides top users) (λ place key problem it. inl it) told
-            (subst (λ (us : List UserTable). Tells (IsOverrideFault us) told) here is))
+            (reports_more (IsOverrideFault users) (IsFaultOfOverrides top users) (λ place key problem it. inl it) reported
+            (subst (λ (us : List UserTable). Reports (IsOverrideFault us) reported) here is))
 
         module _ (seen : List UserTable) (here : seen ≡ users) (overrides : List (Vec OverrideTable Global)) (are_seen : AreOverrides seen overrides) where
-          below_overrides : Tells (IsDirFault top) told → Tells (IsFirstFault document) told
+          below_overrides : Reports (IsDirFault top) reported → Reports (IsFirstFault document) reported
           below_overrides is =
               below_users
-              (tells_more (IsDirFault top) (IsFaultOfOverrides top users)
-              (λ place key problem it. inr (overrides, subst (λ (us : List UserTable). AreOverrides us overrides) here are_seen, it)) told is)
+              (reports_more (IsDirFault top) (IsFaultOfOverrides top users)
+              (λ place key problem it. inr (overrides, subst (λ (us : List UserTable). AreOverrides us overrides) here are_seen, it)) reported is)
 
-          pub dirs_refused : Tells (IsListFault true dir_rows name.Dir None (codes "dir") (items_view top.dirs.now)) told → Tells (IsFirstFault document) told
+          pub dirs_refused : Reports (IsListFault true dir_rows name.Dir None (codes "dir") (items_view top.dirs.now)) reported → Reports (IsFirstFault document) reported
           dirs_refused is =
               below_overrides
-              (tells_more (IsListFault true dir_rows name.Dir None (codes "dir") (items_view top.dirs.now)) (IsDirFault top) (λ place key problem it. inl it) told is)
+              (reports_more (IsListFault true dir_rows name.Dir None (codes "dir") (items_view top.dirs.now)) (IsDirFault top) (λ place key problem it. inl it) reported is)
 
-          pub files_refused : (dirs : List DirTable) → AreRows true dir_rows dir_values (items_view top.dirs.now) dirs → Tells (IsFileFault top) told → Tells (IsFirstFault document) told
+          pub files_refused : (dirs : List DirTable) → AreRows true dir_rows dir_values (items_view top.dirs.now) dirs → Reports (IsFileFault top) reported → Reports (IsFirstFault document) reported
           files_refused dirs are_dirs is =
-              below_overrides (tells_more (IsFileFault top) (IsDirFault top) (λ place key problem it. inr (dirs, are_dirs, it)) told is)
+              below_overrides (reports_more (IsFileFault top) (IsDirFault top) (λ place key problem it. inr (dirs, are_dirs, it)) reported is)

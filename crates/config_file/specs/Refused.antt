@@ -84,6 +84,6 @@ IsFirstFault document place key problem =
     × IsServerFault (is_grouped document) top place key problem)
 
 -- a fault, unless memory ran out
-abbrev pub Tells : (Place → List ℕ → Problem → Type 0) → Fault KeyFault → Type 0
-Tells Refuses (fault.At header told) = Refuses (place_of header) told.key.now told.problem
-Tells Refuses fault.Memory = Unit {0}
+abbrev pub Reports : (Place → List ℕ → Problem → Type 0) → Fault KeyFault → Type 0
+Reports Refuses (fault.At header reported) = Refuses (place_of header) reported.key.now reported.problem
+Reports Refuses fault.Memory = Unit {0}

@@ -4,7 +4,7 @@ ghost use Rattle.std.specs.Prelude.{◌≡◌, IfOk, IfErr, OnOk, List, option_m
 ghost use Rattle.toml.specs.View.{view, table_view, items_view};
 ghost use Rattle.config_file.specs.Keys.{AllFit, AllHeld, KeyRow};
 ghost use Rattle.config_file.specs.Lists.{AreRows, IsListFault, IsRow, RowIsFine, RowIsRefused, name_for};
-ghost use Rattle.config_file.specs.Refused.{Tells};
+ghost use Rattle.config_file.specs.Refused.{Reports};
 ghost use Rattle.config_file.specs.Seen.{rows_of};
 ghost use Rattle.config_file.specs.Values.{Held};
 
@@ -80,7 +80,7 @@ pub(crate) fn read_rows<'a, R: Keyed<'a>>(
     requires rows { rows_of rows.now ≡ R.Keys }
     ensures rows { IfOk result
         (λ found. AreRows grouped R.Keys R.Values (items_view values.now) found.items) }
-    ensures refused { IfErr result (Tells (IsListFault grouped R.Keys table
+    ensures refused { IfErr result (Reports (IsListFault grouped R.Keys table
         (option_map (λ s. s.now) owner.entry) key.now (items_view values.now))) }
 {
     let mut found = Vec::new(alloc);

@@ -3,7 +3,7 @@
 ghost use Rattle.std.specs.Prelude.{◌≡◌, IfOk, IfErr, Some, length};
 ghost use Rattle.toml.specs.View.{table_view, view};
 ghost use Rattle.config_file.specs.Keys.{States};
-ghost use Rattle.config_file.specs.Refused.{IsFirstFault, IsOverrideFault, IsWholeFault, Tells};
+ghost use Rattle.config_file.specs.Refused.{IsFirstFault, IsOverrideFault, IsWholeFault, Reports};
 ghost use Rattle.config_file.specs.Seen.{rows_of};
 ghost use Rattle.config_file.specs.Tables.{AreOverrides, IsTables, is_first, is_grouped, top_rows, top_values};
 
@@ -85,7 +85,7 @@ fn read_whole<'a, R: Keyed<'a>>(
     requires rows { rows_of rows.now ≡ R.Keys }
     ensures table { IfOk result (λ read.
         States grouped R.Keys (table_view table.now) (R.Values read)) }
-    ensures refused { IfErr result (Tells
+    ensures refused { IfErr result (Reports
         (IsWholeFault grouped R.Keys name (table_view table.now))) }
 {
     match judge(table, rows, grouped) {
@@ -102,7 +102,7 @@ fn read_overrides<'a>(
     users: &[UserTable<'a>],
 ) -> Result<Vec<Vec<OverrideTable<'a>>>, Fault<'a, KeyFault<'a>>>
     ensures overrides { IfOk result (λ found. AreOverrides users.now found.items) }
-    ensures refused { IfErr result (Tells (IsOverrideFault users.now)) }
+    ensures refused { IfErr result (Reports (IsOverrideFault users.now)) }
 {
     let mut found = Vec::new(alloc);
     for user in users {
@@ -130,7 +130,7 @@ pub fn read_tables<'a>(
     ensures tables { IfOk result (IsTables (table_view document.now)) }
     ensures paired { IfOk result
         (λ tables. length tables.overrides.items ≡ length tables.users.items) }
-    ensures refused { IfErr result (Tells (IsFirstFault (table_view document.now))) }
+    ensures refused { IfErr result (Reports (IsFirstFault (table_view document.now))) }
 {
     let grouped = is_grouped(document);
     let top = read_whole::<Top>(document, TableName::Top, &TOP, grouped)?;

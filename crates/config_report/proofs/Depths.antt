@@ -8,9 +8,9 @@ use Rattle.config_file.specs.declared.stated.OverrideTable.{OverrideTable}
 use Rattle.config_file.specs.declared.stated.ServerTable.{ServerTable}
 use Rattle.config_file.specs.declared.stated.UserTable.{UserTable}
 use Rattle.config_file.specs.declared.tables.Tables.{Tables}
-use Rattle.server_config.specs.Settings.{told_address}
+use Rattle.server_config.specs.Settings.{reported_address}
 use Rattle.config_report.specs.ReportData.{address_data, announced_data, group_data, masquerade_data, name_data, override_data, rate_data, report_data, row_data, user_rates_data, warning_data}
-use Rattle.config_report.specs.Warnings.{is_untold}
+use Rattle.config_report.specs.Warnings.{is_unreported}
 use Rattle.config_report.specs.declared.seen.SeenUser.{SeenUser}
 use Rattle.config_report.specs.declared.warning.Warning.{Warning}
 use Rattle.std.specs.Borrow.{Bor}
@@ -23,9 +23,9 @@ rate_depth rate = go (nat_eq rate 0)
     go false = refl
 
 announced_depth : (server : ServerTable) → depth (announced_data server) ≡ 0
-announced_depth server = go (is_untold server)
+announced_depth server = go (is_unreported server)
   where
-    go : (b : Bool) → depth (cond b null (address_data (told_address server.masquerade_address server.address))) ≡ 0
+    go : (b : Bool) → depth (cond b null (address_data (reported_address server.masquerade_address server.address))) ≡ 0
     go true = refl
     go false = refl
 
@@ -76,12 +76,12 @@ pub report_depth : (tables : Tables) (groups : List GroupTable) (rows : List See
 report_depth tables groups rows warnings =
     let stated = shallow group_data 1 group_depth groups in
     let users = shallow row_data 3 row_depth rows in
-    let told = shallow warning_data 0 warning_depth warnings in
+    let reported = shallow warning_data 0 warning_depth warnings in
     omega (
       arith,
       stated,
       users,
-      told,
+      reported,
       announced_depth tables.server,
       masquerade_depth tables.server.masquerade_address,
       rate_depth tables.server.rate,

@@ -9,5 +9,5 @@ use Rattle.config_report.specs.declared.reporting.Part.{Part}
 
 pub reported : (part : Part) (shown : Shown) (path octets : List ℕ) (config : Config) (answer : Result (String Global) ConfigFault) → IsConfigText octets config
     → IfOk answer (λ text. IsReport part shown path octets config.store (string_bytes text)) → IfOk answer (λ text. IsPartOf part shown path octets (string_bytes text))
-reported part shown path octets config (Ok text) is told = (config, is, told)
-reported part shown path octets config (Err fault) is told = tt
+reported part shown path octets config (Ok text) is found = (config, is, found)
+reported part shown path octets config (Err fault) is found = tt

@@ -12,10 +12,10 @@ use Rattle.config_file.specs.declared.stated.OverrideTable.{OverrideTable}
 use Rattle.config_file.specs.declared.stated.ServerTable.{ServerTable}
 use Rattle.config_file.specs.declared.stated.UserTable.{UserTable}
 use Rattle.config_file.specs.declared.tables.Tables.{Tables}
-use Rattle.server_config.specs.Settings.{told_address}
+use Rattle.server_config.specs.Settings.{reported_address}
 use Rattle.config_report.specs.Lines.{warning_text}
 use Rattle.config_report.specs.UserLines.{ordered}
-use Rattle.config_report.specs.Warnings.{is_untold}
+use Rattle.config_report.specs.Warnings.{is_unreported}
 use Rattle.config_report.specs.declared.seen.SeenUser.{SeenUser}
 use Rattle.config_report.specs.declared.warning.Warning.{Warning}
 
@@ -34,9 +34,9 @@ address_data address = string (ipv4_text (ipv4_octets address))
 -- the address announced to clients; none if it is the one that they reached
 abbrev pub announced_data : ServerTable → Data
 announced_data server =
-    if is_untold server
+    if is_unreported server
     then null
-    else address_data (told_address server.masquerade_address server.address)
+    else address_data (reported_address server.masquerade_address server.address)
 
 abbrev pub masquerade_data : Option Ipv4Addr → Data
 masquerade_data None = null
@@ -154,7 +154,7 @@ warning_data warning = string (warning_text warning)
 -- the report, given its server, groups, users and warnings; besides its unit, the version of the
 -- configuration, and the version of this form
 abbrev pub whole_data : ℕ → Data → Data → Data → Data → Data
-whole_data version server groups users told =
+whole_data version server groups users reported =
     object
     (member (codes "config_version") (count_data version)
     (member (codes "groups") groups
@@ -162,7 +162,7 @@ whole_data version server groups users told =
     (member (codes "unit") (string (codes "octets a second"))
     (member (codes "users") users
     (member (codes "version") (count_data 1)
-    (member (codes "warnings") told no_members)))))))
+    (member (codes "warnings") reported no_members)))))))
 
 abbrev pub report_data : Tables → List GroupTable → List SeenUser → List Warning → Data
 report_data tables groups rows warnings =

@@ -23,14 +23,14 @@ warnings_by tables seen =
     warnings tables.server tables.groups.items seen.root seen.mode seen.users.items
 
 -- the text is that part of the report on tables, by what is seen for them
-abbrev pub IsToldBy : Part → Tables → Seen → List ℕ → Type 0
-IsToldBy Whole tables seen text =
+abbrev pub IsReportedBy : Part → Tables → Seen → List ℕ → Type 0
+IsReportedBy Whole tables seen text =
     text ≡ report_text tables tables.groups.items tables.users.items seen.users.items
     (warnings_by tables seen)
-IsToldBy Json tables seen text =
+IsReportedBy Json tables seen text =
     IsJsonOf
     (report_data tables tables.groups.items seen.users.items (warnings_by tables seen)) text
-IsToldBy Warnings tables seen text = text ≡ flat_map warning_row (warnings_by tables seen)
+IsReportedBy Warnings tables seen text = text ≡ flat_map warning_row (warnings_by tables seen)
 
 -- the same for the tables that the octets of the file of a path state, given the store that is made
 -- of them, and the possible results of looks at the machine
@@ -39,7 +39,7 @@ IsReport part shown path octets store text =
     (document : Members) × (tables : Tables) × (seen : Seen)
     × (parse_document octets ≡ Some document) × IsTables document tables
     × IsSeen shown path store tables.users.items tables.overrides.items seen
-    × IsToldBy part tables seen text
+    × IsReportedBy part tables seen text
 
 -- the same for the store that is made of those tables
 abbrev pub IsPartOf : Part → Shown → List ℕ → List ℕ → List ℕ → Type 0

@@ -5,8 +5,8 @@ use Rattle.std.specs.Net.Addr.{ipv4_octets}
 use Rattle.std.specs.Net.Text.{ipv4_text}
 use Rattle.config_file.specs.declared.stated.ServerTable.{ServerTable}
 use Rattle.config_file.specs.declared.tables.Tables.{Tables}
-use Rattle.server_config.specs.Settings.{told_address}
-use Rattle.config_report.specs.Warnings.{is_untold}
+use Rattle.server_config.specs.Settings.{reported_address}
+use Rattle.config_report.specs.Warnings.{is_unreported}
 
 -- ---- where it is reached
 
@@ -23,22 +23,22 @@ abbrev pub greets_line : ServerTable → List ℕ
 greets_line server = codes "greets with " ++ server.banner.now ++ 10 ∷ []
 
 -- the address announced for passive connections; no particular one if that is 0.0.0.0
-abbrev pub told_text : ServerTable → List ℕ
-told_text server =
-    if is_untold server
+abbrev pub reported_text : ServerTable → List ℕ
+reported_text server =
+    if is_unreported server
     then codes "the address that they reached"
-    else ipv4_text (ipv4_octets (told_address server.masquerade_address server.address))
+    else ipv4_text (ipv4_octets (reported_address server.masquerade_address server.address))
 
 abbrev pub ports_text : ServerTable → List ℕ
 ports_text server =
     codes ", ports " ++ decimal server.passive_first ++ codes " to " ++ decimal server.passive_last
     ++ 10 ∷ []
 
-abbrev pub tells_line : ServerTable → List ℕ
-tells_line server = codes "tells clients " ++ told_text server ++ ports_text server
+abbrev pub reports_line : ServerTable → List ℕ
+reports_line server = codes "tells clients " ++ reported_text server ++ ports_text server
 
 abbrev pub network_lines : ServerTable → List ℕ
-network_lines server = listens_line server ++ greets_line server ++ tells_line server
+network_lines server = listens_line server ++ greets_line server ++ reports_line server
 
 -- ---- its bounds
 

@@ -61,7 +61,7 @@ override_line rule =
 
 -- the text of a reply, unless it is the usual one
 abbrev pub text_line : List ℕ → List ℕ → List ℕ → List ℕ
-text_line head usual told = if bytes_eq told usual then [] else head ++ told ++ 10 ∷ []
+text_line head usual reported = if bytes_eq reported usual then [] else head ++ reported ++ 10 ∷ []
 
 abbrev pub login_line : UserTable → List ℕ
 login_line user = text_line (codes "  at login: ") (codes "Welcome") user.msg_login.now

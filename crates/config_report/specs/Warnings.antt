@@ -7,7 +7,7 @@ use Rattle.std.specs.Net.Addr.{ipv4_bits}
 use Rattle.config_file.specs.declared.stated.ServerTable.{ServerTable}
 use Rattle.config_file.specs.declared.stated.GroupTable.{GroupTable}
 use Rattle.config_file.specs.declared.stated.UserTable.{UserTable}
-use Rattle.server_config.specs.Settings.{told_address}
+use Rattle.server_config.specs.Settings.{reported_address}
 use Rattle.config_report.specs.declared.looks.Sight.{Sight}
 use Rattle.config_report.specs.declared.looks.Sight.TheVariants as sight
 use Rattle.config_report.specs.declared.seen.SeenUser.{SeenUser}
@@ -18,8 +18,8 @@ use Rattle.config_report.specs.declared.warnings.TheConstants.{OWN_FIRST, OWN_LA
 -- ---- of the server
 
 -- the address announced for passive connections is 0.0.0.0
-abbrev pub is_untold : ServerTable → Bool
-is_untold server = nat_eq (ipv4_bits (told_address server.masquerade_address server.address)) 0
+abbrev pub is_unreported : ServerTable → Bool
+is_unreported server = nat_eq (ipv4_bits (reported_address server.masquerade_address server.address)) 0
 
 -- a passive port is among those that the machine takes for its own connections
 abbrev pub is_among_own : ServerTable → Bool
@@ -51,7 +51,7 @@ root_warnings root =
 
 abbrev pub port_warnings : ServerTable → List Warning
 port_warnings server =
-    (if is_untold server then NoAddress ∷ [] else [])
+    (if is_unreported server then NoAddress ∷ [] else [])
     ++ (if is_among_own server then OwnPorts server.passive_first server.passive_last ∷ [] else [])
     ++ (if has_few_ports server
     then FewPorts server.passive_first server.passive_last server.max_cons ∷ [] else [])

@@ -3,7 +3,7 @@
 ghost use Rattle.std.specs.Prelude.{◌≡◌, IfErr, IfOk, length, string_bytes};
 ghost use Rattle.server_config.specs.Refused.{IsFaultOfText};
 ghost use Rattle.server_config.specs.declared.fault.ConfigFault.TheVariants.{Memory};
-ghost use Rattle.config_report.specs.Reports.{AreWarningsOf, IsReport, IsReportJson, IsReportOf, IsToldBy};
+ghost use Rattle.config_report.specs.Reports.{AreWarningsOf, IsReport, IsReportJson, IsReportOf, IsReportedBy};
 
 use crate::lines::{lines_of, warning_rows};
 use crate::looks::Lookout;
@@ -33,21 +33,21 @@ fn text_of(
     seen: &Seen<'_, '_>,
 ) -> Result<String, AllocError>
     ensures text { IfOk result
-        (λ text. IsToldBy part tables.now seen.now (string_bytes text)) }
+        (λ text. IsReportedBy part tables.now seen.now (string_bytes text)) }
 {
     let (groups, users) = (tables.groups.as_slice(), tables.users.as_slice());
     let (server, rows) = (&tables.server, seen.users.as_slice());
     let warnings = warnings_of(alloc, server, groups, seen.root, seen.mode, rows)?;
-    let told = warnings.as_slice();
+    let reported = warnings.as_slice();
     match part {
-        Part::Whole => lines_of(alloc, tables, groups, users, rows, told),
-        Part::Json => json_text(alloc, tables, groups, rows, told),
-        Part::Warnings => warning_rows(alloc, told),
+        Part::Whole => lines_of(alloc, tables, groups, users, rows, reported),
+        Part::Json => json_text(alloc, tables, groups, rows, reported),
+        Part::Warnings => warning_rows(alloc, reported),
     }
 }
 
 /// Returns a part of the report on a text that was read as a configuration before. Only memory can run out.
-fn told_of<L: Lookout>(
+fn reported_of<L: Lookout>(
     alloc: Global,
     part: Part,
     path: &str,
@@ -87,7 +87,7 @@ pub fn report<L: Lookout>(
     ensures refused { IfErr result (IsFaultOfText octets.now) }
 {
     let mut config = Config::read(alloc, octets)?;
-    told_of(alloc, Part::Whole, path, octets, lookout, &mut config.store)
+    reported_of(alloc, Part::Whole, path, octets, lookout, &mut config.store)
 }
 
 /// Returns the same report as JSON, and a line feed.
@@ -102,7 +102,7 @@ pub fn report_json<L: Lookout>(
     ensures refused { IfErr result (IsFaultOfText octets.now) }
 {
     let mut config = Config::read(alloc, octets)?;
-    told_of(alloc, Part::Json, path, octets, lookout, &mut config.store)
+    reported_of(alloc, Part::Json, path, octets, lookout, &mut config.store)
 }
 
 /// Returns the texts of the warnings of the report on the configuration of a text, a line each, without the word that
@@ -118,7 +118,7 @@ pub fn warning_texts<L: Lookout>(
     ensures refused { IfErr result (IsFaultOfText octets.now) }
 {
     let mut config = Config::read(alloc, octets)?;
-    told_of(
+    reported_of(
         alloc,
         Part::Warnings,
         path,

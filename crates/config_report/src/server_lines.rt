@@ -3,9 +3,9 @@
 ghost use Rattle.std.specs.Prelude.{◌≡◌, ◌++◌, OnOk, string_bytes};
 ghost use Rattle.std.specs.Net.Addr.{ipv4_octets};
 ghost use Rattle.std.specs.Net.Text.{ipv4_text};
-ghost use Rattle.config_report.specs.ServerLines.{attempts_line, bound_lines, connects_line, contents_text, from_one_line, greets_line, listens_line, lowest_port, memory_text, network_lines, offer_lines, port_text, ports_text, root_text, server_lines, serves_line, sessions_line, takes_line, tells_line, told_text, whom_text};
+ghost use Rattle.config_report.specs.ServerLines.{attempts_line, bound_lines, connects_line, contents_text, from_one_line, greets_line, listens_line, lowest_port, memory_text, network_lines, offer_lines, port_text, ports_text, root_text, server_lines, serves_line, sessions_line, takes_line, reports_line, reported_text, whom_text};
 
-use crate::warnings::{is_untold, told_address};
+use crate::warnings::{is_unreported, reported_address};
 use config_file::{ServerTable, Tables};
 use std::alloc::AllocError;
 use std::net::Ipv4Addr;
@@ -58,23 +58,23 @@ fn write_ports(text: &mut String, server: &ServerTable) -> Result<(), AllocError
 }
 
 /// Writes the address that is announced to clients, if it is a particular one.
-fn write_told(text: &mut String, server: &ServerTable) -> Result<(), AllocError>
-    ensures told { OnOk result
-        (string_bytes text.new ≡ string_bytes text.old ++ told_text server.now) }
+fn write_reported(text: &mut String, server: &ServerTable) -> Result<(), AllocError>
+    ensures reported { OnOk result
+        (string_bytes text.new ≡ string_bytes text.old ++ reported_text server.now) }
 {
-    if is_untold(server) {
+    if is_unreported(server) {
         write_word(text, "the address that they reached")
     } else {
-        write_address(text, told_address(server))
+        write_address(text, reported_address(server))
     }
 }
 
-fn write_tells(text: &mut String, server: &ServerTable) -> Result<(), AllocError>
+fn write_reports(text: &mut String, server: &ServerTable) -> Result<(), AllocError>
     ensures line { OnOk result
-        (string_bytes text.new ≡ string_bytes text.old ++ tells_line server.now) }
+        (string_bytes text.new ≡ string_bytes text.old ++ reports_line server.now) }
 {
     write_word(text, "tells clients ")?;
-    write_told(text, server)?;
+    write_reported(text, server)?;
     write_ports(text, server)?;
     Ok(())
 }
@@ -203,7 +203,7 @@ fn write_network(text: &mut String, server: &ServerTable) -> Result<(), AllocErr
 {
     write_listens(text, server)?;
     write_greets(text, server)?;
-    write_tells(text, server)?;
+    write_reports(text, server)?;
     Ok(())
 }
 

@@ -63,14 +63,14 @@ fn write_overrides(
 }
 
 /// Writes a text of a reply, unless it is the usual one.
-fn write_text(text: &mut String, head: &str, usual: &str, told: &str) -> Result<(), AllocError>
+fn write_text(text: &mut String, head: &str, usual: &str, reported: &str) -> Result<(), AllocError>
     ensures line { OnOk result
-        (string_bytes text.new ≡ string_bytes text.old ++ text_line head.now usual.now told.now) }
+        (string_bytes text.new ≡ string_bytes text.old ++ text_line head.now usual.now reported.now) }
 {
-    if told == usual {
+    if reported == usual {
         return Ok(());
     }
-    writeln!(text, "{head}{told}")
+    writeln!(text, "{head}{reported}")
 }
 
 fn write_login(text: &mut String, user: &UserTable) -> Result<(), AllocError>

@@ -9,7 +9,7 @@ ghost use Rattle.config_report.specs.ReportData.{IsJsonOf, address_data, announc
 use crate::letters::ordered;
 use crate::seen::SeenUser;
 use crate::warning::Warning;
-use crate::warnings::{is_untold, told_address};
+use crate::warnings::{is_unreported, reported_address};
 use config_file::{GroupTable, OverrideTable, ServerTable, Tables, UserTable};
 use serde_json::{Value, json};
 use std::alloc::{AllocError, Global};
@@ -43,10 +43,10 @@ fn address_value(alloc: Global, address: Ipv4Addr) -> Result<Value, AllocError>
 fn announced_value(alloc: Global, server: &ServerTable<'_>) -> Result<Value, AllocError>
     ensures announced { IfOk result (λ v. view v ≡ announced_data server.now) }
 {
-    if is_untold(server) {
+    if is_unreported(server) {
         return Ok(Value::Null);
     }
-    address_value(alloc, told_address(server))
+    address_value(alloc, reported_address(server))
 }
 
 /// The address that is stated for clients, or null.
@@ -283,10 +283,10 @@ fn whole_value(
     server: Value,
     groups: Value,
     users: Value,
-    told: Value,
+    reported: Value,
 ) -> Result<Value, AllocError>
     ensures whole { IfOk result (λ v. view v
-        ≡ whole_data version (view server) (view groups) (view users) (view told)) }
+        ≡ whole_data version (view server) (view groups) (view users) (view reported)) }
 {
     json!(in alloc; {
         "config_version": version,
@@ -295,7 +295,7 @@ fn whole_value(
         "unit": "octets a second",
         "users": users,
         "version": 1u64,
-        "warnings": told
+        "warnings": reported
     })
 }
 
@@ -312,14 +312,14 @@ fn report_value(
     let server = server_value(alloc, tables)?;
     let stated = group_values(alloc, groups)?;
     let users = row_values(alloc, rows)?;
-    let told = warning_values(alloc, warnings)?;
+    let reported = warning_values(alloc, warnings)?;
     let value = whole_value(
         alloc,
         tables.version,
         server,
         Value::Array(stated),
         Value::Array(users),
-        Value::Array(told),
+        Value::Array(reported),
     )?;
     Ok(value)
 }

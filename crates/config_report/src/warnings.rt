@@ -1,9 +1,9 @@
 //! The warnings of a configuration.
 
 ghost use Rattle.std.specs.Prelude.{◌≡◌, ◌++◌, IfOk, OnOk};
-ghost use Rattle.server_config.specs.Settings.{told_address};
+ghost use Rattle.server_config.specs.Settings.{reported_address};
 ghost use Rattle.std.specs.List.{flat_map, list_any};
-ghost use Rattle.config_report.specs.Warnings.{access_warnings, file_warnings, floor_warnings, has_few_ports, has_word, is_among_own, is_open, is_public, is_unlisted, is_untold, lacks_home, port_warnings, root_warnings, server_warnings, sight_warnings, user_warnings, warnings};
+ghost use Rattle.config_report.specs.Warnings.{access_warnings, file_warnings, floor_warnings, has_few_ports, has_word, is_among_own, is_open, is_public, is_unlisted, is_unreported, lacks_home, port_warnings, root_warnings, server_warnings, sight_warnings, user_warnings, warnings};
 
 use crate::floors::{is_single, is_unmet};
 use crate::letters::may_browse;
@@ -21,8 +21,8 @@ pub(crate) const OWN_FIRST: u16 = 32_768;
 pub(crate) const OWN_LAST: u16 = 60_999;
 
 /// Returns the address announced to clients for passive connections.
-pub(crate) fn told_address(server: &ServerTable) -> Ipv4Addr
-    ensures told { result ≡ told_address server.now.masquerade_address server.now.address }
+pub(crate) fn reported_address(server: &ServerTable) -> Ipv4Addr
+    ensures reported { result ≡ reported_address server.now.masquerade_address server.now.address }
 {
     match server.masquerade_address {
         Some(address) => address,
@@ -31,10 +31,10 @@ pub(crate) fn told_address(server: &ServerTable) -> Ipv4Addr
 }
 
 /// Returns whether the address announced to clients is 0.0.0.0.
-pub(crate) fn is_untold(server: &ServerTable) -> bool
-    ensures untold { result ≡ is_untold server.now }
+pub(crate) fn is_unreported(server: &ServerTable) -> bool
+    ensures unreported { result ≡ is_unreported server.now }
 {
-    told_address(server).to_bits() == 0
+    reported_address(server).to_bits() == 0
 }
 
 /// Returns whether a passive port is among those of the machine.
@@ -158,7 +158,7 @@ fn warn_of_ports<'a>(found: &mut Vec<Warning<'a>>, server: &ServerTable) -> Resu
         (found.new.items ≡ found.old.items ++ port_warnings server.now) }
 {
     let (first, last) = (server.passive_first, server.passive_last);
-    if is_untold(server) {
+    if is_unreported(server) {
         found.push(Warning::NoAddress)?;
     }
     if is_among_own(server) {

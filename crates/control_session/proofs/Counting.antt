@@ -137,8 +137,8 @@ ran_ends : {S A R K : Type 0} (Step : S → Exchange R K → S → Type 0) (Ends
     → (users : List ℕ) × (p' ≡ counts users first) × Ends users view actions
 ran_ends Step Ends (Then v ways) old new first p p' admitted view actions counted_is is (same, p'_is, v_is, same_actions) =
     (admitted, p'_is ∙ counted_is, subst (λ (x : View). Ends admitted x actions) (sym v_is) (subst (λ (x : List (Action _ _ _)). Ends admitted v x) (sym same_actions) is))
-ran_ends Step Ends (WithLine told next) old new first p p' admitted view actions counted_is is (line, telling, ran) = ran_ends Step Ends (next line) old new first p p' admitted view actions counted_is (is line) ran
-ran_ends Step Ends (WithLines told next) old new first p p' admitted view actions counted_is is (lines, telling, ran) = ran_ends Step Ends (next lines) old new first p p' admitted view actions counted_is (is lines) ran
+ran_ends Step Ends (WithLine reported next) old new first p p' admitted view actions counted_is is (line, reporting, ran) = ran_ends Step Ends (next line) old new first p p' admitted view actions counted_is (is line) ran
+ran_ends Step Ends (WithLines reported next) old new first p p' admitted view actions counted_is is (lines, reporting, ran) = ran_ends Step Ends (next lines) old new first p p' admitted view actions counted_is (is lines) ran
 ran_ends Step Ends (Ask call next) old new first p p' admitted view actions counted_is is (answer, mid, step, ran) = ran_ends Step Ends (next answer) mid new first p p' admitted view actions counted_is (is.1 answer) ran
 ran_ends {A = A} {R = R} {K = K} Step Ends (AskAdmit user next) old new first p p' admitted view actions counted_is is ran =
     by (admits p user) (λ q q_is fits. ran_ends Step Ends (next true) old new first q p' (user ∷ admitted) view actions q_is fits)
@@ -168,19 +168,19 @@ balanced [] before released after p p' (inl (none, same)) is = ([], is, sym (ap 
 balanced [] before released after p p' (inr (all, gone)) is = ([], is, sym (ap (λ (l : List ℕ). released ++ l) gone ∙ (append-nil released ∙ all)))
 
 module _ {S A R K : Type 0} (Step : S → Exchange R K → S → Type 0) (users : Users) where
-  step_balances : (law : FloorsAreReleasedOnce A R K) (before after : Standing) (moment : ℕ) (told : Input A K) (old new : S) (p p' : Promises) (actions : List (Action A R K))
-      → SessionStep Step users before.view before.held moment told old new p p' after.view after.held actions
+  step_balances : (law : FloorsAreReleasedOnce A R K) (before after : Standing) (moment : ℕ) (reported : Input A K) (old new : S) (p p' : Promises) (actions : List (Action A R K))
+      → SessionStep Step users before.view before.held moment reported old new p p' after.view after.held actions
       → Balanced (logged_in before.view) p p' (releases actions) (logged_in after.view)
   unfolding SessionStep FloorsAreReleasedOnce
-  step_balances law before after moment told old new p p' actions (ran, held_is) =
+  step_balances law before after moment reported old new p p' actions (ran, held_is) =
       let ended = ran_ends Step (λ admitted then actions. Releases admitted (logged_in before.view) (releases actions) (logged_in then))
-      (table {A = A} {R = R} {K = K} users before.view before.held moment told).plan old new p p p' [] after.view actions refl (law users before.view before.held moment told) ran in
+      (table {A = A} {R = R} {K = K} users before.view before.held moment reported).plan old new p p p' [] after.view actions refl (law users before.view before.held moment reported) ran in
       balanced ended.0 (logged_in before.view) (releases actions) (logged_in after.view) p p' ended.2 ended.1
 
   pub row_balances : (before after : Standing) (given : Given K) (moment : ℕ) (store store' : S) (p p' : Promises) (actions : List (Action A R K))
       → IsMade Step users before given moment store store' p p' after actions → Balanced (logged_in before.view) p p' (releases actions) (logged_in after.view)
   row_balances before after given moment store store' p p' actions row =
-      step_balances (floors_are_released_once A R K) before after moment row.told store store' p p' actions row.stepped
+      step_balances (floors_are_released_once A R K) before after moment row.reported store store' p p' actions row.stepped
 
 -- nobody is logged in where the control connection is gone
 pub gone_counts : (view : View) → is_closed view.stage ≡ true → logged_in view ≡ []

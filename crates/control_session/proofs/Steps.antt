@@ -26,9 +26,9 @@ module _ (A R K : Type 0) (users : Users) (view : View) (held : List Item) (mome
       by true (first ∷ others) is = omega arith
 
 -- how many lines a step leaves held
-pub step_holds : {S A R K : Type 0} (Step : S → Exchange R K → S → Type 0) (users : Users) (before after : Standing) (moment : ℕ) (told : Input A K)
+pub step_holds : {S A R K : Type 0} (Step : S → Exchange R K → S → Type 0) (users : Users) (before after : Standing) (moment : ℕ) (reported : Input A K)
     (old new : S) (promises promises' : Promises) (actions : List (Action A R K))
-    → SessionStep Step users before.view before.held moment told old new promises promises' after.view after.held actions → HoldsFewer (given_of told) before after
+    → SessionStep Step users before.view before.held moment reported old new promises promises' after.view after.held actions → HoldsFewer (given_of reported) before after
 unfolding SessionStep
 step_holds Step users before after moment (input.Line item) old new promises promises' actions (ran, held_is) = tt
 step_holds {A = A} {R = R} {K = K} Step users before after moment input.Held old new promises promises' actions (ran, held_is) = λ now.
@@ -43,4 +43,4 @@ step_holds Step users before after moment input.Closed old new promises promises
 pub row_holds : {A S R K : Type 0} (Step : S → Exchange R K → S → Type 0) (users : Users) (before after : Standing) (given : Given K) (moment : ℕ) (store store' : S) (promises promises' : Promises) (actions : List (Action A R K))
     → IsMade Step users before given moment store store' promises promises' after actions → HoldsFewer given before after
 row_holds Step users before after given moment store store' promises promises' actions row =
-    subst (λ (g : Given _). HoldsFewer g before after) row.told_is (step_holds Step users before after moment row.told store store' promises promises' actions row.stepped)
+    subst (λ (g : Given _). HoldsFewer g before after) row.reported_is (step_holds Step users before after moment row.reported store store' promises promises' actions row.stepped)

@@ -4,7 +4,7 @@ use Rattle.authorizer.specs.Users.{Users}
 use Rattle.control_session.specs.Sides.{Given, event_in, given_of}
 use Rattle.control_session.specs.Sides.Given.{Came, Closed}
 use Rattle.control_session.specs.Sides.SideCall.{Looks, Settles}
-use Rattle.control_session.specs.Told.{closes}
+use Rattle.control_session.specs.Reported.{closes}
 use Rattle.ftp_wire.specs.Items.{Item}
 use Rattle.rate_floors.specs.Promises.{Promises}
 use Rattle.session_core.specs.Events.{input_of}
@@ -115,7 +115,7 @@ module _ {H A S R K : Type 0} (Row : Users → Standing → Given K → ℕ → 
       subst (λ (b : Bool). Went Row Does host (at v came taken heard owes closed lost) host' (at v' None taken heard owes b lost)) (or_false closed)
       (turn_went host host' host' v v' came None taken taken heard owes owes [] closed lost lost (Came event) [] [] (is, refl, refl) stepped refl refl (refl, refl))
 
-  next_event : {I : Type 0} (now : Situation K) (told : Input I K) (came : Option (DataEvent K)) (taken : List Item) → Next now (given_of told) came taken → given_of told ≢ Closed → event_in told ≡ now.came
+  next_event : {I : Type 0} (now : Situation K) (reported : Input I K) (came : Option (DataEvent K)) (taken : List Item) → Next now (given_of reported) came taken → given_of reported ≢ Closed → event_in reported ≡ now.came
   next_event now (input.Line item) came taken ((is, asked, held), live, rest, none, same) other = sym is
   next_event now input.Held came taken (is, asked, held, none, same) other = sym is
   next_event now (input.TransferEnded end sink) came taken (is, none, same) other = sym is
@@ -123,14 +123,14 @@ module _ {H A S R K : Type 0} (Row : Users → Standing → Given K → ℕ → 
   next_event now input.Closed came taken next other = absurd (other refl)
 
   -- a step was refused, and what came was given back
-  pub refused_went : {I : Type 0} (host host' : H) (v v' : Standing) (came came' found : Option (DataEvent K)) (taken taken' : List Item) (heard : Heard) (closed : Bool) (lost : Option TurnFault) (told : Input I K)
-      → Next (at v came taken heard [] closed lost) (given_of told) came' taken' → given_of told ≢ Closed → v' ≡ v → found ≡ event_in told → StepTried Row Does host v (given_of told) host'
+  pub refused_went : {I : Type 0} (host host' : H) (v v' : Standing) (came came' found : Option (DataEvent K)) (taken taken' : List Item) (heard : Heard) (closed : Bool) (lost : Option TurnFault) (reported : Input I K)
+      → Next (at v came taken heard [] closed lost) (given_of reported) came' taken' → given_of reported ≢ Closed → v' ≡ v → found ≡ event_in reported → StepTried Row Does host v (given_of reported) host'
       → Went Row Does host (at v came taken heard [] closed lost) host' (at v' found taken heard [] closed (Some Memory))
-  refused_went host host' v v' came came' found taken taken' heard closed lost told next other same found_is did =
+  refused_went host host' v v' came came' found taken taken' heard closed lost reported next other same found_is did =
       subst (λ (x : Standing). Went Row Does host (at v came taken heard [] closed lost) host' (at x found taken heard [] closed (Some Memory))) (sym same)
       (subst (λ (x : Option (DataEvent K)). Went Row Does host (at v came taken heard [] closed lost) host' (at v x taken heard [] closed (Some Memory)))
-      (sym (found_is ∙ next_event (at v came taken heard [] closed lost) told came' taken' next other))
-      (tries_went host host' (at v came taken heard [] closed lost) (given_of told) came' taken' next did))
+      (sym (found_is ∙ next_event (at v came taken heard [] closed lost) reported came' taken' next other))
+      (tries_went host host' (at v came taken heard [] closed lost) (given_of reported) came' taken' next did))
 
   -- a step was made, and its actions were carried out
   pub acts_went : (host mid host' : H) (v v' : Standing) (came came' : Option (DataEvent K)) (taken taken' : List Item) (heard : Heard) (closed closed' closing : Bool) (lost lost' : Option TurnFault)
@@ -241,9 +241,9 @@ pub given_input : (I : Type 0) {K : Type 0} (event : DataEvent K) → given_of {
 given_input I (Ready port) = refl
 given_input I (Ended end sink) = refl
 
-pub event_given : {I K : Type 0} (event : DataEvent K) (told : Input I K) → told ≡ input_of event → given_of told ≡ Came event
-event_given {I = I} event told is = ap given_of is ∙ given_input I event
+pub event_given : {I K : Type 0} (event : DataEvent K) (reported : Input I K) → reported ≡ input_of event → given_of reported ≡ Came event
+event_given {I = I} event reported is = ap given_of is ∙ given_input I event
 
 -- what came may come next
-pub came_next : {I K : Type 0} (now : Situation K) (event : DataEvent K) (told : Input I K) (came : Option (DataEvent K)) → told ≡ input_of event → now.came ≡ Some event → came ≡ None → Next now (given_of told) came now.taken
-came_next {I = I} now event told came is here none = subst (λ (g : Given _). Next now g came now.taken) (sym (ap given_of is ∙ given_input I event)) (here, none, refl)
+pub came_next : {I K : Type 0} (now : Situation K) (event : DataEvent K) (reported : Input I K) (came : Option (DataEvent K)) → reported ≡ input_of event → now.came ≡ Some event → came ≡ None → Next now (given_of reported) came now.taken
+came_next {I = I} now event reported came is here none = subst (λ (g : Given _). Next now g came now.taken) (sym (ap given_of is ∙ given_input I event)) (here, none, refl)

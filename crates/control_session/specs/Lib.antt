@@ -4,7 +4,7 @@ pub mod Standing
 pub mod Turns
 pub use Rattle.session_table.specs.Steps
 pub mod Sides
-pub mod Told
+pub mod Reported
 pub mod Floors
 pub mod Sessions
 pub mod Logins

@@ -18,18 +18,18 @@ module _ {A S R K : Type 0} (Step : S → Exchange R K → S → Type 0) (users 
   pub record IsMade (session : Standing) (given : Given K) (moment : ℕ) (store store' : S)
       (promises promises' : Promises) (session' : Standing) (actions : List (Action A R K)) : Type 0
     where
-      pub told : Input A K
-      pub told_is : given_of told ≡ given
-      pub stepped : SessionStep Step users session.view session.held moment told store store'
+      pub reported : Input A K
+      pub reported_is : given_of reported ≡ given
+      pub stepped : SessionStep Step users session.view session.held moment reported store store'
           promises promises' session'.view session'.held actions
 
 -- lack of memory may stop the step here: the store is as the looks of that row, if any, left it
 pub record IsStopped (A : Type 0) {S R K : Type 0} (Step : S → Exchange R K → S → Type 0)
     (users : Users)
     (session : Standing) (given : Given K) (moment : ℕ) (store store' : S) : Type 0 where
-  pub told : Input A K
-  pub told_is : given_of told ≡ given
-  pub stops : SessionStops {R = R} Step users session.view session.held moment told store store'
+  pub reported : Input A K
+  pub reported_is : given_of reported ≡ given
+  pub stops : SessionStops {R = R} Step users session.view session.held moment reported store store'
 
 module _ {A S R K : Type 0} (Step : S → Exchange R K → S → Type 0) (users : Users) where
   -- the result of a step

@@ -4,7 +4,7 @@ use Rattle.authorizer.specs.Users.{Users}
 use Rattle.control_session.specs.Sides.{Given}
 use Rattle.control_session.specs.Sides.Given.{Line, Held, Came, Closed}
 use Rattle.control_session.specs.Sides.SideCall.{Opens, Connects, Drops, Starts, Aborts, Looks, Settles}
-use Rattle.control_session.specs.Told.{closes}
+use Rattle.control_session.specs.Reported.{closes}
 use Rattle.ftp_reply.specs.Replies.{reply_text}
 use Rattle.ftp_wire.specs.Items.{Item}
 use Rattle.handler_hooks.specs.Events.{event_of}

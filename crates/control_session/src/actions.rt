@@ -1,7 +1,7 @@
 //! The replies of a step, and whether it closes the control connection.
 
 ghost use Rattle.std.specs.Prelude.{◌≡◌, ◌++◌, OnOk};
-ghost use Rattle.control_session.specs.Told.{closes, is_close};
+ghost use Rattle.control_session.specs.Reported.{closes, is_close};
 ghost use Rattle.ftp_reply.specs.Replies.{reply_text};
 ghost use Rattle.session_table.specs.Answers.{answer_form};
 

@@ -66,6 +66,6 @@ next_if true count = next count
 next_if false count = count
 
 -- one call of a part failed if the end is its fault; otherwise none did
-abbrev pub FailsAsTold : Way → PumpEnd → FailedPart → CallCounts → CallCounts → Type 0
-FailsAsTold way told part old new =
-    new.failed ≡ next_if (is_part part (failed_part way told)) old.failed
+abbrev pub FailsAsReported : Way → PumpEnd → FailedPart → CallCounts → CallCounts → Type 0
+FailsAsReported way reported part old new =
+    new.failed ≡ next_if (is_part part (failed_part way reported)) old.failed

@@ -6,7 +6,7 @@ use Rattle.ftp_terms.specs.declared.data_type.DataType.{DataType}
 use Rattle.ftp_terms.specs.declared.data_type.DataType.TheVariants.{Ascii, Image}
 use Rattle.line_rates.specs.declared.ask.Way.TheVariants.{Down}
 use Rattle.data_pump.specs.WireText.{sent}
-use Rattle.data_pump.specs.Counts.{CallCounts, with_passed, with_failed, IsOnceAtMost, FailsAsTold}
+use Rattle.data_pump.specs.Counts.{CallCounts, with_passed, with_failed, IsOnceAtMost, FailsAsReported}
 use Rattle.data_pump.specs.declared.buffer.TheConstants.{MAX_WAITING}
 use Rattle.data_pump.specs.declared.pumped.FailedPart.TheVariants.{Connection, Source}
 use Rattle.data_pump.specs.declared.pumped.PumpEnd.{PumpEnd}
@@ -71,8 +71,8 @@ pub record MovesOut {S K : Type 0} (remaining : S → Option (List ℕ))
       × (new.reads ≡ old.reads)
   pub once : IsOnceAtMost old.reads new.reads
   -- a call failed exactly if the end says so
-  pub reads_failed : FailsAsTold Down pumped.end Source old.reads new.reads
-  pub writes_failed : FailsAsTold Down pumped.end Connection old.writes new.writes
+  pub reads_failed : FailsAsReported Down pumped.end Source old.reads new.reads
+  pub writes_failed : FailsAsReported Down pumped.end Connection old.writes new.writes
   -- the meaning of the end
   pub more : pumped.end ≡ More → 0 < length new.waiting
   pub ended : pumped.end ≡ Ended → HasEnded new

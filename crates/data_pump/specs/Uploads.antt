@@ -5,7 +5,7 @@ use Rattle.ftp_terms.specs.declared.data_type.DataType.{DataType}
 use Rattle.ftp_terms.specs.declared.data_type.DataType.TheVariants.{Ascii, Image}
 use Rattle.line_rates.specs.declared.ask.Way.TheVariants.{Up}
 use Rattle.data_pump.specs.WireText.{received, ReceivesOctets}
-use Rattle.data_pump.specs.Counts.{CallCounts, next, IsOnceAtMost, FailsAsTold}
+use Rattle.data_pump.specs.Counts.{CallCounts, next, IsOnceAtMost, FailsAsReported}
 use Rattle.data_pump.specs.declared.pumped.FailedPart.TheVariants.{Connection, Sink}
 use Rattle.data_pump.specs.declared.pumped.PumpEnd.{PumpEnd}
 use Rattle.data_pump.specs.declared.pumped.PumpEnd.TheVariants.{Ended, More, ReadFault, WriteFault, Memory}
@@ -68,9 +68,9 @@ pub record MovesIn {K X : Type 0} (remaining : K → Option (List ℕ))
   pub no_call : octets ≡ 0 → (pumped.end ≡ More) × (new ≡ old)
   -- one read and at most one write, of which one failed exactly if the end says so
   pub once : 0 < octets → new.reads.made ≡ next old.reads.made
-  pub reads_failed : FailsAsTold Up pumped.end Connection old.reads new.reads
+  pub reads_failed : FailsAsReported Up pumped.end Connection old.reads new.reads
   pub writes_once : IsOnceAtMost old.writes new.writes
-  pub writes_failed : FailsAsTold Up pumped.end Sink old.writes new.writes
+  pub writes_failed : FailsAsReported Up pumped.end Sink old.writes new.writes
   -- the meaning of the end
   pub some : pumped.end ≡ More → 0 < octets → 0 < pumped.moved
   pub given : pumped.end ≡ More

@@ -3,7 +3,7 @@
 ghost use Rattle.std.specs.Prelude.{◌≡◌, ◌≢◌, ◌<◌, ◌≤◌, [], length, take, IfOk, OnErr};
 ghost use Rattle.std.specs.Io.KnownBytes.{Appends, Consumes, IsAtEnd, Keeps};
 ghost use Rattle.line_rates.specs.declared.ask.Way.TheVariants.{Up};
-ghost use Rattle.data_pump.specs.Counts.{no_calls, Counts, IsOnceAtMost, FailsAsTold};
+ghost use Rattle.data_pump.specs.Counts.{no_calls, Counts, IsOnceAtMost, FailsAsReported};
 ghost use Rattle.data_pump.specs.declared.pumped.FailedPart.TheVariants.{Sink};
 ghost use Rattle.data_pump.specs.WireText.{received};
 ghost use Rattle.data_pump.specs.Uploads.{HasTextRoom, Gives, MovesIn, IsSinkFault};
@@ -179,7 +179,7 @@ fn give<T: Sink>(
     ensures refused { IsSinkFault result
         → T.collected sink.new.end ≡ T.collected sink.old.end }
     ensures once { IsOnceAtMost sink.old.calls sink.new.calls }
-    ensures failed { FailsAsTold Up result Sink sink.old.calls sink.new.calls }
+    ensures failed { FailsAsReported Up result Sink sink.old.calls sink.new.calls }
     ensures own { (result ≢ PumpEnd.Ended) × (result ≢ PumpEnd.ReadFault) }
 {
     let written = match wire.data_type() {
@@ -207,7 +207,7 @@ fn finish<T: Sink>(wire: &mut Wire, sink: &mut CountedEnd<T>) -> PumpEnd
     ensures refused { IsSinkFault result
         → T.collected sink.new.end ≡ T.collected sink.old.end }
     ensures once { IsOnceAtMost sink.old.calls sink.new.calls }
-    ensures failed { FailsAsTold Up result Sink sink.old.calls sink.new.calls }
+    ensures failed { FailsAsReported Up result Sink sink.old.calls sink.new.calls }
     ensures own { (result ≢ PumpEnd.More) × (result ≢ PumpEnd.ReadFault) }
 {
     match wire.finish() {

@@ -4,7 +4,7 @@ ghost use Rattle.std.specs.Prelude.{◌≡◌, ◌≢◌, ◌<◌, ◌≤◌, �
 ghost use Rattle.std.specs.Bool.{OnTrue};
 ghost use Rattle.std.specs.Io.KnownBytes.{Keeps, IsAtEnd};
 ghost use Rattle.line_rates.specs.declared.ask.Way.TheVariants.{Down};
-ghost use Rattle.data_pump.specs.Counts.{no_calls, next, IsOnceAtMost, FailsAsTold};
+ghost use Rattle.data_pump.specs.Counts.{no_calls, next, IsOnceAtMost, FailsAsReported};
 ghost use Rattle.data_pump.specs.declared.pumped.FailedPart.TheVariants.{Connection, Source};
 ghost use Rattle.data_pump.specs.Downloads.{to_come, HasEnded, MovesOut, IsSourceFault, TopsUp};
 
@@ -102,12 +102,12 @@ impl<S: Source, K: Write + Drop, A: Allocator> Outflow<S, K, A> {
         ensures once { IsOnceAtMost self.old.reads self.new.reads }
         ensures fetched { self.old.waiting ≡ [] → self.old.is_over ≡ false
             → self.new.reads.made ≡ next self.old.reads.made }
-        ensures reads_failed { FailsAsTold Down result Source self.old.reads self.new.reads }
+        ensures reads_failed { FailsAsReported Down result Source self.old.reads self.new.reads }
         ensures more { result ≡ PumpEnd.More → 0 < length self.new.waiting }
         ensures ended { result ≡ PumpEnd.Ended
             → HasEnded self.new × IsAtEnd (to_come S.remaining self.new) }
         ensures fault { IsSourceFault result → self.new.waiting ≡ [] }
-        ensures writes_failed { FailsAsTold Down result Connection self.old.writes
+        ensures writes_failed { FailsAsReported Down result Connection self.old.writes
             self.new.writes }
         ensures own { result ≢ PumpEnd.WriteFault }
         ensures honest { (octets : List ℕ) → S.remaining self.old.source ≡ Some octets

@@ -12,9 +12,9 @@ use Rattle.desk_rule.specs.declared.view.DeskView.{DeskView}
 use Rattle.desk_rule.specs.declared.view.LaneSlot.{LaneSlot}
 use Rattle.desk_rule.specs.declared.view.LaneSlot.TheVariants.{Blank, WithAsk, WithGrant}
 use Rattle.desk_rule.specs.declared.view.LaneView.{LaneView}
-use Rattle.desk_rule.specs.declared.view.TurnView.{TurnView}
+use Rattle.desk_rule.specs.declared.view.TraceView.{TraceView}
 use Rattle.desk_rule.specs.declared.view.SeatState.TheVariants.{Free, Worker}
-use Rattle.desk_rule.specs.Lanes.{Kept, Owns, Leads, lane_in, with_lane, turn_in, with_turn, posted_by, most, sat_down, has_asked, has_taken, has_looked, has_risen, has_missed, has_collected, has_posted}
+use Rattle.desk_rule.specs.Lanes.{Kept, Owns, Leads, lane_in, with_lane, trace_in, with_trace, posted_by, most, sat_down, has_asked, has_taken, has_looked, has_risen, has_missed, has_collected, has_posted}
 use Rattle.desk_rule.specs.Shown.{StepsTo}
 
 -- the state after a step that wrote the word n, put h into the slot of lane i, and after which its
@@ -38,8 +38,8 @@ abbrev pub HasLane : {N : Type 0} → State (LaneSlot N) DeskView → ℕ → �
 HasLane s id i v = (get_elem? s.views id ≡ some v) × Owns i v
 
 -- the seat is the round's, and knows v
-abbrev pub HasTurns : {N : Type 0} → State (LaneSlot N) DeskView → ℕ → ℕ → DeskView → Type 0
-HasTurns s id i v = (get_elem? s.views id ≡ some v) × Leads i v
+abbrev pub HasTraces : {N : Type 0} → State (LaneSlot N) DeskView → ℕ → ℕ → DeskView → Type 0
+HasTraces s id i v = (get_elem? s.views id ≡ some v) × Leads i v
 
 -- sitting down: the word becomes 1, and the seat has the slot
 abbrev pub SitIsEvent : Type 0 → Type 0
@@ -61,18 +61,18 @@ AskIsEvent N =
 -- the seat has the slot
 abbrev pub CollectIsEvent : Type 0 → Type 0
 CollectIsEvent N =
-    (s : State (LaneSlot N) DeskView) (r : Kept s) (id i : ℕ) (v : DeskView) → HasTurns s id i v
+    (s : State (LaneSlot N) DeskView) (r : Kept s) (id i : ℕ) (v : DeskView) → HasTraces s id i v
     → slice_index s.words i ≡ 2
     → (a : Ask) × (get_elem? s.homes i ≡ some (some (WithAsk a)))
-    × StepsTo r (after s i 3 none id (with_turn i (has_collected a (turn_in i v)) v)) i
+    × StepsTo r (after s i 3 none id (with_trace i (has_collected a (trace_in i v)) v)) i
     (λ x y. (x.ask ≡ Some a) × ShownStep (event.Collect i) answer.Got x y)
 
 -- collecting if the word is anything else: only the try is recorded
 abbrev pub MissIsEvent : Type 0 → Type 0
 MissIsEvent N =
-    (s : State (LaneSlot N) DeskView) (r : Kept s) (id i : ℕ) (v : DeskView) → HasTurns s id i v
+    (s : State (LaneSlot N) DeskView) (r : Kept s) (id i : ℕ) (v : DeskView) → HasTraces s id i v
     → slice_index s.words i ≢ 2
-    → StepsTo r (noted s id (with_turn i (has_missed (turn_in i v)) v)) i
+    → StepsTo r (noted s id (with_trace i (has_missed (trace_in i v)) v)) i
     (ShownStep (event.Collect i) answer.Missed)
 
 -- posting on a lane whose ask was collected and not answered: the word becomes 4, and the grant is
@@ -80,11 +80,11 @@ MissIsEvent N =
 abbrev pub PostIsEvent : Type 0 → Type 0
 PostIsEvent N =
     (s : State (LaneSlot N) DeskView) (r : Kept s) (id i : ℕ) (v : DeskView) (g : GrantView)
-    → HasTurns s id i v
-    → length (turn_in i v).collected ≡ length (turn_in i v).posted + 1 → g.lane ≡ i
+    → HasTraces s id i v
+    → length (trace_in i v).collected ≡ length (trace_in i v).posted + 1 → g.lane ≡ i
     → posted_by v + g.octets ≤ most
     → StepsTo r (after s i 4 (some (WithGrant g)) id
-    (with_turn i (has_posted g.octets (turn_in i v)) v)) i
+    (with_trace i (has_posted g.octets (trace_in i v)) v)) i
     (ShownStep (event.Post i) (answer.Posted g.octets))
 
 -- taking if the word is 4: the grant in the slot is the lane's; the word becomes 1, and the seat
@@ -115,7 +115,7 @@ RiseIsEvent N =
 -- the views of the lane's seat and of the round's seat, for a lane with word n: posted equals
 -- taken, with one more amount at 4; asks made equal asks collected, with one more at 2; and there
 -- are as many amounts posted as asks collected, with one fewer at 3
-pub record IsAccounted (n : ℕ) (x : LaneView) (t : TurnView) : Type 0 where
+pub record IsAccounted (n : ℕ) (x : LaneView) (t : TraceView) : Type 0 where
   pub granted : n ≡ 4 → (octets : ℕ) × (t.posted ≡ x.taken ++ octets ∷ [])
   pub taken : n ≢ 4 → t.posted ≡ x.taken
   pub asked : n ≡ 2 → (a : Ask) × (x.asks ≡ t.collected ++ a ∷ [])
@@ -127,5 +127,5 @@ pub record IsAccounted (n : ℕ) (x : LaneView) (t : TurnView) : Type 0 where
 abbrev pub AccountsFit : Type 0 → Type 0
 AccountsFit N =
     (s : State (LaneSlot N) DeskView) → Kept s → (i j k : ℕ) (v w : DeskView) → HasLane s j i v
-    → HasTurns s k i w
-    → IsAccounted (slice_index s.words i) (lane_in i v) (turn_in i w) × (posted_by w ≤ most)
+    → HasTraces s k i w
+    → IsAccounted (slice_index s.words i) (lane_in i v) (trace_in i w) × (posted_by w ≤ most)

@@ -11,7 +11,7 @@ use Rattle.desk_rule.specs.declared.view.LaneSlot.TheVariants.{Blank, WithAsk, W
 use Rattle.desk_rule.specs.declared.view.SeatState.{SeatState}
 use Rattle.desk_rule.specs.declared.view.SeatState.TheVariants.{Free, Worker, Asked}
 use Rattle.desk_rule.specs.declared.view.LaneView.{LaneView}
-use Rattle.desk_rule.specs.declared.view.TurnView.{TurnView}
+use Rattle.desk_rule.specs.declared.view.TraceView.{TraceView}
 use Rattle.desk_rule.specs.declared.view.RoundView.{RoundView}
 use Rattle.desk_rule.specs.declared.view.DeskView.{DeskView}
 use Rattle.desk_rule.specs.declared.view.DeskView.TheVariants.{Spent, Lane, Round}
@@ -23,30 +23,30 @@ lane_view st n k asks taken =
 abbrev pub fresh : LaneView
 fresh = lane_view Free [] 0 [] []
 
-abbrev pub turn_view : ℕ → List Ask → List ℕ → TurnView
-turn_view n asks posted = record { tries = n; collected = asks; posted = posted }
+abbrev pub trace_view : ℕ → List Ask → List ℕ → TraceView
+trace_view n asks posted = record { tries = n; collected = asks; posted = posted }
 
-abbrev pub unturned : TurnView
-unturned = turn_view 0 [] []
+abbrev pub untraced : TraceView
+untraced = trace_view 0 [] []
 
 -- sum of all amounts posted
-abbrev pub posted_in : List TurnView → ℕ
+abbrev pub posted_in : List TraceView → ℕ
 posted_in [] = 0
 posted_in (t ∷ ts) = sum t.posted + posted_in ts
 
 abbrev pub most : ℕ
 most = 4611686018427387904
 
-module _ (k : ℕ) (lane : ℕ → LaneView) (turn : ℕ → TurnView) (owner : ℕ → ℕ) (desk dealt : ℕ)
+module _ (k : ℕ) (lane : ℕ → LaneView) (trace : ℕ → TraceView) (owner : ℕ → ℕ) (desk dealt : ℕ)
     (j : ℕ) where
   pub record KnowsRound (sh : RoundView) : Type 0 where
     pub is_desk : desk ≡ j
     pub dealt_is : sh.dealt ≡ dealt
-    pub wide : length sh.turns ≡ k
-    pub each_turn : (i : ℕ) → i < k → get_elem? sh.turns i ≡ some (turn i)
+    pub wide : length sh.traces ≡ k
+    pub each_trace : (i : ℕ) → i < k → get_elem? sh.traces i ≡ some (trace i)
     pub each_back : (i : ℕ) (x : LaneView) → get_elem? sh.back i ≡ some x
         → (owner i ≡ j) × (lane i ≡ x) × (i < dealt)
-    pub within : posted_in sh.turns ≤ most
+    pub within : posted_in sh.traces ≤ most
 
   -- the claim that a view makes
   abbrev pub Knows : DeskView → Type 0
@@ -55,7 +55,7 @@ module _ (k : ℕ) (lane : ℕ → LaneView) (turn : ℕ → TurnView) (owner : 
   Knows (Round sh) = KnowsRound sh
 
 abbrev pub first_round : ℕ → RoundView
-first_round k = record { dealt = 0; turns = replicate k unturned; back = [] }
+first_round k = record { dealt = 0; traces = replicate k untraced; back = [] }
 
 -- the view of lane i as its seat has it
 abbrev pub lane_in : ℕ → DeskView → LaneView
@@ -67,33 +67,33 @@ abbrev pub with_lane : ℕ → LaneView → DeskView → DeskView
 with_lane i x Spent = Spent
 with_lane i x (Lane k y) = Lane k x
 with_lane i x (Round sh) =
-    Round record { dealt = sh.dealt; turns = sh.turns; back = slice_set sh.back i x }
+    Round record { dealt = sh.dealt; traces = sh.traces; back = slice_set sh.back i x }
 
 abbrev pub Owns : ℕ → DeskView → Type 0
 Owns i Spent = ⊥
 Owns i (Lane k x) = k ≡ i
 Owns i (Round sh) = i < length sh.back
 
-abbrev pub turn_in : ℕ → DeskView → TurnView
-turn_in i Spent = unturned
-turn_in i (Lane k x) = unturned
-turn_in i (Round sh) = slice_index_or sh.turns i unturned
+abbrev pub trace_in : ℕ → DeskView → TraceView
+trace_in i Spent = untraced
+trace_in i (Lane k x) = untraced
+trace_in i (Round sh) = slice_index_or sh.traces i untraced
 
-abbrev pub with_turn : ℕ → TurnView → DeskView → DeskView
-with_turn i t Spent = Spent
-with_turn i t (Lane k y) = Lane k y
-with_turn i t (Round sh) =
-    Round record { dealt = sh.dealt; turns = slice_set sh.turns i t; back = sh.back }
+abbrev pub with_trace : ℕ → TraceView → DeskView → DeskView
+with_trace i t Spent = Spent
+with_trace i t (Lane k y) = Lane k y
+with_trace i t (Round sh) =
+    Round record { dealt = sh.dealt; traces = slice_set sh.traces i t; back = sh.back }
 
 abbrev pub Leads : ℕ → DeskView → Type 0
 Leads i Spent = ⊥
 Leads i (Lane k x) = ⊥
-Leads i (Round sh) = i < length sh.turns
+Leads i (Round sh) = i < length sh.traces
 
 abbrev pub posted_by : DeskView → ℕ
 posted_by Spent = 0
 posted_by (Lane k x) = 0
-posted_by (Round sh) = posted_in sh.turns
+posted_by (Round sh) = posted_in sh.traces
 
 -- the views of a lane's seat after each of its steps
 abbrev pub sat_down : LaneView → LaneView
@@ -112,24 +112,24 @@ abbrev pub has_risen : LaneView → LaneView
 has_risen x = lane_view Free x.sittings x.looks x.asks x.taken
 
 -- the views of a lane in the round's seat after each of its steps
-abbrev pub has_missed : TurnView → TurnView
-has_missed t = turn_view (t.tries + 1) t.collected t.posted
+abbrev pub has_missed : TraceView → TraceView
+has_missed t = trace_view (t.tries + 1) t.collected t.posted
 
-abbrev pub has_collected : Ask → TurnView → TurnView
-has_collected a t = turn_view (t.tries + 1) (t.collected ++ a ∷ []) t.posted
+abbrev pub has_collected : Ask → TraceView → TraceView
+has_collected a t = trace_view (t.tries + 1) (t.collected ++ a ∷ []) t.posted
 
-abbrev pub has_posted : ℕ → TurnView → TurnView
-has_posted n t = turn_view t.tries t.collected (t.posted ++ n ∷ [])
+abbrev pub has_posted : ℕ → TraceView → TraceView
+has_posted n t = trace_view t.tries t.collected (t.posted ++ n ∷ [])
 
 -- if one seat knows both sides of the lane, they agree, except for these waiting amounts
 abbrev pub Fits : ℕ → DeskView → List ℕ → Type 0
-Fits i v waiting = Leads i v → (turn_in i v).posted ≡ (lane_in i v).taken ++ waiting
+Fits i v waiting = Leads i v → (trace_in i v).posted ≡ (lane_in i v).taken ++ waiting
 
 -- the round's view after a seat was split off: that of the next lane
 abbrev pub dealer_after : DeskView → DeskView
 dealer_after Spent = Spent
 dealer_after (Lane k x) = Lane k x
-dealer_after (Round sh) = Round record { dealt = sh.dealt + 1; turns = sh.turns; back = sh.back }
+dealer_after (Round sh) = Round record { dealt = sh.dealt + 1; traces = sh.traces; back = sh.back }
 
 abbrev pub dealt_to : DeskView → DeskView
 dealt_to Spent = Spent
@@ -138,7 +138,7 @@ dealt_to (Round sh) = Lane sh.dealt fresh
 
 abbrev pub taken_in : DeskView → DeskView → DeskView
 taken_in (Round sh) (Lane k x) =
-    Round record { dealt = sh.dealt; turns = sh.turns; back = sh.back ++ x ∷ [] }
+    Round record { dealt = sh.dealt; traces = sh.traces; back = sh.back ++ x ∷ [] }
 taken_in (Round sh) Spent = Round sh
 taken_in (Round sh) (Round th) = Round sh
 taken_in Spent w = Spent
@@ -207,7 +207,7 @@ module _ {N : Type 0} where
   Bears i (granted g) = g.lane ≡ i
 
   -- the lane's word n and slot h agree with the steps of its seat and of the round
-  pub record Agrees (i n : ℕ) (h : Option (Option (LaneSlot N))) (x : LaneView) (t : TurnView)
+  pub record Agrees (i n : ℕ) (h : Option (Option (LaneSlot N))) (x : LaneView) (t : TraceView)
       (ph : Phase N) : Type 0 where
     pub word_is : n ≡ code ph
     pub home_is : h ≡ some (home_of ph)
@@ -220,7 +220,7 @@ module _ {N : Type 0} where
 
   pub record Kept (s : State (LaneSlot N) DeskView) : Type 0 where
     pub lane : ℕ → LaneView
-    pub turn : ℕ → TurnView
+    pub trace : ℕ → TraceView
     pub phase : ℕ → Phase N
     pub owner : ℕ → ℕ
     pub desk : ℕ
@@ -229,9 +229,9 @@ module _ {N : Type 0} where
     pub few : dealt ≤ length s.homes
     pub new : (i : ℕ) → dealt ≤ i → lane i ≡ fresh
     pub each_lane : (i : ℕ) → i < length s.homes
-        → Agrees i (slice_index s.words i) (get_elem? s.homes i) (lane i) (turn i) (phase i)
+        → Agrees i (slice_index s.words i) (get_elem? s.homes i) (lane i) (trace i) (phase i)
     pub each_view : (j : ℕ) (v : DeskView) → get_elem? s.views j ≡ some v
-        → Knows (length s.homes) lane turn owner desk dealt j v
+        → Knows (length s.homes) lane trace owner desk dealt j v
 
   abbrev pub sits : Step (LaneSlot N) → Me (LaneSlot N) DeskView → ℕ → Me (LaneSlot N) DeskView
       → Type 0
@@ -247,9 +247,9 @@ module _ {N : Type 0} where
   abbrev pub Collected : Step (LaneSlot N) → Me (LaneSlot N) DeskView → Me (LaneSlot N) DeskView
       → Type 0
   Collected st m m' =
-      (a : Ask) × (length (turn_in st.word m.0).collected ≡ length (turn_in st.word m.0).posted)
+      (a : Ask) × (length (trace_in st.word m.0).collected ≡ length (trace_in st.word m.0).posted)
       × (m' ≡ (
-        with_turn st.word (has_collected a (turn_in st.word m.0)) m.0,
+        with_trace st.word (has_collected a (trace_in st.word m.0)) m.0,
         (st.word, WithAsk a) ∷ m.1,
       ))
 
@@ -257,13 +257,13 @@ module _ {N : Type 0} where
       → Type 0
   collects st m r m' =
       (r ≡ 2 → Collected st m m')
-      × (¬ (r ≡ 2) → m' ≡ (with_turn st.word (has_missed (turn_in st.word m.0)) m.0, m.1))
+      × (¬ (r ≡ 2) → m' ≡ (with_trace st.word (has_missed (trace_in st.word m.0)) m.0, m.1))
 
   abbrev pub posts : Step (LaneSlot N) → Me (LaneSlot N) DeskView → ℕ → Me (LaneSlot N) DeskView
       → Type 0
   posts st m r m' =
       (g : GrantView) → m.1 ≡ (st.word, WithGrant g) ∷ rest m.1
-      → m' ≡ (with_turn st.word (has_posted g.octets (turn_in st.word m.0)) m.0, rest m.1)
+      → m' ≡ (with_trace st.word (has_posted g.octets (trace_in st.word m.0)) m.0, rest m.1)
 
   abbrev pub Took : Step (LaneSlot N) → Me (LaneSlot N) DeskView → Me (LaneSlot N) DeskView → Type 0
   Took st m m' =

@@ -9,7 +9,7 @@ use Rattle.world_terms.specs.Lanes as world
 use Rattle.desk_rule.specs.declared.view.DeskView.{DeskView}
 use Rattle.desk_rule.specs.declared.view.LaneSlot.{LaneSlot}
 use Rattle.desk_rule.specs.declared.view.LaneView.{LaneView}
-use Rattle.desk_rule.specs.declared.view.TurnView.{TurnView}
+use Rattle.desk_rule.specs.declared.view.TraceView.{TraceView}
 use Rattle.desk_rule.specs.Lanes.{Phase, free, worker, asked, round, granted, Kept}
 
 abbrev pub last_of : List Ask → Option Ask
@@ -25,12 +25,12 @@ module _ {N : Type 0} where
   state_in round = state.Round
   state_in (granted g) = state.Granted
 
-  abbrev pub shown_of : Phase N → LaneView → TurnView → Shown
+  abbrev pub shown_of : Phase N → LaneView → TraceView → Shown
   shown_of ph x t = world.shown (state_in ph) (last_of x.asks) t.posted x.taken
 
   -- the part of lane i that words, slots and views show
   abbrev pub shown_in : {s : State (LaneSlot N) DeskView} → Kept s → ℕ → Shown
-  shown_in r i = shown_of (r.phase i) (r.lane i) (r.turn i)
+  shown_in r i = shown_of (r.phase i) (r.lane i) (r.trace i)
 
   -- the shown part of lane i changes as stated, and that of other lanes does not change
   abbrev pub Changes : {s s' : State (LaneSlot N) DeskView} → Kept s → Kept s' → ℕ

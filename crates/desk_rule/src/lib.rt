@@ -11,4 +11,4 @@ mod view;
 
 pub use laws::{accounts_fit, exchanges_are_events};
 pub use rule::{Collect, Deal, DeskRule, Gather, MakeAsk, Post, Rise, Sit, Take};
-pub use view::{DeskView, LaneSlot, LaneView, RoundView, SeatState, TurnView};
+pub use view::{DeskView, LaneSlot, LaneView, RoundView, SeatState, TraceView};

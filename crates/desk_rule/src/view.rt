@@ -35,7 +35,7 @@ pub struct LaneView {
 }
 
 /// The view of a lane in the round's seat. Exists for contracts only; no value is ever made.
-pub struct TurnView {
+pub struct TraceView {
     /// Number of tries to collect.
     pub tries: u64,
     pub collected: LinkedList<Ask>,
@@ -47,7 +47,7 @@ pub struct TurnView {
 pub struct RoundView {
     /// Number of lanes whose seats were split off.
     pub dealt: u64,
-    pub turns: LinkedList<TurnView>,
+    pub traces: LinkedList<TraceView>,
     /// The lanes whose seats were returned.
     pub back: LinkedList<LaneView>,
 }

@@ -2,7 +2,7 @@
 
 ghost use Rattle.std.specs.Prelude.{◌≡◌, []};
 ghost use Rattle.lane_desk.specs.Seats.{IsSeatOf};
-ghost use Rattle.lane_desk.specs.Turns.{back, IsRoundOf};
+ghost use Rattle.lane_desk.specs.Traces.{back, IsRoundOf};
 
 use super::expect::{OfTest, down, holds};
 use grant_ledger::{Book, MAX_LANES, Settled};

@@ -2,7 +2,7 @@
 
 ghost use Rattle.std.specs.Prelude.{◌<◌};
 ghost use Rattle.lane_desk.specs.Seats.{IsSeatOf, IsSameSeat};
-ghost use Rattle.lane_desk.specs.Turns.{IsRoundOf, IsSameRound};
+ghost use Rattle.lane_desk.specs.Traces.{IsRoundOf, IsSameRound};
 
 use super::expect::{OfTest, down, holds, limits};
 use grant_ledger::{Book, MAX_LANES};
@@ -103,8 +103,8 @@ fn a_worker_and_rounds(rt: HostRuntime) {
             let mut first = OwnSeat::new(first, &mut tally);
             let second = OwnSeat::new(second, &mut tally);
             let mut rounds = Rounds::new(round, book, tally);
-            let told = work_and_lead(&rt, rt.alloc(), &desk, &mut first, &mut rounds, &limits);
-            holds(&rt, told == (GRANTS, GRANTS));
+            let reported = work_and_lead(&rt, rt.alloc(), &desk, &mut first, &mut rounds, &limits);
+            holds(&rt, reported == (GRANTS, GRANTS));
             let settled = settle_two(desk, rounds, first, second, room);
             holds(&rt, settled.issued == 2 * GRANTS);
             holds(&rt, settled.moved == GRANTS && settled.back == GRANTS);

@@ -46,8 +46,8 @@ abbrev pub IsCounted : {X E : Type 0} → Result X E → FileCalls → FileCalls
 IsCounted answer old new = MatchResult answer (λ _. Passes old new) (λ _. Fails old new)
 
 -- all octets were written by calls that passed; or the last of the calls failed
-abbrev pub TellsWrite : {X E : Type 0} → Result X E → FileCalls → FileCalls → Type 0
-TellsWrite answer old new = MatchResult answer (λ _. new.failed ≡ old.failed)
+abbrev pub ReportsWrite : {X E : Type 0} → Result X E → FileCalls → FileCalls → Type 0
+ReportsWrite answer old new = MatchResult answer (λ _. new.failed ≡ old.failed)
     (λ _. (mid : FileCalls) × (mid.failed ≡ old.failed) × Fails mid new)
 
 -- a file, with the calls on it
@@ -69,8 +69,8 @@ pub record SourceState (F : Type 0) : Type 0 where
 -- A read of a source succeeded exactly if one call on its file passed, or if it made none since it
 -- was at its end; and it is a fault exactly if one failed, or if one passed by which the file ended
 -- before its length.
-abbrev pub TellsRead : {F : Type 0} → Result ℕ StoreFault → SourceState F → SourceState F → Type 0
-TellsRead answer old new = MatchResult answer
+abbrev pub ReportsRead : {F : Type 0} → Result ℕ StoreFault → SourceState F → SourceState F → Type 0
+ReportsRead answer old new = MatchResult answer
     (λ count. Passes old.calls new.calls
     ⊎ ((count ≡ 0) × (old.left ≡ 0) × (new.calls ≡ old.calls)))
     (λ fault. Fails old.calls new.calls

@@ -7,7 +7,7 @@ ghost use Rattle.std.specs.Prelude.{◌≡◌, ◌≢◌, ◌<◌, ◌≤◌, le
 ghost use Rattle.std.specs.Io.KnownBytes.{Appends, Keeps, ReadConsumes};
 ghost use Rattle.std.specs.IoError.{error_kind};
 ghost use Rattle.std.specs.declared.io.ErrorKind.TheVariants.{Interrupted};
-ghost use Rattle.folder_store.specs.Ends.{IsCounted, TellsWrite, next, no_calls, with_failed, with_interrupted, with_passed};
+ghost use Rattle.folder_store.specs.Ends.{IsCounted, ReportsWrite, next, no_calls, with_failed, with_interrupted, with_passed};
 
 use std::io;
 use std::io::{ErrorKind, Read, Write};
@@ -167,7 +167,7 @@ impl<F: Write + Drop> CountedFile<F> {
     pub fn write(&mut self, octets: &[u8]) -> io::Result<()>
         ensures octets { OnOk result
             (Appends (F.contents self.old.file) (F.contents self.new.file) octets.now) }
-        ensures told { TellsWrite result self.old.calls self.new.calls }
+        ensures reported { ReportsWrite result self.old.calls self.new.calls }
     {
         let mut done = 0;
         while done < octets.len() {

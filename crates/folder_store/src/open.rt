@@ -2,7 +2,7 @@
 
 ghost use Rattle.std.specs.Prelude.{◌≡◌, ◌-◌, ◌<◌, ◌≤◌, length, take, None, IfOk, IfErr, OnErr, OnOk};
 ghost use Rattle.std.specs.Io.KnownBytes.{Appends, Consumes, ReadConsumes};
-ghost use Rattle.folder_store.specs.Ends.{TellsRead, TellsWrite, least, no_calls};
+ghost use Rattle.folder_store.specs.Ends.{ReportsRead, ReportsWrite, least, no_calls};
 ghost use Rattle.virtual_tree.specs.Calls.{IsEndFault};
 
 use crate::counted::CountedFile;
@@ -70,7 +70,7 @@ impl<F: Read + Drop> Source for DirSource<F> {
         ensures whole { IfOk result
             (λ count. count ≡ 0 → 0 < length buffer.old → self.old.left ≡ 0) }
         ensures kept { OnErr result (self.new.left ≡ self.old.left) }
-        ensures told { TellsRead result self.old self.new }
+        ensures reported { ReportsRead result self.old self.new }
         ensures file { IfOk result (λ count. Consumes (F.remaining self.old.file)
             (F.remaining self.new.file) (take count buffer.new)) }
     {
@@ -91,7 +91,7 @@ impl<F: Read + Drop> DirSource<F> {
         ensures left { IfOk result (λ count. self.new.left ≡ left - count) }
         ensures whole { IfOk result (λ count. count ≡ 0 → 0 < length buffer.old → left ≡ 0) }
         ensures kept { OnErr result (self.new.left ≡ left) }
-        ensures told { TellsRead result self.old self.new }
+        ensures reported { ReportsRead result self.old self.new }
         ensures file { IfOk result (λ count. Consumes (F.remaining self.old.file)
             (F.remaining self.new.file) (take count buffer.new)) }
     {
@@ -132,7 +132,7 @@ impl<F: Write + Drop> Sink for DirSink<F> {
         ensures refusal { IfErr result (IsEndFault None) }
         ensures file { OnOk result
             (Appends (F.contents self.old.file) (F.contents self.new.file) octets.now) }
-        ensures told { TellsWrite result self.old.calls self.new.calls }
+        ensures reported { ReportsWrite result self.old.calls self.new.calls }
     {
         match self.file.write(octets) {
             Ok(()) => Ok(()),

@@ -126,14 +126,14 @@ impl<M: FolderMachine + Drop> Store<M::A> for DirStore<M> {
 
     fn stat(&mut self, path: &VPath<M::A>) -> Result<Meta, StoreFault> {
         match self.folder.look_at(path) {
-            Ok(told) => Ok(told),
+            Ok(reported) => Ok(reported),
             Err(fault) => Err(self.refused(fault)),
         }
     }
 
     fn list(&mut self, path: &VPath<M::A>) -> Result<Vec<ListedEntry<M::A>, M::A>, StoreFault> {
         match self.folder.list(path) {
-            Ok(told) => Ok(told),
+            Ok(reported) => Ok(reported),
             Err(fault) => Err(self.refused(fault)),
         }
     }
@@ -169,35 +169,35 @@ impl<M: FolderMachine + Drop> Store<M::A> for DirStore<M> {
 
     fn finish(&mut self, sink: DirSink<M::File>, _moment: u64) -> Result<(), StoreFault> {
         match self.folder.finish(sink.into_file()) {
-            Ok(told) => Ok(told),
+            Ok(reported) => Ok(reported),
             Err(fault) => Err(self.refused(fault)),
         }
     }
 
     fn make_dir(&mut self, path: &VPath<M::A>) -> Result<(), StoreFault> {
         match self.folder.make_directory(path) {
-            Ok(told) => Ok(told),
+            Ok(reported) => Ok(reported),
             Err(fault) => Err(self.refused(fault)),
         }
     }
 
     fn remove_dir(&mut self, path: &VPath<M::A>) -> Result<(), StoreFault> {
         match self.folder.remove_directory(path) {
-            Ok(told) => Ok(told),
+            Ok(reported) => Ok(reported),
             Err(fault) => Err(self.refused(fault)),
         }
     }
 
     fn remove_file(&mut self, path: &VPath<M::A>) -> Result<(), StoreFault> {
         match self.folder.remove_file(path) {
-            Ok(told) => Ok(told),
+            Ok(reported) => Ok(reported),
             Err(fault) => Err(self.refused(fault)),
         }
     }
 
     fn rename(&mut self, from: &VPath<M::A>, to: &VPath<M::A>) -> Result<(), StoreFault> {
         match self.folder.rename(from, to) {
-            Ok(told) => Ok(told),
+            Ok(reported) => Ok(reported),
             Err(fault) => Err(self.refused(fault)),
         }
     }

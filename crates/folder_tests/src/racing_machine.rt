@@ -155,11 +155,11 @@ impl<R: Files + Alloc> FolderMachine for Racing<'_, R> {
             return Err(io::Error::from_raw_os_error(STALE));
         }
         self.before(path)?;
-        let told = self.rt.look(path);
-        if path.ends_with("/n") && told.is_err() {
+        let reported = self.rt.look(path);
+        if path.ends_with("/n") && reported.is_err() {
             self.come_late(path)?;
         }
-        told
+        reported
     }
 
     fn follow(&mut self, path: &str) -> io::Result<Looked> {

@@ -4,7 +4,7 @@
 use crate::expect::{comes_out_in, fresh_folder, take_away};
 use memory_store::MemStore;
 use std::process::Abort;
-use test_store_script::{read_line, told};
+use test_store_script::{read_line, reported};
 
 static CALLS: [&str; 11] = [
     "make",
@@ -52,8 +52,8 @@ fn add_line(
     call: &str,
 ) {
     let asked = read_line(rt.alloc(), rt.alloc(), call).expect(rt, call);
-    let told = told(rt.alloc(), store, &asked).expect(rt, call);
-    let line = format!(in rt.alloc(); "\n{call} = {told}").expect(rt, "memory");
+    let reported = reported(rt.alloc(), store, &asked).expect(rt, call);
+    let line = format!(in rt.alloc(); "\n{call} = {reported}").expect(rt, "memory");
     script.push_str(line.as_str()).expect(rt, "memory");
 }
 

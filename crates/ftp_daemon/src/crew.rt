@@ -43,7 +43,7 @@ where
     }
 
     fn keep_rounds(&self) {
-        keep_rounds(&self.rt, &self.house, &self.lent.desk, &self.lent.turns);
+        keep_rounds(&self.rt, &self.house, &self.lent.desk, &self.lent.paced);
     }
 
     // Each lane takes a pass of its own; there is one for each.
@@ -54,7 +54,7 @@ where
                 &self.rt,
                 &self.house,
                 &self.lent.desk,
-                &self.lent.turns,
+                &self.lent.paced,
                 &mut *worker.lock(&self.rt),
                 pass,
             ),
@@ -64,7 +64,7 @@ where
 
     fn watch(&self) {
         match &self.signs {
-            Some(signs) => watch(&self.rt, &self.house, &self.lent.turns, signs),
+            Some(signs) => watch(&self.rt, &self.house, &self.lent.paced, signs),
             None => {}
         }
     }

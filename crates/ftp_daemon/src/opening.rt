@@ -5,7 +5,7 @@ ghost use Rattle.lane_desk.specs.Open.{AreFresh};
 ghost use Rattle.desk_rule.specs.Lanes.{posted_in};
 ghost use Rattle.lane_desk.specs.Seats.{desk_id};
 ghost use Rattle.lane_desk.specs.Posted.{AllAnswered};
-ghost use Rattle.lane_desk.specs.Turns.{back, turns, IsRoundOf};
+ghost use Rattle.lane_desk.specs.Traces.{back, traces, IsRoundOf};
 ghost use Rattle.round_pace.specs.Earned.{tick_of};
 ghost use Rattle.round_pace.specs.Paced.{IsPacedFrom};
 
@@ -194,9 +194,9 @@ pub(crate) struct Line {
     pub(crate) tally: Tally<()>,
     pub(crate) room: Vec<Worked<()>>,
     ghost unmoved: { IsRoundOf desk round × (back round ≡ []) },
-    ghost begun: { AllAnswered (turns round) × (posted_in (turns round) ≡ 0) },
+    ghost begun: { AllAnswered (traces round) × (posted_in (traces round) ≡ 0) },
     ghost fresh: { AreFresh (desk_id desk) desk.lanes seats.items },
-    ghost told: { book.issued ≡ tally.moved + tally.back },
+    ghost reported: { book.issued ≡ tally.moved + tally.back },
     ghost unissued: { book.issued ≡ 0 },
     ghost empty: { (room.items ≡ []) × (length seats.items ≤ vec_capacity room) },
 }

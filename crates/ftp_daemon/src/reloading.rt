@@ -6,7 +6,7 @@ ghost use Rattle.rate_floors.specs.Carried.{carried};
 ghost use Rattle.round_pace.specs.Changed.{IsChangedTo};
 
 use crate::opening::new_cadence;
-use lane_rounds::Turns;
+use lane_rounds::TalliedRounds;
 use lent_parts::PartsName;
 use line_rates::Limits;
 use passive_ports::{LimitFault, Registry};
@@ -67,7 +67,7 @@ fn put_in_force<B: PartsName>(
     alloc: Global,
     registry: &mut Registry,
     floors: &mut Floors,
-    turns: &mut Turns<B, ()>,
+    paced: &mut TalliedRounds<B, ()>,
     counts: Counts,
     limits: Limits,
 ) -> Result<(), ReloadFault>
@@ -75,12 +75,12 @@ fn put_in_force<B: PartsName>(
     ensures registry { OnOk result
         (registry.new ≡ with_limits registry.old counts.max counts.max_of_address) }
     ensures floors { OnOk result (carried floors.old limits ≡ Ok floors.new) }
-    ensures pace { OnOk result (IsChangedTo limits turns.old.rounds.rounds.pace
-        turns.new.rounds.rounds.pace) }
+    ensures pace { OnOk result (IsChangedTo limits paced.old.rounds.rounds.pace
+        paced.new.rounds.rounds.pace) }
     ensures same_registry { OnErr result (registry.new ≡ registry.old) }
     ensures same_floors { OnErr result (floors.new ≡ floors.old) }
     ensures same_pace { OnErr result
-        (turns.new.rounds.rounds.pace ≡ turns.old.rounds.rounds.pace) }
+        (paced.new.rounds.rounds.pace ≡ paced.old.rounds.rounds.pace) }
 {
     let Counts {
         max,
@@ -97,7 +97,7 @@ fn put_in_force<B: PartsName>(
     let Ok(cadence) = new_cadence(alloc, &limits) else {
         return Err(ReloadFault::Memory);
     };
-    match turns.change(alloc, limits, cadence) {
+    match paced.change(alloc, limits, cadence) {
         Ok(()) => {
             registry.set_limits(max, max_of_address);
             *floors = carried;
@@ -113,7 +113,7 @@ pub(crate) fn take<R, S, H, B>(
     rt: &R,
     alloc: Global,
     house: &House<S, H, B>,
-    turns: &Mutex<Turns<B, ()>>,
+    paced: &Mutex<TalliedRounds<B, ()>>,
     reload: Reload,
 ) -> Result<(), ReloadFault>
 where
@@ -135,12 +135,12 @@ where
     };
     let mut registry = house.registry.lock(rt);
     let mut floors = house.floors.lock(rt);
-    let mut turns = turns.lock(rt);
+    let mut paced = paced.lock(rt);
     put_in_force(
         alloc,
         &mut *registry,
         &mut *floors,
-        &mut *turns,
+        &mut *paced,
         counts,
         limits,
     )?;

@@ -251,7 +251,7 @@ where
 }
 
 // Writes the numbers of octets issued, moved and given back.
-fn tell_settled<W: TextWriter>(
+fn report_settled<W: TextWriter>(
     alloc: Global,
     settled: &Settled,
     writer: &mut W,
@@ -327,6 +327,6 @@ where
         rt, rooms, board, passes, line, listener, writer,
     );
     served?;
-    tell_settled(rt.alloc(), &settled, writer)?;
+    report_settled(rt.alloc(), &settled, writer)?;
     Ok(settled)
 }

@@ -9,14 +9,14 @@ ghost use Rattle.paced_rounds.specs.Seconds.{HasKept};
 use crate::opening::Line;
 use grant_ledger::{Settled, Tally};
 use lane_desk::{Desk, LaneSeat, Rounds, Worked, settle_all};
-use lane_rounds::Turns;
+use lane_rounds::TalliedRounds;
 use lent_parts::{LentDesk, LentWorker, PartsName, settle_lent};
 use std::sync::{Mutex, Wait};
 
 /// The parts of its desk that a server lends to its threads. It cannot be dropped.
 pub(crate) struct Lent<B: PartsName> {
     pub(crate) desk: LentDesk<B, ()>,
-    pub(crate) turns: Mutex<Turns<B, ()>>,
+    pub(crate) paced: Mutex<TalliedRounds<B, ()>>,
     /// The seats, in the order of their lanes: the thread of a lane has the lock of its own.
     pub(crate) workers: Vec<Mutex<LentWorker<B, ()>>>,
 }
@@ -55,12 +55,12 @@ pub(crate) fn settle_served<R: Wait, B: PartsName>(rt: &R, lent: Lent<B>, room: 
 {
     let Lent {
         desk,
-        turns,
+        paced,
         workers,
     } = lent;
     let Room { gathered, worked } = room;
     let workers = unlocked(workers, gathered);
-    let rounds = turns.into_inner().into_rounds();
+    let rounds = paced.into_inner().into_rounds();
     settle_lent(rt, desk, rounds, workers, worked)
 }
 

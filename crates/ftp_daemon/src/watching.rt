@@ -11,7 +11,7 @@ use data_sockets::socket_address;
 use event_word::{has_passed, micros};
 use grant_ledger::MAX_LANES;
 use handler_hooks::Hooks;
-use lane_rounds::{Turns, look};
+use lane_rounds::{TalliedRounds, look};
 use lent_parts::PartsName;
 use round_tally::Tallies;
 use server_house::{
@@ -103,14 +103,14 @@ fn lanes_of(signs: &[LaneSign], tallies: &Tallies) -> [LaneLook; MAX_LANES] {
 }
 
 // Shows the handler what goes on, if no round is in the way.
-fn show<R, S, H, B>(rt: &R, house: &House<S, H, B>, turns: &Mutex<Turns<B, ()>>)
+fn show<R, S, H, B>(rt: &R, house: &House<S, H, B>, paced: &Mutex<TalliedRounds<B, ()>>)
 where
     R: Wait + Clock,
     S: Store<Global>,
     H: ServerHooks,
     B: PartsName,
 {
-    let Some(look) = look(rt, house, turns) else {
+    let Some(look) = look(rt, house, paced) else {
         return;
     };
     let lanes = lanes_of(&house.lanes, &look.tallies);
@@ -168,7 +168,12 @@ where
 }
 
 // Takes the configuration of a sign, if there is one, and tells the handler what came of it.
-fn reload<R, S, H, B, P>(rt: &R, house: &House<S, H, B>, turns: &Mutex<Turns<B, ()>>, signs: &P)
+fn reload<R, S, H, B, P>(
+    rt: &R,
+    house: &House<S, H, B>,
+    paced: &Mutex<TalliedRounds<B, ()>>,
+    signs: &P,
+)
 where
     R: Wait + AllocGlobal,
     S: Store<Global>,
@@ -180,7 +185,7 @@ where
     let outcome = match signs.reload() {
         ReloadSign::Nothing => return,
         ReloadSign::Refused(reason) => Err(reason),
-        ReloadSign::Asked(reload) => match take(rt, rt.alloc(), house, turns, reload) {
+        ReloadSign::Asked(reload) => match take(rt, rt.alloc(), house, paced, reload) {
             Ok(()) => Ok(()),
             Err(fault) => Err(signs.refused(fault)),
         },
@@ -201,7 +206,7 @@ where
 pub(crate) fn watch<R, S, H, B, P>(
     rt: &R,
     house: &House<S, H, B>,
-    turns: &Mutex<Turns<B, ()>>,
+    paced: &Mutex<TalliedRounds<B, ()>>,
     signs: &P,
 )
 where
@@ -235,10 +240,10 @@ where
         if begin(rt, house, next, clients) {
             return;
         }
-        reload(rt, house, turns, signs);
+        reload(rt, house, paced, signs);
         if signs.wants_looks() && has_passed(shown, now, SECOND) {
             shown = shown.saturating_add(SECOND);
-            show(rt, house, turns);
+            show(rt, house, paced);
             signs.looked();
         }
         thread::sleep(rt, Duration::from_millis(LOOK));

@@ -17,7 +17,7 @@ use crate::watching::OwnerSigns;
 use grant_ledger::Tally;
 use handler_hooks::Hooks;
 use lane_desk::{LaneSeat, Rounds};
-use lane_rounds::{RoundClock, Turns};
+use lane_rounds::{RoundClock, TalliedRounds};
 use lent_parts::{LentDesk, LentPass, LentRounds, LentWorker, PartsName};
 use paced_rounds::PacedRounds;
 use round_cadence::Cadence;
@@ -175,7 +175,7 @@ impl<B: PartsName> LentLine<B> {
         let rounds = PacedRounds::new(rounds, pace, cadence, begun);
         let lent = Lent {
             desk,
-            turns: Mutex::new(Turns::new(LentRounds::new(rounds), is_watched)),
+            paced: Mutex::new(TalliedRounds::new(LentRounds::new(rounds), is_watched)),
             workers,
         };
         (lent, room)

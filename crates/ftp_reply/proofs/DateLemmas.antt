@@ -44,4 +44,4 @@ IsAscii-time_val seconds date =
     (IsAscii-zeroed 2 (seconds % 60) (omega arith))
 
 pub IsAscii-from_time_val : (seconds : ℕ) (text : List ℕ) → IsTimeVal seconds text → IsAscii text
-IsAscii-from_time_val seconds text told = subst IsAscii (sym told.text_is) (IsAscii-time_val seconds told.date)
+IsAscii-from_time_val seconds text reported = subst IsAscii (sym reported.text_is) (IsAscii-time_val seconds reported.date)

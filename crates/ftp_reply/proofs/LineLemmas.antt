@@ -113,18 +113,18 @@ plain_octets (octet ∷ path) line =
 -- ---- what the calls give
 
 pub line_dated : (seconds : ℕ) (text : List ℕ) → IsTimeVal seconds text → IsLine text
-line_dated seconds text told = rw told.text_is (plain_time_val seconds told.date).is
+line_dated seconds text reported = rw reported.text_is (plain_time_val seconds reported.date).is
 
 pub line_listed : (entry : Meta) (name text : List ℕ) → IsListLine entry name text → IsLine name → IsLine text
-line_listed entry name text told line = rw told.text_is (plain_list_text entry name told.date (plain name line)).is
+line_listed entry name text reported line = rw reported.text_is (plain_list_text entry name reported.date (plain name line)).is
 
 pub line_entry : (entry : Meta) (facts : Facts) (letters : Letters) (path text : List ℕ)
     → IsMlstEntry entry facts letters path text → IsLine path → IsLine text
-line_entry entry facts letters path text told line =
-    let modified = plain told.modified (line_dated entry.modified told.modified told.modified_is) in
+line_entry entry facts letters path text reported line =
+    let modified = plain reported.modified (line_dated entry.modified reported.modified reported.modified_is) in
     let space = plain (codes " ") refl in
-    rw told.text_is (both (both (plain_facts entry facts letters told.modified modified) space) (plain path line)).is
+    rw reported.text_is (both (both (plain_facts entry facts letters reported.modified modified) space) (plain path line)).is
 
 pub line_quoted : (path text : List ℕ) → text ≡ quoted path → IsLine path → IsLine text
-line_quoted path text told line =
-    rw told (both (both (plain (codes "\"") refl) (plain_octets path line)) (plain (codes "\"") refl)).is
+line_quoted path text reported line =
+    rw reported (both (both (plain (codes "\"") refl) (plain_octets path line)) (plain (codes "\"") refl)).is

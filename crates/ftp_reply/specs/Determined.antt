@@ -8,7 +8,7 @@ use Rattle.ftp_reply.specs.Listings.{IsListLine, IsMlstEntry}
 
 -- at most one text satisfies the predicate
 abbrev pub HasOneText : (List ℕ → Type 0) → Type 0
-HasOneText Told = (text other : List ℕ) → Told text → Told other → text ≡ other
+HasOneText Reported = (text other : List ℕ) → Reported text → Reported other → text ≡ other
 
 -- a moment has one text, an entry has one line, and an entry with its facts and letters has one
 -- text

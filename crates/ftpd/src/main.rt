@@ -75,7 +75,7 @@ const LAST_ROOM: u16 = 1_000;
 
 /// Returns whether a fault of this ending can be told: that of a server only if its reader has room for it, since a server
 /// waits for no reader.
-fn can_tell(ending: &FtpdExit<'_>) -> bool {
+fn can_report(ending: &FtpdExit<'_>) -> bool {
     match ending {
         FtpdExit::Server(_) => StandardError.readiness(LAST_ROOM) == Readiness::Ready,
         _ => true,
@@ -84,7 +84,7 @@ fn can_tell(ending: &FtpdExit<'_>) -> bool {
 
 /// Reports the ending on standard error, and returns its status. If nobody reads the output any more, that is not
 /// reported as a fault, except for a server, which was to go on.
-fn told<W: Write>(
+fn reported<W: Write>(
     machine: &HostRuntime,
     ending: &FtpdExit<'_>,
     start: Option<&StartFault>,
@@ -93,13 +93,13 @@ fn told<W: Write>(
     if output.0.is_closed() && !matches!(ending, FtpdExit::Server(_)) {
         return NOBODY_READS;
     }
-    let told = FtpdErrorText {
+    let reported = FtpdErrorText {
         ending,
         output: output.0.error(),
         start,
     };
-    if can_tell(ending) {
-        let _ = eprint!(machine; "{told}");
+    if can_report(ending) {
+        let _ = eprint!(machine; "{reported}");
     }
     ending.status()
 }
@@ -120,14 +120,14 @@ where
     let mut output = FallibleIo(Noted::new(io::writer(machine)));
     let texts = match line_words(machine) {
         Ok(texts) => texts,
-        Err(ending) => return told(machine, &FtpdExit::Common(ending), None, &output),
+        Err(ending) => return reported(machine, &FtpdExit::Common(ending), None, &output),
     };
     let words = match as_words(rt.alloc(), texts.as_slice()) {
         Ok(words) => words,
-        Err(ending) => return told(machine, &FtpdExit::Common(ending), None, &output),
+        Err(ending) => return reported(machine, &FtpdExit::Common(ending), None, &output),
     };
     let (ending, start) = run(rt, machine, words.as_slice(), &mut output);
-    told(machine, &ending, start.as_ref(), &output)
+    reported(machine, &ending, start.as_ref(), &output)
 }
 
 fn main(rt: HostRuntime) -> ExitCode {

@@ -60,7 +60,7 @@ fn key_of(way: Way) -> &'static str {
 
 /// A limit in words: its key, and whose it is.
 fn limit_words(alloc: Global, known: &Known, name: Name) -> Option<String> {
-    let told = match name {
+    let reported = match name {
         Name::Server => String::from_str(alloc, "`rate` of the server"),
         Name::Direction(way) => format!(in alloc; "`{}` of the server", key_of(way)),
         Name::Group(way, group) => {
@@ -76,7 +76,7 @@ fn limit_words(alloc: Global, known: &Known, name: Name) -> Option<String> {
             format!(in alloc; "`session_{}` of the user {name:?}", key_of(way))
         }
     };
-    told.ok()
+    reported.ok()
 }
 
 /// The root of a store, as a configuration states it.

@@ -80,7 +80,7 @@ enum Hindrance {
     /// There is something at the path.
     There,
     /// The machine's reason.
-    Told(io::Error),
+    Reported(io::Error),
 }
 
 /// Returns the reason for which no file can appear at a path, if there is one.
@@ -91,7 +91,7 @@ fn hindrance_at(machine: &HostRuntime, path: &str) -> Option<Hindrance> {
         Err(_) => no_folder(machine, folder_of(path)),
     };
     match reason {
-        Some(reason) => Some(Hindrance::Told(reason)),
+        Some(reason) => Some(Hindrance::Reported(reason)),
         None => None,
     }
 }
@@ -108,11 +108,14 @@ enum Sign {
 fn sign_fault(sign: Sign, path: String, hindrance: Hindrance) -> StartFault {
     match (sign, hindrance) {
         (Sign::Stop, Hindrance::There) => StartFault::StopFileThere { path },
-        (Sign::Stop, Hindrance::Told(reason)) => StartFault::StopFileUnseen { path, reason },
+        (Sign::Stop, Hindrance::Reported(reason)) => StartFault::StopFileUnseen { path, reason },
         (Sign::Drain, Hindrance::There) => StartFault::DrainFileThere { path },
-        (Sign::Drain, Hindrance::Told(reason)) => StartFault::DrainFileUnseen { path, reason },
+        (Sign::Drain, Hindrance::Reported(reason)) => StartFault::DrainFileUnseen { path, reason },
         (Sign::Reload, Hindrance::There) => StartFault::ReloadFileThere { path },
-        (Sign::Reload, Hindrance::Told(reason)) => StartFault::ReloadFileUnseen { path, reason },
+        (Sign::Reload, Hindrance::Reported(reason)) => StartFault::ReloadFileUnseen {
+            path,
+            reason,
+        },
     }
 }
 
@@ -151,7 +154,7 @@ fn ready_if_any(
 fn ready_at(machine: &HostRuntime, path: String) -> Result<MachineReadyFile, StartFault> {
     match hindrance_at(machine, path.as_str()) {
         Some(Hindrance::There) => Err(StartFault::ReadyFileThere { path }),
-        Some(Hindrance::Told(reason)) => Err(StartFault::ReadyFileUnmade { path, reason }),
+        Some(Hindrance::Reported(reason)) => Err(StartFault::ReadyFileUnmade { path, reason }),
         None => Ok(MachineReadyFile {
             machine: *machine,
             path,

@@ -28,12 +28,12 @@ written_end json config other new old Refuses before after report (Common Done) 
 written_end json config other new old Refuses before after report NoReload of is = (report, of, is.0, is.1)
 written_end json config other new old Refuses before after report (Common (Text fault cause)) of is = inr (is.0, (report, of, is.1))
 written_end json config other new old Refuses before after report (Common Flawed) of is = absurd is
-written_end json config other new old Refuses before after report (Common (Refused told)) of is = absurd is
+written_end json config other new old Refuses before after report (Common (Refused reported)) of is = absurd is
 written_end json config other new old Refuses before after report (Common (Share fault cause)) of is = absurd is
 written_end json config other new old Refuses before after report (Common (Check fault cause)) of is = absurd is
 written_end json config other new old Refuses before after report (Config fault) of is = absurd is
 written_end json config other new old Refuses before after report (ConfigOf file fault) of is = absurd is
-written_end json config other new old Refuses before after report (Transfers name told) of is = absurd is
+written_end json config other new old Refuses before after report (Transfers name reported) of is = absurd is
 written_end json config other new old Refuses before after report (Session fault) of is = absurd is
 written_end json config other new old Refuses before after report (Server fault) of is = absurd is
 written_end json config other new old Refuses before after report (Status file fault) of is = absurd is
@@ -46,36 +46,36 @@ refused_end json config other new old Refuses before after (Common (Text fault c
 refused_end json config other new old Refuses before after (ConfigOf file fault) is = is
 refused_end json config other new old Refuses before after (Common Done) is = absurd is
 refused_end json config other new old Refuses before after (Common Flawed) is = absurd is
-refused_end json config other new old Refuses before after (Common (Refused told)) is = absurd is
+refused_end json config other new old Refuses before after (Common (Refused reported)) is = absurd is
 refused_end json config other new old Refuses before after (Common (Share fault cause)) is = absurd is
 refused_end json config other new old Refuses before after (Common (Check fault cause)) is = absurd is
 refused_end json config other new old Refuses before after NoReload is = absurd is
 refused_end json config other new old Refuses before after (Config fault) is = absurd is
-refused_end json config other new old Refuses before after (Transfers name told) is = absurd is
+refused_end json config other new old Refuses before after (Transfers name reported) is = absurd is
 refused_end json config other new old Refuses before after (Session fault) is = absurd is
 refused_end json config other new old Refuses before after (Server fault) is = absurd is
 refused_end json config other new old Refuses before after (Status file fault) is = absurd is
 refused_end json config other new old Refuses before after (Watches status rows) is = absurd is
 
 -- a refused line
-pub no_line : (told : List ℕ) (exit : Exit) → IsRefusedAs told exit → IsNoLine exit
-no_line told (Refused text) is = tt
-no_line told Done is = absurd is
-no_line told Flawed is = absurd is
-no_line told (Text fault cause) is = is
-no_line told (Share fault cause) is = absurd is
-no_line told (Check fault cause) is = absurd is
+pub no_line : (reported : List ℕ) (exit : Exit) → IsRefusedAs reported exit → IsNoLine exit
+no_line reported (Refused text) is = tt
+no_line reported Done is = absurd is
+no_line reported Flawed is = absurd is
+no_line reported (Text fault cause) is = is
+no_line reported (Share fault cause) is = absurd is
+no_line reported (Check fault cause) is = absurd is
 
-pub line_why : (told path : List ℕ) (may : Type 0) (exit : Exit) → IsRefusedAs told exit → IsReadWhy path may (Common exit)
-line_why told path may (Refused text) is = tt
-line_why told path may Done is = absurd is
-line_why told path may Flawed is = absurd is
-line_why told path may (Text fault cause) is = (
+pub line_why : (reported path : List ℕ) (may : Type 0) (exit : Exit) → IsRefusedAs reported exit → IsReadWhy path may (Common exit)
+line_why reported path may (Refused text) is = tt
+line_why reported path may Done is = absurd is
+line_why reported path may Flawed is = absurd is
+line_why reported path may (Text fault cause) is = (
   λ read. let bad : Memory ≡ ReadFault = sym is ∙ read in absurd (cc),
   λ long. let bad : Memory ≡ TooLong = sym is ∙ long in absurd (cc),
 )
-line_why told path may (Share fault cause) is = absurd is
-line_why told path may (Check fault cause) is = absurd is
+line_why reported path may (Share fault cause) is = absurd is
+line_why reported path may (Check fault cause) is = absurd is
 
 -- a file that cannot be read: nothing is written
 pub without_text : (gives : Octets) (path : List ℕ) (exit : Exit) → IsUnread gives path exit → IsWithoutText (Common exit)
@@ -130,13 +130,13 @@ change_why json config other new old path may Refuses before after (Common (Text
 )
 change_why json config other new old path may Refuses before after (Common Done) is = tt
 change_why json config other new old path may Refuses before after (Common Flawed) is = tt
-change_why json config other new old path may Refuses before after (Common (Refused told)) is = tt
+change_why json config other new old path may Refuses before after (Common (Refused reported)) is = tt
 change_why json config other new old path may Refuses before after (Common (Share fault cause)) is = tt
 change_why json config other new old path may Refuses before after (Common (Check fault cause)) is = tt
 change_why json config other new old path may Refuses before after NoReload is = tt
 change_why json config other new old path may Refuses before after (Config fault) is = tt
 change_why json config other new old path may Refuses before after (ConfigOf file fault) is = tt
-change_why json config other new old path may Refuses before after (Transfers name told) is = tt
+change_why json config other new old path may Refuses before after (Transfers name reported) is = tt
 change_why json config other new old path may Refuses before after (Session fault) is = tt
 change_why json config other new old path may Refuses before after (Server fault) is = tt
 change_why json config other new old path may Refuses before after (Status file fault) is = absurd is

@@ -5,7 +5,7 @@ use Rattle.client_patience.specs.declared.patience.Patience.{Patience}
 use Rattle.command_line.specs.declared.words.WordsFault.{WordsFault}
 use Rattle.command_line.specs.declared.words.WordsFault.TheVariants.{Memory as NoMemory, Refused as NoCommand}
 use Rattle.config_report.specs.Looks.{Shown}
-use Rattle.sheets_program.specs.Endings.{IsToldEnd}
+use Rattle.sheets_program.specs.Endings.{IsReportedEnd}
 use Rattle.sheets_program.specs.Runs.{Octets}
 use Rattle.sheets_program.specs.declared.ending.Exit.{Exit}
 use Rattle.sheets_program.specs.declared.ending.Exit.TheVariants.{Done, Flawed, Refused, Text, Share, Check}
@@ -19,7 +19,7 @@ use Rattle.ftpd_program.specs.declared.ending.FtpdExit.TheVariants.{Common}
 use Rattle.ftpd_program.specs.declared.printing.Print.{Print}
 use Rattle.ftpd_program.specs.declared.printing.Print.TheVariants.{Table}
 
-pub no_serve : (gives : Octets) (shown : Shown) (config : List ℕ) (serves : Service) (path ready : Option (List ℕ)) (p : Patience) (old new : Option (List ℕ)) (fault : WordsFault) (exit : Exit) → fault ≡ NoMemory → IsToldEnd fault old new exit
+pub no_serve : (gives : Octets) (shown : Shown) (config : List ℕ) (serves : Service) (path ready : Option (List ℕ)) (p : Patience) (old new : Option (List ℕ)) (fault : WordsFault) (exit : Exit) → fault ≡ NoMemory → IsReportedEnd fault old new exit
     → IsServeEnd gives shown config serves path ready p old new (Common exit)
 no_serve gives shown config serves path ready p old new NoMemory (Text why cause) is end = subst (λ (w : TextFault). IsReadingFaultOf gives w) (sym end) tt
 no_serve gives shown config serves path ready p old new NoMemory Done is end = absurd end
@@ -29,7 +29,7 @@ no_serve gives shown config serves path ready p old new NoMemory (Share why caus
 no_serve gives shown config serves path ready p old new NoMemory (Check why cause) is end = absurd end
 no_serve gives shown config serves path ready p old new (NoCommand text is_help) exit is end = absurd (cc)
 
-pub no_print : (print : Print) (shown : Shown) (gives : Octets) (Refuses : List ℕ → Type 0) (old new : Option (List ℕ)) (fault : WordsFault) (exit : Exit) → fault ≡ NoMemory → IsToldEnd fault old new exit
+pub no_print : (print : Print) (shown : Shown) (gives : Octets) (Refuses : List ℕ → Type 0) (old new : Option (List ℕ)) (fault : WordsFault) (exit : Exit) → fault ≡ NoMemory → IsReportedEnd fault old new exit
     → IsPrintEnd print shown gives Refuses old new (Common exit)
 no_print print shown gives Refuses old new NoMemory (Text why cause) is end = subst (λ (w : TextFault). IsPrintingFaultOf gives (IsPrintOf print shown) Refuses w) (sym end) tt
 no_print print shown gives Refuses old new NoMemory Done is end = absurd end
@@ -39,7 +39,7 @@ no_print print shown gives Refuses old new NoMemory (Share why cause) is end = a
 no_print print shown gives Refuses old new NoMemory (Check why cause) is end = absurd end
 no_print print shown gives Refuses old new (NoCommand text is_help) exit is end = absurd (cc)
 
-pub no_against : (json : Bool) (gives : List ℕ → Octets) (config other : List ℕ) (Refuses : List ℕ → Type 0) (old new : Option (List ℕ)) (fault : WordsFault) (exit : Exit) → fault ≡ NoMemory → IsToldEnd fault old new exit
+pub no_against : (json : Bool) (gives : List ℕ → Octets) (config other : List ℕ) (Refuses : List ℕ → Type 0) (old new : Option (List ℕ)) (fault : WordsFault) (exit : Exit) → fault ≡ NoMemory → IsReportedEnd fault old new exit
     → IsAgainstEnd json gives config other Refuses old new (Common exit)
 no_against json gives config other Refuses old new NoMemory (Text why cause) is end =
     inr (inl (inl (subst (λ (w : TextFault). IsReadingFaultOf (gives config) w) (sym end) tt, λ apart. absurd (apart end))))
@@ -50,7 +50,7 @@ no_against json gives config other Refuses old new NoMemory (Share why cause) is
 no_against json gives config other Refuses old new NoMemory (Check why cause) is end = absurd end
 no_against json gives config other Refuses old new (NoCommand text is_help) exit is end = absurd (cc)
 
-pub no_top : (once : Bool) (path : List ℕ) (rows : ℕ) (shown : Shown) (gives : Octets) (Refuses : List ℕ → Type 0) (old new : Option (List ℕ)) (fault : WordsFault) (exit : Exit) → fault ≡ NoMemory → IsToldEnd fault old new exit
+pub no_top : (once : Bool) (path : List ℕ) (rows : ℕ) (shown : Shown) (gives : Octets) (Refuses : List ℕ → Type 0) (old new : Option (List ℕ)) (fault : WordsFault) (exit : Exit) → fault ≡ NoMemory → IsReportedEnd fault old new exit
     → IsTopEnd once path rows (IsPrintEnd (Table rows) shown gives Refuses old new) (Common exit)
 no_top once path rows shown gives Refuses old new NoMemory (Text why cause) is end = subst (λ (w : TextFault). IsPrintingFaultOf gives (IsPrintOf (Table rows) shown) Refuses w) (sym end) tt
 no_top once path rows shown gives Refuses old new NoMemory Done is end = absurd end

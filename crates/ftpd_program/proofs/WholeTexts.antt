@@ -12,16 +12,16 @@ pub whole : (text rest items : List ℕ) → Consumes (Some text) (Some rest) it
 whole text rest items taken end = sym (append-nil items) ∙ ap (λ (r : List ℕ). items ++ r) (sym end) ∙ sym taken
 
 -- a text about the octets that were read is one about the text
-pub told : (print : Print) (shown : Shown) (old new : Option (List ℕ)) (items read printed : List ℕ) (before after : Option (List ℕ)) → Consumes old new items → IsAtEnd new → read ≡ items
+pub reported : (print : Print) (shown : Shown) (old new : Option (List ℕ)) (items read printed : List ℕ) (before after : Option (List ℕ)) → Consumes old new items → IsAtEnd new → read ≡ items
     → IsPrintOf print shown read printed → Appends before after printed → AppendsPrint print shown old before after
-told print shown None new items read printed before after taken end same prints appended = tt
-told print shown (Some text) None items read printed before after taken end same prints appended = absurd taken
-told print shown (Some text) (Some rest) items read printed before after taken end same prints appended =
+reported print shown None new items read printed before after taken end same prints appended = tt
+reported print shown (Some text) None items read printed before after taken end same prints appended = absurd taken
+reported print shown (Some text) (Some rest) items read printed before after taken end same prints appended =
     (printed, subst (λ (t : List ℕ). IsPrintOf print shown t printed) (same ∙ whole text rest items taken end) prints, appended)
 
 -- a refusal of the octets that were read is one of the text of the end
 pub refused_at : (print : Print) (left : Option (List ℕ)) (text : List ℕ) (fault : PrintFault) → IsTextOf text left → IsPrintRefusal print text fault → IsPrintFault print left fault
 refused_at print left text (Text why) of is = tt
 refused_at print left text (Config why) of is = (text, of, is)
-refused_at print left text (Transfers name told) of is = is
+refused_at print left text (Transfers name reported) of is = is
 refused_at print left text (Status why) of is = (is.0, (text, of, is.1))

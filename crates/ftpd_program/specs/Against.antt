@@ -32,8 +32,8 @@ IsUnread gives path _ = ⊥
 -- ---- two texts
 
 -- the report on the change from the old text to the new one, with that verdict, is appended
-abbrev pub IsChangeTold : Bool → List ℕ → List ℕ → Bool → Option (List ℕ) → Option (List ℕ) → Type 0
-IsChangeTold json new old refused before after =
+abbrev pub IsChangeReported : Bool → List ℕ → List ℕ → Bool → Option (List ℕ) → Option (List ℕ) → Type 0
+IsChangeReported json new old refused before after =
     (report : ChangeReport) × IsReportOf json old new report × (report.is_refused ≡ refused)
     × Appends before after (string_bytes report.text)
 
@@ -65,9 +65,9 @@ IsRefusedChange config other new old _ = ⊥
 abbrev pub IsChangeEnd : Bool → List ℕ → List ℕ → List ℕ → List ℕ → (List ℕ → Type 0)
     → Option (List ℕ) → Option (List ℕ) → FtpdExit → Type 0
 IsChangeEnd json config other new old Refuses before after (Common Done) =
-    IsChangeTold json new old false before after
+    IsChangeReported json new old false before after
 IsChangeEnd json config other new old Refuses before after NoReload =
-    IsChangeTold json new old true before after
+    IsChangeReported json new old true before after
 IsChangeEnd json config other new old Refuses before after (Common (Text fault cause)) =
     (fault ≡ Memory) ⊎ ((fault ≡ WriteFault) × MayRefuseChange json new old Refuses)
 IsChangeEnd json config other new old Refuses before after (ConfigOf file fault) =

@@ -53,21 +53,21 @@ IsOfTable print = ⊥
 abbrev pub IsTableRefusal : List ℕ → PrintFault → Type 0
 IsTableRefusal text (Text why) = why ≡ Memory
 IsTableRefusal text (Config fault) = ⊥
-IsTableRefusal text (Transfers name told) = ⊥
+IsTableRefusal text (Transfers name reported) = ⊥
 IsTableRefusal text (Status fault) = IsReadFault text fault
 
 -- memory ran out, or the text or the transfers are refused
 abbrev pub IsPlanRefusal : List ℕ → PrintFault → Type 0
 IsPlanRefusal text (Text why) = why ≡ Memory
 IsPlanRefusal text (Config fault) = IsFaultOfText text fault
-IsPlanRefusal text (Transfers name told) = Unit {0}
+IsPlanRefusal text (Transfers name reported) = Unit {0}
 IsPlanRefusal text (Status fault) = ⊥
 
 -- memory ran out, or the text is refused for that fault
 abbrev pub IsPrintRefusal : Print → List ℕ → PrintFault → Type 0
 IsPrintRefusal print text (Text why) = why ≡ Memory
 IsPrintRefusal print text (Config fault) = IsUnprinted print text fault
-IsPrintRefusal print text (Transfers name told) = IsOfPlan print
+IsPrintRefusal print text (Transfers name reported) = IsOfPlan print
 IsPrintRefusal print text (Status fault) = IsOfTable print × IsReadFault text fault
 
 -- a text about the configuration of the octets that were read is appended
@@ -90,5 +90,5 @@ IsUntabledAt print left fault =
 abbrev pub IsPrintFault : Print → Option (List ℕ) → PrintFault → Type 0
 IsPrintFault print left (Text why) = Unit {0}
 IsPrintFault print left (Config fault) = IsUnprintedAt print left fault
-IsPrintFault print left (Transfers name told) = IsOfPlan print
+IsPrintFault print left (Transfers name reported) = IsOfPlan print
 IsPrintFault print left (Status fault) = IsUntabledAt print left fault

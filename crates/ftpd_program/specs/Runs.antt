@@ -31,7 +31,7 @@ IsPrintEnd print shown gives Refuses old new (Common (Text fault cause)) =
     IsPrintingFaultOf gives (IsPrintOf print shown) Refuses fault
 IsPrintEnd print shown gives Refuses old new (Config fault) =
     (text : Option (List ℕ)) × gives text × IsUnprintedAt print text fault
-IsPrintEnd print shown gives Refuses old new (Transfers name told) = IsOfPlan print
+IsPrintEnd print shown gives Refuses old new (Transfers name reported) = IsOfPlan print
 IsPrintEnd print shown gives Refuses old new (Status file fault) =
     (text : Option (List ℕ)) × gives text × IsUntabledAt print text fault
 IsPrintEnd print shown gives Refuses old new _ = ⊥
@@ -81,7 +81,7 @@ abbrev pub IsScriptEnd : (List ℕ → Octets) → List ℕ → Option (List ℕ
 IsScriptEnd gives config old new (Common Done) =
     ¬ IsInput config × ((text before after : Option (List ℕ))
     × gives config text × gives STANDARD_INPUT.now before × IsScripted text before after old new)
-IsScriptEnd gives config old new (Common (Refused told)) = IsInput config
+IsScriptEnd gives config old new (Common (Refused reported)) = IsInput config
 IsScriptEnd gives config old new (Common (Text fault cause)) = IsReadingFaultOf (gives config) fault
 IsScriptEnd gives config old new (Config fault) =
     (text : Option (List ℕ)) × gives config text × IsRefusalOf text fault

@@ -20,13 +20,13 @@ IsConfigOf left config = (text : List ℕ) × IsTextOf text left × IsConfigText
 -- the text is that of a configuration, with those warnings by the possible results of looks at the
 -- machine; the path is that of its file
 abbrev pub IsWarned : Shown → List ℕ → List ℕ → Config → List ℕ → Type 0
-IsWarned shown path text config told =
-    IsConfigText text config × AreWarningsOf shown path text told
+IsWarned shown path text config reported =
+    IsConfigText text config × AreWarningsOf shown path text reported
 
 -- the same for the text of an end
 abbrev pub IsWarnedOf : Shown → List ℕ → Option (List ℕ) → Config → List ℕ → Type 0
-IsWarnedOf shown path left config told =
-    (text : List ℕ) × IsTextOf text left × IsWarned shown path text config told
+IsWarnedOf shown path left config reported =
+    (text : List ℕ) × IsTextOf text left × IsWarned shown path text config reported
 
 -- the text of an end is refused for that fault
 abbrev pub IsRefusalOf : Option (List ℕ) → ConfigFault → Type 0

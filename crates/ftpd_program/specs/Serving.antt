@@ -24,15 +24,15 @@ Service =
 -- a file of a path that may have these contents has that configuration, with those warnings by the
 -- possible results of looks at the machine
 abbrev pub IsWarnedIn : Octets → Shown → List ℕ → Config → List ℕ → Type 0
-IsWarnedIn gives shown path config told =
-    (text : Option (List ℕ)) × gives text × IsWarnedOf shown path text config told
+IsWarnedIn gives shown path config reported =
+    (text : Option (List ℕ)) × gives text × IsWarnedOf shown path text config reported
 
 -- the server had that result for the configuration of the file, with its warnings
 abbrev pub IsAnswered : Octets → Shown → List ℕ → Service → Option (List ℕ) → Option (List ℕ)
     → Patience → Option (List ℕ) → Option (List ℕ) → Answer → Type 0
 IsAnswered gives shown path serves stop ready patience old new answer =
-    (config : Config) × (told : List ℕ) × IsWarnedIn gives shown path config told
-    × serves config told stop ready patience old new answer
+    (config : Config) × (reported : List ℕ) × IsWarnedIn gives shown path config reported
+    × serves config reported stop ready patience old new answer
 
 -- the ending of a command without a configuration of its file
 abbrev pub IsUnconfiguredEnd : Octets → FtpdExit → Type 0

@@ -23,20 +23,32 @@ pub enum FtpdExit<'w> {
     /// The configuration is refused.
     Config(ConfigFault),
     /// The configuration of the file of this path is refused, which is one of two.
-    ConfigOf { file: &'w str, fault: ConfigFault },
+    ConfigOf {
+        file: &'w str,
+        fault: ConfigFault,
+    },
     /// A server would not take the configuration while it runs: the report says why.
     NoReload,
     /// Transfers are refused: the name of the fault, and what is wrong with them.
-    Transfers { name: &'static str, told: String },
+    Transfers {
+        name: &'static str,
+        reported: String,
+    },
     /// A folder is configured, but the store has to be in memory; or the control session broke off.
     Session(SessionFault),
     /// The server did not start, or did not end as its configuration says.
     Server(ServeFault),
     /// The file of this path has no status of a server.
-    Status { file: &'w str, fault: StatusFault },
+    Status {
+        file: &'w str,
+        fault: StatusFault,
+    },
     /// The transfers of the status file of this path are shown, in that number of lines, and are to be shown again and
     /// again.
-    Watches { status: &'w str, rows: u16 },
+    Watches {
+        status: &'w str,
+        rows: u16,
+    },
 }
 
 impl<'w> FtpdExit<'w> {
@@ -72,12 +84,12 @@ impl fmt::Display for FtpdErrorText<'_, '_> {
     fn fmt<W: fmt::Write>(&self, f: &mut fmt::Formatter<W>) -> fmt::Result {
         match self.ending {
             FtpdExit::Common(ending) => {
-                let told = ErrorText {
+                let reported = ErrorText {
                     name: NAME,
                     ending,
                     output: self.output,
                 };
-                write!(f, "{told}")
+                write!(f, "{reported}")
             }
             FtpdExit::Config(fault) => {
                 writeln!(f, "{fault}")?;
@@ -88,8 +100,8 @@ impl fmt::Display for FtpdErrorText<'_, '_> {
                 writeln!(f, "{NAME}: {}", fault.name())
             }
             FtpdExit::NoReload => writeln!(f, "{NAME}: NoReload"),
-            FtpdExit::Transfers { name, told } => {
-                writeln!(f, "{told}")?;
+            FtpdExit::Transfers { name, reported } => {
+                writeln!(f, "{reported}")?;
                 writeln!(f, "{NAME}: {name}")
             }
             FtpdExit::Session(fault) => {

@@ -39,7 +39,10 @@ pub enum PrintFault {
     /// The configuration is refused, or its text in version 2 could not be read back.
     Config(ConfigFault),
     /// Transfers are refused: the name of the fault, and what is wrong with them.
-    Transfers { name: &'static str, told: String },
+    Transfers {
+        name: &'static str,
+        reported: String,
+    },
     /// The file has no status of a server.
     Status(StatusFault),
 }
@@ -49,7 +52,7 @@ fn unplanned(fault: NoPlan) -> PrintFault
 {
     match fault {
         NoPlan::Config(fault) => PrintFault::Config(fault),
-        NoPlan::Transfers { name, told } => PrintFault::Transfers { name, told },
+        NoPlan::Transfers { name, reported } => PrintFault::Transfers { name, reported },
         NoPlan::Memory => PrintFault::Text(TextFault::Memory),
     }
 }

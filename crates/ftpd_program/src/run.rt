@@ -11,7 +11,7 @@ ghost use Rattle.client_patience.specs.declared.patience.Patience.{Patience};
 ghost use Rattle.command_line.specs.declared.words.Words.{Words};
 ghost use Rattle.command_line.specs.declared.words.WordsFault.{WordsFault};
 ghost use Rattle.script_session.specs.Breaks.{MayBreakWriting};
-ghost use Rattle.sheets_program.specs.Endings.{IsOutOfMemory, IsToldEnd};
+ghost use Rattle.sheets_program.specs.Endings.{IsOutOfMemory, IsReportedEnd};
 ghost use Rattle.sheets_program.specs.Runs.{IsCheckEnd, IsShareEnd};
 ghost use Rattle.ftpd_program.specs.Against.{IsAgainstEnd};
 ghost use Rattle.ftpd_program.specs.Causes.{AreCommandOpened, AreConfigOpened, AreScriptOpened, IsCommandWhy, IsConfigWhy, IsReadWhy, IsScriptWhy};
@@ -28,7 +28,7 @@ use super::serving::serve;
 use command_line::{Words, read_words};
 use config_report::Lookout;
 use sheets_program::{
-    Exit as Common, Opener, STANDARD_INPUT, is_input, run_sheet_words, tell, text_cause,
+    Exit as Common, Opener, STANDARD_INPUT, is_input, report, run_sheet_words, text_cause,
 };
 use std::alloc::Global;
 use text_io::{TextFault, TextWriter};
@@ -61,7 +61,7 @@ fn print_text<'w, O: Opener + Lookout, W: TextWriter>(
     match run_print(alloc, print, &mut file, output, &*files) {
         Ok(()) => FtpdExit::Common(Common::Done),
         Err(PrintFault::Config(fault)) => FtpdExit::Config(fault),
-        Err(PrintFault::Transfers { name, told }) => FtpdExit::Transfers { name, told },
+        Err(PrintFault::Transfers { name, reported }) => FtpdExit::Transfers { name, reported },
         Err(PrintFault::Status(fault)) => FtpdExit::Status {
             file: config,
             fault,
@@ -323,14 +323,14 @@ pub fn run_words<'w, O: Opener + Lookout, W: TextWriter, V: Server<W>>(
         (O.MayFail files.old) (W.may_refuse output.old)
         (MayBreakWriting W.contents W.may_refuse output.old) command result
         × AreCommandOpened O.Opens files.old files.new (O.MayRefuse files.old) command result) }
-    ensures told { (IsTaken (map (λ s. s.now) words.now) → ⊥) → (fault : WordsFault)
+    ensures reported { (IsTaken (map (λ s. s.now) words.now) → ⊥) → (fault : WordsFault)
         × IsRefusedFor (map (λ s. s.now) words.now) fault
-        × IsCommon (IsToldEnd fault (W.contents output.old) (W.contents output.new)) result
+        × IsCommon (IsReportedEnd fault (W.contents output.old) (W.contents output.new)) result
         × (files.new ≡ files.old) }
     ensures unwritten { IsUnwritten result → output.new ≡ output.old }
 {
     match read_words(alloc, words) {
         Ok(words) => run_command(alloc, words, files, server, output),
-        Err(fault) => FtpdExit::Common(tell(fault, output)),
+        Err(fault) => FtpdExit::Common(report(fault, output)),
     }
 }

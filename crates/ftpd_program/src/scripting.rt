@@ -47,7 +47,7 @@ fn warned<L: Lookout>(
 {
     let config = judged(alloc, octets)?;
     match warning_texts(alloc, path, octets, lookout) {
-        Ok(told) => Ok((config, told)),
+        Ok(reported) => Ok((config, reported)),
         Err(ConfigFault::Memory) => Err(ScriptFault::Text(TextFault::Memory)),
         Err(refused) => Err(ScriptFault::Config(refused)),
     }

@@ -77,7 +77,7 @@ impl Looks {
     }
 
     /// The number of seconds without a new status, if this is told.
-    fn told_still(&self) -> Option<u64> {
+    fn reported_still(&self) -> Option<u64> {
         if self.still >= STILL {
             Some(self.still)
         } else {
@@ -105,7 +105,7 @@ impl Looks {
     fn screen(&self, alloc: Global, rows: u16) -> Result<String, AllocError>
         ensures screen { IfOk result (λ text. IsScreen rows (string_bytes text)) }
     {
-        let still = self.told_still();
+        let still = self.reported_still();
         let table = self.table(alloc, table_rows(rows, still))?;
         screen_text(alloc, table.as_str(), still)
     }
@@ -126,10 +126,10 @@ fn screen_text(alloc: Global, table: &str, still: Option<u64>) -> Result<String,
 fn table_rows(rows: u16, still: Option<u64>) -> usize
     ensures rows { result ≡ table_rows rows still }
 {
-    let told: usize = if still.is_some() { 1 } else { 0 };
+    let reported: usize = if still.is_some() { 1 } else { 0 };
     usize::from(rows)
         .saturating_sub(1)
-        .saturating_sub(told)
+        .saturating_sub(reported)
         .max(LEAST_LINES)
 }
 

@@ -31,12 +31,12 @@ event_of (hook.IncompleteFileReceived path) = FileNotReceived (path_text path)
 
 -- the effect of one action on a handler: a Hook calls it, and no other action does
 abbrev pub Leaves : {H A R K : Type 0} → (H → Event → H → Type 0) → H → Action A R K → H → Type 0
-Leaves Told old (action.Hook call) new = Told old (event_of call) new
-Leaves Told old _ new = new ≡ old
+Leaves Reported old (action.Hook call) new = Reported old (event_of call) new
+Leaves Reported old _ new = new ≡ old
 
 -- the effect of a list of actions on it, one after another
 abbrev pub AllLeave : {H A R K : Type 0} → (H → Event → H → Type 0) → H → List (Action A R K) → H
     → Type 0
-AllLeave Told old [] new = new ≡ old
-AllLeave {H} Told old (first ∷ others) new =
-    (mid : H) × Leaves Told old first mid × AllLeave Told mid others new
+AllLeave Reported old [] new = new ≡ old
+AllLeave {H} Reported old (first ∷ others) new =
+    (mid : H) × Leaves Reported old first mid × AllLeave Reported mid others new

@@ -11,4 +11,4 @@ mod hooks;
 mod run;
 
 pub use hooks::Hooks;
-pub use run::{run_hooks, tell};
+pub use run::{report, run_hooks};

@@ -7,8 +7,8 @@ use session_table::{Action, HookCall};
 use std::alloc::Allocator;
 
 /// Makes the call of one `Hook`.
-pub fn tell<H: Hooks, A: Allocator>(hooks: &mut H, call: &HookCall<A>)
-    ensures told { H.Told hooks.old (event_of call.now) hooks.new }
+pub fn report<H: Hooks, A: Allocator>(hooks: &mut H, call: &HookCall<A>)
+    ensures reported { H.Reported hooks.old (event_of call.now) hooks.new }
 {
     match call {
         HookCall::Connect => hooks.on_connect(),
@@ -23,11 +23,11 @@ pub fn tell<H: Hooks, A: Allocator>(hooks: &mut H, call: &HookCall<A>)
     }
 }
 
-fn tell_action<H: Hooks, A: Allocator, R, K>(hooks: &mut H, action: &Action<A, R, K>)
-    ensures left { Leaves H.Told hooks.old action.now hooks.new }
+fn report_action<H: Hooks, A: Allocator, R, K>(hooks: &mut H, action: &Action<A, R, K>)
+    ensures left { Leaves H.Reported hooks.old action.now hooks.new }
 {
     match action {
-        Action::Hook(call) => tell(hooks, call),
+        Action::Hook(call) => report(hooks, call),
         Action::Say(_)
         | Action::OpenPassive
         | Action::ConnectTo(_)
@@ -41,9 +41,9 @@ fn tell_action<H: Hooks, A: Allocator, R, K>(hooks: &mut H, action: &Action<A, R
 
 /// Makes one call for each `Hook` among the actions, in their order, and no other.
 pub fn run_hooks<H: Hooks, A: Allocator, R, K>(hooks: &mut H, actions: &[Action<A, R, K>])
-    ensures left { AllLeave H.Told hooks.old actions.now hooks.new }
+    ensures left { AllLeave H.Reported hooks.old actions.now hooks.new }
 {
     for action in actions {
-        tell_action(hooks, action);
+        report_action(hooks, action);
     }
 }

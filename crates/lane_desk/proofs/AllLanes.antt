@@ -5,9 +5,9 @@ use Rattle.std.proofs.lemmas.List.Sums.{sum_by-append}
 use Rattle.grant_ledger.specs.Books.{capped}
 use Rattle.atomic_table.specs.Seated.{TableId}
 use Rattle.desk_rule.specs.declared.view.LaneView.{LaneView}
-use Rattle.desk_rule.specs.declared.view.TurnView.{TurnView}
+use Rattle.desk_rule.specs.declared.view.TraceView.{TraceView}
 use Rattle.lane_desk.specs.declared.seat.LaneSeat.{LaneSeat}
-use Rattle.desk_rule.specs.Lanes.{fresh, unturned, posted_in}
+use Rattle.desk_rule.specs.Lanes.{fresh, untraced, posted_in}
 use Rattle.lane_desk.specs.Seats.{seat_view}
 use Rattle.lane_desk.specs.Close.{Closes, AllSettled}
 use Rattle.lane_desk.specs.AllLanes.{AreSeats, AllClosed, taken_in_all, taken_by_all}
@@ -45,35 +45,35 @@ get_last [] x d = refl
 get_last (y ∷ l) x d = get_last l x d
 
 -- the turns of the lanes that are not yet closed
-abbrev pub Untouched : ℕ → List TurnView → List TurnView → Type 0
-Untouched n ts ts' = (i : ℕ) → n ≤ i → get_or ts' i unturned ≡ get_or ts i unturned
+abbrev pub Untouched : ℕ → List TraceView → List TraceView → Type 0
+Untouched n ts ts' = (i : ℕ) → n ≤ i → get_or ts' i untraced ≡ get_or ts i untraced
 
 module _ {N : Type 0} where
-  pub all_more : (ts0 ts1 ts2 : List TurnView) (ys : List (LaneSeat N)) (s : (LaneSeat N)) (xs1 xs2 : List LaneView) (n : ℕ) → AllClosed ts0 ys ts1 xs1 → Untouched (length ys) ts0 ts1 → s.lane ≡ length ys → ts2 ≡ set ts1 s.lane (get_or ts2 s.lane unturned)
-      → (b : (x : LaneView) × (xs2 ≡ xs1 ++ x ∷ []) × Closes (get_or ts1 s.lane unturned) (seat_view s) (get_or ts2 s.lane unturned) x n) → AllClosed ts0 (ys ++ s ∷ []) ts2 xs2 × Untouched (length (ys ++ s ∷ [])) ts0 ts2
+  pub all_more : (ts0 ts1 ts2 : List TraceView) (ys : List (LaneSeat N)) (s : (LaneSeat N)) (xs1 xs2 : List LaneView) (n : ℕ) → AllClosed ts0 ys ts1 xs1 → Untouched (length ys) ts0 ts1 → s.lane ≡ length ys → ts2 ≡ set ts1 s.lane (get_or ts2 s.lane untraced)
+      → (b : (x : LaneView) × (xs2 ≡ xs1 ++ x ∷ []) × Closes (get_or ts1 s.lane untraced) (seat_view s) (get_or ts2 s.lane untraced) x n) → AllClosed ts0 (ys ++ s ∷ []) ts2 xs2 × Untouched (length (ys ++ s ∷ [])) ts0 ts2
   all_more ts0 ts1 ts2 ys s xs1 xs2 n all rest is moved b =
-      let still : (i : ℕ) → i ≢ length ys → get_or ts2 i unturned ≡ get_or ts1 i unturned = λ i ne. ap (λ (l : List TurnView). get_or l i unturned) moved ∙ get_or-set_other ts1 s.lane i (get_or ts2 s.lane unturned) unturned (λ e. ne (e ∙ is)) in (
+      let still : (i : ℕ) → i ≢ length ys → get_or ts2 i untraced ≡ get_or ts1 i untraced = λ i ne. ap (λ (l : List TraceView). get_or l i untraced) moved ∙ get_or-set_other ts1 s.lane i (get_or ts2 s.lane untraced) untraced (λ e. ne (e ∙ is)) in (
         (
           ap length b.1 ∙ length-append xs1 (b.0 ∷ []) ∙ ap (λ (z : ℕ). z + 1) all.0 ∙ sym (length-append ys (s ∷ [])),
           λ i t e. ⊎_elim
               (λ (o : (i < length ys) × (slice_get ys i ≡ Some t)). let k = all.1 i t o.1 in let h : i < length ys = o.0 in
-              (k.0, subst (λ (z : TurnView × LaneView). Closes (get_or ts0 i unturned) (seat_view t) z.0 z.1 k.0) (λ q. (sym (still i (λ f. omega arith)) q, sym (ap (λ (l : List LaneView). get_or l i fresh) b.1 ∙ get_front xs1 (b.0 ∷ []) i fresh (omega (arith, all.0, h))) q)) k.1))
+              (k.0, subst (λ (z : TraceView × LaneView). Closes (get_or ts0 i untraced) (seat_view t) z.0 z.1 k.0) (λ q. (sym (still i (λ f. omega arith)) q, sym (ap (λ (l : List LaneView). get_or l i fresh) b.1 ∙ get_front xs1 (b.0 ∷ []) i fresh (omega (arith, all.0, h))) q)) k.1))
               (λ (o : (i ≡ length ys) × (s ≡ t)). (
                 n,
-                subst (λ (u : (LaneSeat N)). Closes (get_or ts0 i unturned) (seat_view u) (get_or ts2 i unturned) (get_or xs2 i fresh) n) o.1
-                    (subst (λ (z : TurnView × TurnView × LaneView). Closes z.0 (seat_view s) z.1 z.2 n)
-                    (λ q. ((ap (λ (m : ℕ). get_or ts1 m unturned) (is ∙ sym o.0) ∙ rest i (omega (arith, o.0))) q, ap (λ (m : ℕ). get_or ts2 m unturned) (is ∙ sym o.0) q, sym (ap (λ (l : List LaneView). get_or l i fresh) b.1 ∙ ap (λ (m : ℕ). get_or (xs1 ++ b.0 ∷ []) m fresh) (o.0 ∙ sym all.0) ∙ get_last xs1 b.0 fresh) q)) b.2),
+                subst (λ (u : (LaneSeat N)). Closes (get_or ts0 i untraced) (seat_view u) (get_or ts2 i untraced) (get_or xs2 i fresh) n) o.1
+                    (subst (λ (z : TraceView × TraceView × LaneView). Closes z.0 (seat_view s) z.1 z.2 n)
+                    (λ q. ((ap (λ (m : ℕ). get_or ts1 m untraced) (is ∙ sym o.0) ∙ rest i (omega (arith, o.0))) q, ap (λ (m : ℕ). get_or ts2 m untraced) (is ∙ sym o.0) q, sym (ap (λ (l : List LaneView). get_or l i fresh) b.1 ∙ ap (λ (m : ℕ). get_or (xs1 ++ b.0 ∷ []) m fresh) (o.0 ∙ sym all.0) ∙ get_last xs1 b.0 fresh) q)) b.2),
               ))
               (get_end ys s t i e),
         ),
         λ i far. let h : length ys + 1 ≤ i = omega (arith, far, length-append ys (s ∷ [])) in still i (λ e. omega arith) ∙ rest i (omega arith),
       )
 
-  pub all_settled : (ts0 ts1 : List TurnView) (ys : List (LaneSeat N)) (xs : List LaneView) → AllClosed ts0 ys ts1 xs → AllSettled ts1 xs
+  pub all_settled : (ts0 ts1 : List TraceView) (ys : List (LaneSeat N)) (xs : List LaneView) → AllClosed ts0 ys ts1 xs → AllSettled ts1 xs
   all_settled ts0 ts1 ys xs all i near = let g = get_some ys i (omega (arith, all.0, near)) in (all.1 i g.0 g.1).1.1
 
 -- what was taken on the settled lanes was posted
-pub taken_most : (ts : List TurnView) (xs : List LaneView) → length xs ≤ length ts → AllSettled ts xs → taken_in_all xs ≤ posted_in ts
+pub taken_most : (ts : List TraceView) (xs : List LaneView) → length xs ≤ length ts → AllSettled ts xs → taken_in_all xs ≤ posted_in ts
 taken_most ts [] long all = omega arith
 taken_most [] (x ∷ xs) long all = absurd (omega arith)
 taken_most (t ∷ ts) (x ∷ xs) long all =
@@ -83,7 +83,7 @@ taken_most (t ∷ ts) (x ∷ xs) long all =
     omega arith
 
 module _ {N : Type 0} where
-  pub taken_more : (ys : List (LaneSeat N)) (s : (LaneSeat N)) (t t' : TurnView) (xs1 xs2 : List LaneView) (m n : ℕ) → taken_in_all xs1 ≡ taken_by_all ys + m → (b : (x : LaneView) × (xs2 ≡ xs1 ++ x ∷ []) × Closes t (seat_view s) t' x n) → taken_in_all xs2 ≡ taken_by_all (ys ++ s ∷ []) + (m + n)
+  pub taken_more : (ys : List (LaneSeat N)) (s : (LaneSeat N)) (t t' : TraceView) (xs1 xs2 : List LaneView) (m n : ℕ) → taken_in_all xs1 ≡ taken_by_all ys + m → (b : (x : LaneView) × (xs2 ≡ xs1 ++ x ∷ []) × Closes t (seat_view s) t' x n) → taken_in_all xs2 ≡ taken_by_all (ys ++ s ∷ []) + (m + n)
   taken_more ys s t t' xs1 xs2 m n is b =
       let c = b.2.2 in
       let one : sum b.0.taken ≡ sum (seat_view s).taken + n = ap sum c.1 ∙ sum_by-append (λ (x : ℕ). x) (seat_view s).taken c.0 ∙ ap (λ (z : ℕ). sum (seat_view s).taken + z) c.3 in

@@ -6,7 +6,7 @@ use Rattle.desk_rule.specs.declared.view.LaneSlot.{LaneSlot}
 use Rattle.desk_rule.specs.declared.view.LaneSlot.TheVariants.{Blank}
 use Rattle.desk_rule.specs.declared.view.DeskView.{DeskView}
 use Rattle.desk_rule.specs.declared.view.DeskView.TheVariants.{Round}
-use Rattle.desk_rule.specs.Lanes.{unturned}
+use Rattle.desk_rule.specs.Lanes.{untraced}
 use Rattle.lane_desk.specs.Held.{above, KnowsDesk, is_due}
 use Rattle.lane_desk.specs.Begun.{dealt_round}
 use Rattle.desk_rule.proofs.Keeps.{posted_none}
@@ -26,7 +26,7 @@ module _ {N : Type 0} where
   starts m k is few = subst (λ (u : (Me (LaneSlot N) DeskView)). KnowsDesk u k (replicate 64 false)) (sym is)
       record {
         view_is = refl;
-        wide = length-replicate k unturned;
+        wide = length-replicate k untraced;
         room = few;
         slots_are = sym (none_above 0 k);
         within = (let e = posted_none k in omega arith);
@@ -38,10 +38,10 @@ module _ {N : Type 0} where
       no_flag (suc n) zero = refl
       no_flag (suc n) (suc i) = no_flag n i
 
-      free : (n i : ℕ) → is_due (get_or (replicate n unturned) i unturned) ≡ false
+      free : (n i : ℕ) → is_due (get_or (replicate n untraced) i untraced) ≡ false
       free zero i = refl
       free (suc n) zero = refl
       free (suc n) (suc i) = free n i
 
-      no_mark : (i k : ℕ) → get_or (replicate 64 false) i false ≡ is_due (get_or (replicate k unturned) i unturned)
+      no_mark : (i k : ℕ) → get_or (replicate 64 false) i false ≡ is_due (get_or (replicate k untraced) i untraced)
       no_mark i k = no_flag 64 i ∙ sym (free k i)

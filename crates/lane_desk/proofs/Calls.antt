@@ -29,7 +29,7 @@ module _ {N : Type 0} where
   asks_of n id me i x a is st = subst (λ (u : (Me (LaneSlot N) DeskView)). Allows Kept n id u i (λ _. 2) (λ _. spec.asks (step n i 2 0 none) u 2)) (sym is) (asks n id (Lane i x, (i, WithAsk a) ∷ []) i a refl st refl)
 
   pub asks_then : (n : ℕ) (me me' : (Me (LaneSlot N) DeskView)) (i : ℕ) (x : LaneView) (a : Ask) → me ≡ (Lane i x, (i, WithAsk a) ∷ []) → spec.asks (step n i 2 0 none) me 2 me' → me' ≡ (Lane i (has_asked a x), [])
-  asks_then n me me' i x a is told = subst (λ (u : (Me (LaneSlot N) DeskView)). spec.asks (step n i 2 0 none) u 2 me') is told a refl
+  asks_then n me me' i x a is reported = subst (λ (u : (Me (LaneSlot N) DeskView)). spec.asks (step n i 2 0 none) u 2 me') is reported a refl
 
   pub known_as : (m : (Me (LaneSlot N) DeskView)) (i : ℕ) (st st' : SeatState) → KnowsLane m i st → (lane_in i m.0).state ≡ st' → KnowsLane m i st'
   known_as m i st st' k is = subst (KnowsLane m i) (sym k.1 ∙ is) k

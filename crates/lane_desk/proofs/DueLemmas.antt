@@ -7,11 +7,11 @@ use Rattle.std.proofs.lemmas.List.Sorted.{sum_by-IsPermutation}
 use Rattle.line_rates.specs.declared.ask.Ask.{Ask}
 use Rattle.line_rates.specs.TickTree.{Asker, lane_in}
 use Rattle.grant_ledger.specs.Books.{NamesNot}
-use Rattle.desk_rule.specs.declared.view.TurnView.{TurnView}
+use Rattle.desk_rule.specs.declared.view.TraceView.{TraceView}
 use Rattle.lane_desk.specs.Held.{is_due}
 use Rattle.lane_desk.proofs.RoundCalls.{collected_due}
 use Rattle.lane_desk.specs.Tried.{tried_by, tried, asks_from, mark_of}
-use Rattle.lane_desk.specs.Posted.{turn_at, AreDue}
+use Rattle.lane_desk.specs.Posted.{trace_at, AreDue}
 use Rattle.lane_desk.specs.Posted.{AllAnswered}
 use Rattle.lane_desk.proofs.TriedLemmas.{tried_at, length-tried}
 
@@ -78,7 +78,7 @@ place_of k (x ∷ xs) e = dite (ℕ_discrete x.0 k)
     (λ ne. let r = place_of k xs (omega (arith, e, is_other k x ne)) in (suc r.0, (let h = r.1 in omega (arith, h)), r.2))
 
 -- each lane is named at most once, and those that are named are due
-pub all_due : (xs : List Asker) (ts : List TurnView) → ((k : ℕ) → many k xs ≤ 1) → ((k : ℕ) → many k xs ≡ 1 → (k < length ts) × (is_due (turn_at ts k) ≡ true)) → AreDue (map lane_in xs) ts
+pub all_due : (xs : List Asker) (ts : List TraceView) → ((k : ℕ) → many k xs ≤ 1) → ((k : ℕ) → many k xs ≡ 1 → (k < length ts) × (is_due (trace_at ts k) ≡ true)) → AreDue (map lane_in xs) ts
 unfolding many
 all_due [] ts few due = tt
 all_due (x ∷ xs) ts few due =
@@ -91,7 +91,7 @@ pub at_most_one : (f : Find) → mark_of f ≤ 1
 at_most_one None = omega arith
 at_most_one (Some a) = omega arith
 
-found_due : (given : Bool) (f : Find) (t : TurnView) → mark_of f ≡ 1 → length t.collected ≡ length t.posted → is_due (tried_by given f t) ≡ true
+found_due : (given : Bool) (f : Find) (t : TraceView) → mark_of f ≡ 1 → length t.collected ≡ length t.posted → is_due (tried_by given f t) ≡ true
 found_due given None t m e = absurd (omega (arith, m))
 found_due given (Some a) t m e = collected_due a t e
 
@@ -102,11 +102,11 @@ found_within (f ∷ fs) zero m = omega arith
 found_within (f ∷ fs) (suc k) m = let h = found_within fs k m in omega (arith, h)
 
 -- what was collected is due on each lane that any order of the asks names
-pub due_of : (given : ℕ → Bool) (fs : List Find) (ts : List TurnView) (order : List Asker) → length fs ≡ length ts → AllAnswered ts → IsPermutation (asks_from 0 fs) order → AreDue (map lane_in order) (tried given fs ts)
+pub due_of : (given : ℕ → Bool) (fs : List Find) (ts : List TraceView) (order : List Asker) → length fs ≡ length ts → AllAnswered ts → IsPermutation (asks_from 0 fs) order → AreDue (map lane_in order) (tried given fs ts)
 due_of given fs ts order wide old p =
     let marks : (k : ℕ) → many k order ≡ mark_of (get_or fs k None) = λ k. many_moved k (asks_from 0 fs) order p ∙ many_at fs k in
     all_due order (tried given fs ts) (λ k. omega (arith, marks k, at_most_one (get_or fs k None)))
     (λ k e.
     let m : mark_of (get_or fs k None) ≡ 1 = sym (marks k) ∙ e in
     let near : k < length ts = omega (arith, found_within fs k m, wide) in
-    (omega (arith, near, length-tried given fs ts), ap is_due (tried_at given fs ts k wide near) ∙ found_due (given k) (get_or fs k None) (turn_at ts k) m (old k near)))
+    (omega (arith, near, length-tried given fs ts), ap is_due (tried_at given fs ts k wide near) ∙ found_due (given k) (get_or fs k None) (trace_at ts k) m (old k near)))

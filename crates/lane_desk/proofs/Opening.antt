@@ -9,11 +9,11 @@ use Rattle.desk_rule.specs.declared.view.LaneSlot.TheVariants.{Blank}
 use Rattle.desk_rule.specs.declared.view.DeskView.{DeskView}
 use Rattle.desk_rule.specs.declared.view.DeskView.TheVariants.{Round}
 use Rattle.lane_desk.specs.declared.seat.LaneSeat.{LaneSeat}
-use Rattle.desk_rule.specs.Lanes.{Kept, fresh, unturned, first_round, posted_in}
+use Rattle.desk_rule.specs.Lanes.{Kept, fresh, untraced, first_round, posted_in}
 use Rattle.desk_rule.specs.Lanes as spec
 use Rattle.lane_desk.specs.Seats.{seat_view}
 use Rattle.lane_desk.specs.Begun.{dealt_round}
-use Rattle.desk_rule.specs.declared.view.TurnView.{TurnView}
+use Rattle.desk_rule.specs.declared.view.TraceView.{TraceView}
 use Rattle.lane_desk.specs.Posted.{AllAnswered}
 use Rattle.lane_desk.specs.Open.{AreFresh}
 use Rattle.desk_rule.proofs.Keeps.{deals, opens, at_replicate, posted_none}
@@ -39,7 +39,7 @@ module _ {N : Type 0} where
   )
 
   pub deals_of : (id : ℕ) (m : (Me (LaneSlot N) DeskView)) (k i : ℕ) → i < k → m ≡ (Round (dealt_round k i), []) → Splits (Kept {N = N}) id m.0 (spec.dealer_after m.0) (spec.dealt_to m.0)
-  deals_of id m k i near is = deals id m.0 (dealt_round k i) (ap (λ x. x.0) is) (let e = length-replicate k unturned in omega arith)
+  deals_of id m k i near is = deals id m.0 (dealt_round k i) (ap (λ x. x.0) is) (let e = length-replicate k untraced in omega arith)
 
 abbrev pub zeros : ℕ → List ℕ
 zeros n = replicate n 0
@@ -56,11 +56,11 @@ module _ {N : Type 0} where
       (λ i near. subst (λ (y : List (LaneSlot N)). lib.ListN.get_elem? y i ≡ mathlib.Core.Option.some Blank) (sym b) (at_replicate k i Blank near))
 
 -- on no lane an ask was collected
-pub even_at : (n i : ℕ) → length (get_or (replicate n unturned) i unturned).collected ≡ length (get_or (replicate n unturned) i unturned).posted
+pub even_at : (n i : ℕ) → length (get_or (replicate n untraced) i untraced).collected ≡ length (get_or (replicate n untraced) i untraced).posted
 even_at zero zero = refl
 even_at zero (suc i) = refl
 even_at (suc n) zero = refl
 even_at (suc n) (suc i) = even_at n i
 
-pub begun : (n : ℕ) (ts : List TurnView) → ts ≡ replicate n unturned → AllAnswered ts × (posted_in ts ≡ 0)
-begun n ts is = subst (λ (us : List TurnView). AllAnswered us × (posted_in us ≡ 0)) (sym is) ((λ i near. even_at n i), posted_none n)
+pub begun : (n : ℕ) (ts : List TraceView) → ts ≡ replicate n untraced → AllAnswered ts × (posted_in ts ≡ 0)
+begun n ts is = subst (λ (us : List TraceView). AllAnswered us × (posted_in us ≡ 0)) (sym is) ((λ i near. even_at n i), posted_none n)

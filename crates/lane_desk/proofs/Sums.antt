@@ -7,9 +7,9 @@ use Rattle.std.proofs.lemmas.List.{reverse-append}
 use Rattle.std.proofs.lemmas.List.Sums.{sum_by-append}
 use Rattle.atomic_table.specs.Seated.{TableId}
 use Rattle.desk_rule.specs.declared.view.LaneView.{LaneView}
-use Rattle.desk_rule.specs.declared.view.TurnView.{TurnView}
+use Rattle.desk_rule.specs.declared.view.TraceView.{TraceView}
 use Rattle.lane_desk.specs.declared.worked.Worked.{Worked}
-use Rattle.desk_rule.specs.Lanes.{fresh, unturned, posted_in}
+use Rattle.desk_rule.specs.Lanes.{fresh, untraced, posted_in}
 use Rattle.lane_desk.specs.Held.{is_due}
 use Rattle.lane_desk.specs.Close.{Settled, Closes, AllSettled}
 use Rattle.lane_desk.specs.AllLanes.{taken_in_all}
@@ -17,24 +17,24 @@ use Rattle.lane_desk.specs.Workers.{AreWorkers, moved_by_all}
 use Rattle.desk_rule.proofs.Keeps.{posted_set}
 use Rattle.lane_desk.proofs.AllLanes.{get_middle, get_front, get_last}
 
-pub settled_more : (ts1 ts2 : List TurnView) (xs1 xs2 : List LaneView) (i : ℕ) (x : LaneView) → AllSettled ts1 xs1 → i ≡ length xs1 → ts2 ≡ set ts1 i (get_or ts2 i unturned) → xs2 ≡ xs1 ++ x ∷ [] → Settled x (get_or ts2 i unturned) → AllSettled ts2 xs2
+pub settled_more : (ts1 ts2 : List TraceView) (xs1 xs2 : List LaneView) (i : ℕ) (x : LaneView) → AllSettled ts1 xs1 → i ≡ length xs1 → ts2 ≡ set ts1 i (get_or ts2 i untraced) → xs2 ≡ xs1 ++ x ∷ [] → Settled x (get_or ts2 i untraced) → AllSettled ts2 xs2
 settled_more ts1 ts2 xs1 xs2 i x all is moved back new j near =
     let long : length xs2 ≡ length xs1 + 1 = ap length back ∙ length-append xs1 (x ∷ []) in
     dite (ℕ_discrete j i)
-    (λ e. subst (λ (z : ℕ). Settled (get_or xs2 z fresh) (get_or ts2 z unturned)) (sym e) (subst (λ (y : LaneView). Settled y (get_or ts2 i unturned)) (sym (ap (λ (l : List LaneView). get_or l i fresh) back ∙ ap (λ (z : ℕ). get_or (xs1 ++ x ∷ []) z fresh) is ∙ get_last xs1 x fresh)) new))
-    (λ ne. let h : j < length xs1 = omega arith in subst (λ (z : LaneView × TurnView). Settled z.0 z.1)
-    (λ q. (sym (ap (λ (l : List LaneView). get_or l j fresh) back ∙ get_front xs1 (x ∷ []) j fresh h) q, sym (ap (λ (l : List TurnView). get_or l j unturned) moved ∙ get_or-set_other ts1 i j (get_or ts2 i unturned) unturned ne) q)) (all j h))
+    (λ e. subst (λ (z : ℕ). Settled (get_or xs2 z fresh) (get_or ts2 z untraced)) (sym e) (subst (λ (y : LaneView). Settled y (get_or ts2 i untraced)) (sym (ap (λ (l : List LaneView). get_or l i fresh) back ∙ ap (λ (z : ℕ). get_or (xs1 ++ x ∷ []) z fresh) is ∙ get_last xs1 x fresh)) new))
+    (λ ne. let h : j < length xs1 = omega arith in subst (λ (z : LaneView × TraceView). Settled z.0 z.1)
+    (λ q. (sym (ap (λ (l : List LaneView). get_or l j fresh) back ∙ get_front xs1 (x ∷ []) j fresh h) q, sym (ap (λ (l : List TraceView). get_or l j untraced) moved ∙ get_or-set_other ts1 i j (get_or ts2 i untraced) untraced ne) q)) (all j h))
 
 nothing_more : (b : Bool) → sum (cond b (0 ∷ []) []) ≡ 0
 nothing_more true = refl
 nothing_more false = refl
 
-pub posted_still : (ts1 ts2 : List TurnView) (i : ℕ) → i < length ts1 → ts2 ≡ set ts1 i (get_or ts2 i unturned) → (get_or ts2 i unturned).posted ≡ (get_or ts1 i unturned).posted ++ cond (is_due (get_or ts1 i unturned)) (0 ∷ []) [] → posted_in ts2 ≡ posted_in ts1
+pub posted_still : (ts1 ts2 : List TraceView) (i : ℕ) → i < length ts1 → ts2 ≡ set ts1 i (get_or ts2 i untraced) → (get_or ts2 i untraced).posted ≡ (get_or ts1 i untraced).posted ++ cond (is_due (get_or ts1 i untraced)) (0 ∷ []) [] → posted_in ts2 ≡ posted_in ts1
 posted_still ts1 ts2 i near moved is =
-    omega (arith, ap posted_in moved, posted_set ts1 i (get_or ts2 i unturned) near, ap sum is, sum_by-append (λ (x : ℕ). x) (get_or ts1 i unturned).posted (cond (is_due (get_or ts1 i unturned)) (0 ∷ []) []), nothing_more (is_due (get_or ts1 i unturned)))
+    omega (arith, ap posted_in moved, posted_set ts1 i (get_or ts2 i untraced) near, ap sum is, sum_by-append (λ (x : ℕ). x) (get_or ts1 i untraced).posted (cond (is_due (get_or ts1 i untraced)) (0 ∷ []) []), nothing_more (is_due (get_or ts1 i untraced)))
 
 -- where each lane is settled, all that was posted was taken
-pub taken_all : (ts : List TurnView) (xs : List LaneView) → length xs ≡ length ts → AllSettled ts xs → taken_in_all xs ≡ posted_in ts
+pub taken_all : (ts : List TraceView) (xs : List LaneView) → length xs ≡ length ts → AllSettled ts xs → taken_in_all xs ≡ posted_in ts
 taken_all [] [] long all = refl
 taken_all [] (x ∷ xs) long all = absurd (omega arith)
 taken_all (t ∷ ts) [] long all = absurd (omega arith)
@@ -47,7 +47,7 @@ taken_all (t ∷ ts) (x ∷ xs) long all =
 pub taken_plus : (xs1 xs2 : List LaneView) (x : LaneView) → xs2 ≡ xs1 ++ x ∷ [] → taken_in_all xs2 ≡ taken_in_all xs1 + sum x.taken
 taken_plus xs1 xs2 x e = omega (arith, ap taken_in_all e, sum_by-append (λ (y : LaneView). sum y.taken) xs1 (x ∷ []))
 
-pub taken_sum : (s x : LaneView) (t t' : TurnView) (n : ℕ) → Closes t s t' x n → sum x.taken ≡ sum s.taken + n
+pub taken_sum : (s x : LaneView) (t t' : TraceView) (n : ℕ) → Closes t s t' x n → sum x.taken ≡ sum s.taken + n
 taken_sum s x t t' n c = ap sum c.2.1 ∙ sum_by-append (λ (y : ℕ). y) s.taken c.2.0 ∙ ap (λ (z : ℕ). sum s.taken + z) c.2.3
 
 module _ {N : Type 0} where

@@ -8,14 +8,14 @@ use Rattle.desk_rule.specs.declared.view.LaneSlot.TheVariants.{Blank, WithAsk, W
 use Rattle.desk_rule.specs.declared.view.SeatState.{SeatState}
 use Rattle.desk_rule.specs.declared.view.SeatState.TheVariants.{Free, Worker, Asked}
 use Rattle.desk_rule.specs.declared.view.LaneView.{LaneView}
-use Rattle.desk_rule.specs.declared.view.TurnView.{TurnView}
+use Rattle.desk_rule.specs.declared.view.TraceView.{TraceView}
 use Rattle.desk_rule.specs.declared.view.DeskView.{DeskView}
 use Rattle.desk_rule.specs.declared.view.DeskView.TheVariants.{Spent, Lane, Round}
-use Rattle.desk_rule.specs.Lanes.{Kept, Owns, Leads, Fits, lane_in, with_lane, fresh, unturned, held_in, KnowsLane, has_taken, has_risen}
+use Rattle.desk_rule.specs.Lanes.{Kept, Owns, Leads, Fits, lane_in, with_lane, fresh, untraced, held_in, KnowsLane, has_taken, has_risen}
 use Rattle.desk_rule.specs.Lanes as spec
 use Rattle.lane_desk.specs.Held.{round_in, KnowsDesk}
 use Rattle.desk_rule.proofs.Keeps.{joins, rises}
-use Rattle.lane_desk.proofs.RoundCalls.{IsRound, turn_is}
+use Rattle.lane_desk.proofs.RoundCalls.{IsRound, trace_is}
 
 module _ {N : Type 0} where
   pub held_none : (l : List (ℕ × (LaneSlot N))) (i : ℕ) (st : SeatState) → st ≢ Worker → l ≡ held_in st i → l ≡ []
@@ -50,7 +50,7 @@ set_twice (x ∷ xs) (suc i) a b = λ q. x ∷ set_twice xs i a b q
 with_twice : (v : DeskView) (i : ℕ) (x y : LaneView) → with_lane i y (with_lane i x v) ≡ with_lane i y v
 with_twice Spent i x y = refl
 with_twice (Lane k z) i x y = refl
-with_twice (Round sh) i x y = λ q. Round record { dealt = sh.dealt; turns = sh.turns; back = set_twice sh.back i x y q }
+with_twice (Round sh) i x y = λ q. Round record { dealt = sh.dealt; traces = sh.traces; back = set_twice sh.back i x y q }
 
 module _ {N : Type 0} where
   -- the seat once it has put nothing in place of the grant
@@ -63,9 +63,9 @@ module _ {N : Type 0} where
       (rises n id (w, (i, Blank) ∷ l) i (still_owns v i (has_taken k (lane_in i v)) o) (ap (λ (x : LaneView). x.state) (now_in v i (has_taken k (lane_in i v)) o)) refl)
 
   pub rises_then : (m m' : (Me (LaneSlot N) DeskView)) (v : DeskView) (l : List (ℕ × (LaneSlot N))) (i k : ℕ) → Owns i v → m ≡ (with_lane i (has_taken k (lane_in i v)) v, (i, Blank) ∷ l) → spec.rises (step 0 i 0 0 none) m 0 m' → m' ≡ (with_lane i (has_risen (has_taken k (lane_in i v))) v, l)
-  rises_then m m' v l i k o is told =
+  rises_then m m' v l i k o is reported =
       let x : LaneView = has_taken k (lane_in i v) in
-      told ∙ ap (λ (u : (Me (LaneSlot N) DeskView)). (with_lane i (has_risen (lane_in i u.0)) u.0, rest u.1)) is ∙ ap (λ (y : LaneView). (with_lane i (has_risen y) (with_lane i x v), l)) (now_in v i x o) ∙ ap (λ (w : DeskView). (w, l)) (with_twice v i x (has_risen x))
+      reported ∙ ap (λ (u : (Me (LaneSlot N) DeskView)). (with_lane i (has_risen (lane_in i u.0)) u.0, rest u.1)) is ∙ ap (λ (y : LaneView). (with_lane i (has_risen y) (with_lane i x v), l)) (now_in v i x o) ∙ ap (λ (w : DeskView). (w, l)) (with_twice v i x (has_risen x))
 
 back_after : (v : DeskView) (i : ℕ) (x : LaneView) → IsRound v → (round_in (with_lane i x v)).back ≡ set (round_in v).back i x
 back_after v i x e = subst (λ (u : DeskView). (round_in (with_lane i x u)).back ≡ set (round_in u).back i x) (sym e) refl
@@ -84,9 +84,9 @@ module _ {N : Type 0} where
   unfolding grant_in first_slot
   same_grant l r i y g h a b is = ap (λ (x : List (ℕ × (LaneSlot N))). grant_in (first_slot x y) g) (sym b ∙ a) ∙ ap (λ (x : (LaneSlot N)). grant_in x g) is
 
-  pub took_back : (m0 m4 : (Me (LaneSlot N) DeskView)) (lanes : ℕ) (held : List Bool) (i : ℕ) (l : List (ℕ × (LaneSlot N))) (g h : GrantView) → KnowsDesk m0 lanes held → i < length (round_in m0.0).turns → g ≡ h → m4 ≡ (with_lane i (has_risen (has_taken g.octets (lane_in i m0.0))) m0.0, l) → Fits i m0.0 (g.octets ∷ [])
-      → ((round_in m4.0).back ≡ set (round_in m0.0).back i (has_risen (has_taken h.octets (get_or (round_in m0.0).back i fresh)))) × ((get_or (round_in m0.0).turns i unturned).posted ≡ (get_or (round_in m0.0).back i fresh).taken ++ h.octets ∷ [])
-  took_back m0 m4 lanes held i l g h k near same is fits = subst (λ (x : GrantView). ((round_in m4.0).back ≡ set (round_in m0.0).back i (has_risen (has_taken x.octets (get_or (round_in m0.0).back i fresh)))) × ((get_or (round_in m0.0).turns i unturned).posted ≡ (get_or (round_in m0.0).back i fresh).taken ++ x.octets ∷ [])) same (
+  pub took_back : (m0 m4 : (Me (LaneSlot N) DeskView)) (lanes : ℕ) (held : List Bool) (i : ℕ) (l : List (ℕ × (LaneSlot N))) (g h : GrantView) → KnowsDesk m0 lanes held → i < length (round_in m0.0).traces → g ≡ h → m4 ≡ (with_lane i (has_risen (has_taken g.octets (lane_in i m0.0))) m0.0, l) → Fits i m0.0 (g.octets ∷ [])
+      → ((round_in m4.0).back ≡ set (round_in m0.0).back i (has_risen (has_taken h.octets (get_or (round_in m0.0).back i fresh)))) × ((get_or (round_in m0.0).traces i untraced).posted ≡ (get_or (round_in m0.0).back i fresh).taken ++ h.octets ∷ [])
+  took_back m0 m4 lanes held i l g h k near same is fits = subst (λ (x : GrantView). ((round_in m4.0).back ≡ set (round_in m0.0).back i (has_risen (has_taken x.octets (get_or (round_in m0.0).back i fresh)))) × ((get_or (round_in m0.0).traces i untraced).posted ≡ (get_or (round_in m0.0).back i fresh).taken ++ x.octets ∷ [])) same (
     ap (λ (u : (Me (LaneSlot N) DeskView)). (round_in u.0).back) is ∙ back_after m0.0 i (has_risen (has_taken g.octets (lane_in i m0.0))) k.view_is ∙ ap (λ (x : LaneView). set (round_in m0.0).back i (has_risen (has_taken g.octets x))) (lane_is m0.0 i k.view_is),
-    ap (λ (t : TurnView). t.posted) (sym (turn_is m0.0 i k.view_is)) ∙ fits (subst (Leads i) (sym k.view_is) near) ∙ ap (λ (x : LaneView). x.taken ++ g.octets ∷ []) (lane_is m0.0 i k.view_is),
+    ap (λ (t : TraceView). t.posted) (sym (trace_is m0.0 i k.view_is)) ∙ fits (subst (Leads i) (sym k.view_is) near) ∙ ap (λ (x : LaneView). x.taken ++ g.octets ∷ []) (lane_is m0.0 i k.view_is),
   )

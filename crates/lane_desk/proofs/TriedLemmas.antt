@@ -6,46 +6,46 @@ use Rattle.std.specs.Int.{bit_at}
 use Rattle.std.proofs.lemmas.Nat.Bits.{bit_at_or, bit_at-pow_same, bit_at-pow_other}
 use Rattle.line_rates.specs.declared.ask.Ask.{Ask}
 use Rattle.line_rates.specs.TickTree.{Asker}
-use Rattle.desk_rule.specs.declared.view.TurnView.{TurnView}
-use Rattle.desk_rule.specs.Lanes.{unturned, posted_in}
+use Rattle.desk_rule.specs.declared.view.TraceView.{TraceView}
+use Rattle.desk_rule.specs.Lanes.{untraced, posted_in}
 use Rattle.lane_desk.specs.Tried.{tried_by, tried, ask_at, asks_from, mark_of, AreMarks, AreOfGiven}
 
 abbrev Find : Type 0
 Find = Option Ask
 
 -- one lane more is tried
-tried_next : (given : ℕ → Bool) (fs : List Find) (f : Find) (ts : List TurnView) → length fs < length ts → set (tried given fs ts) (length fs) (tried_by (given (length fs)) f (get_or (tried given fs ts) (length fs) unturned)) ≡ tried given (fs ++ f ∷ []) ts
+tried_next : (given : ℕ → Bool) (fs : List Find) (f : Find) (ts : List TraceView) → length fs < length ts → set (tried given fs ts) (length fs) (tried_by (given (length fs)) f (get_or (tried given fs ts) (length fs) untraced)) ≡ tried given (fs ++ f ∷ []) ts
 tried_next given [] f [] h = absurd (omega (arith, h))
 tried_next given [] f (t ∷ ts) h = refl
 tried_next given (g ∷ gs) f [] h = absurd (omega (arith, h))
-tried_next given (g ∷ gs) f (t ∷ ts) h = ap (λ (l : List TurnView). tried_by (given 0) g t ∷ l) (tried_next (λ i. given (suc i)) gs f ts (omega (arith, h)))
+tried_next given (g ∷ gs) f (t ∷ ts) h = ap (λ (l : List TraceView). tried_by (given 0) g t ∷ l) (tried_next (λ i. given (suc i)) gs f ts (omega (arith, h)))
 
-pub tried_more : (given : ℕ → Bool) (fs : List Find) (f : Find) (ts us vs : List TurnView) (n : ℕ) → length fs ≡ n → n < length ts → us ≡ tried given fs ts → vs ≡ set us n (tried_by (given n) f (get_or us n unturned)) → vs ≡ tried given (fs ++ f ∷ []) ts
+pub tried_more : (given : ℕ → Bool) (fs : List Find) (f : Find) (ts us vs : List TraceView) (n : ℕ) → length fs ≡ n → n < length ts → us ≡ tried given fs ts → vs ≡ set us n (tried_by (given n) f (get_or us n untraced)) → vs ≡ tried given (fs ++ f ∷ []) ts
 tried_more given fs f ts us vs n e h is next =
-    next ∙ ap (λ (l : List TurnView). set l n (tried_by (given n) f (get_or l n unturned))) is
-    ∙ ap (λ (m : ℕ). set (tried given fs ts) m (tried_by (given m) f (get_or (tried given fs ts) m unturned))) (sym e)
+    next ∙ ap (λ (l : List TraceView). set l n (tried_by (given n) f (get_or l n untraced))) is
+    ∙ ap (λ (m : ℕ). set (tried given fs ts) m (tried_by (given m) f (get_or (tried given fs ts) m untraced))) (sym e)
     ∙ tried_next given fs f ts (omega (arith, e, h))
 
 -- what each lane is after it was tried, if it is given
-pub tried_at : (given : ℕ → Bool) (fs : List Find) (ts : List TurnView) (i : ℕ) → length fs ≡ length ts → i < length ts → get_or (tried given fs ts) i unturned ≡ tried_by (given i) (get_or fs i None) (get_or ts i unturned)
+pub tried_at : (given : ℕ → Bool) (fs : List Find) (ts : List TraceView) (i : ℕ) → length fs ≡ length ts → i < length ts → get_or (tried given fs ts) i untraced ≡ tried_by (given i) (get_or fs i None) (get_or ts i untraced)
 tried_at given [] [] i e h = absurd (omega (arith, h))
 tried_at given [] (t ∷ ts) i e h = absurd (omega (arith, e))
 tried_at given (f ∷ fs) [] i e h = absurd (omega (arith, h))
 tried_at given (f ∷ fs) (t ∷ ts) zero e h = refl
 tried_at given (f ∷ fs) (t ∷ ts) (suc i) e h = tried_at (λ j. given (suc j)) fs ts i (omega (arith, e)) (omega (arith, h))
 
-pub length-tried : (given : ℕ → Bool) (fs : List Find) (ts : List TurnView) → length (tried given fs ts) ≡ length ts
+pub length-tried : (given : ℕ → Bool) (fs : List Find) (ts : List TraceView) → length (tried given fs ts) ≡ length ts
 length-tried given [] ts = refl
 length-tried given (f ∷ fs) [] = refl
 length-tried given (f ∷ fs) (t ∷ ts) = ap suc (length-tried (λ i. given (suc i)) fs ts)
 
-pub posted_same : (given : Bool) (f : Find) (t : TurnView) → (tried_by given f t).posted ≡ t.posted
+pub posted_same : (given : Bool) (f : Find) (t : TraceView) → (tried_by given f t).posted ≡ t.posted
 posted_same true None t = refl
 posted_same false None t = refl
 posted_same given (Some a) t = refl
 
 -- trying posts nothing
-pub posted_in-tried : (given : ℕ → Bool) (fs : List Find) (ts : List TurnView) → posted_in (tried given fs ts) ≡ posted_in ts
+pub posted_in-tried : (given : ℕ → Bool) (fs : List Find) (ts : List TraceView) → posted_in (tried given fs ts) ≡ posted_in ts
 posted_in-tried given [] ts = refl
 posted_in-tried given (f ∷ fs) [] = refl
 posted_in-tried given (f ∷ fs) (t ∷ ts) =

@@ -4,9 +4,9 @@ use Rattle.std.specs.List.{sum_by}
 use Rattle.atomic_table.specs.Seated.{TableId}
 use Rattle.grant_ledger.specs.Books.{capped}
 use Rattle.desk_rule.specs.declared.view.LaneView.{LaneView}
-use Rattle.desk_rule.specs.declared.view.TurnView.{TurnView}
+use Rattle.desk_rule.specs.declared.view.TraceView.{TraceView}
 use Rattle.lane_desk.specs.declared.seat.LaneSeat.{LaneSeat}
-use Rattle.desk_rule.specs.Lanes.{fresh, unturned}
+use Rattle.desk_rule.specs.Lanes.{fresh, untraced}
 use Rattle.lane_desk.specs.Seats.{seat_view}
 use Rattle.lane_desk.specs.Close.{Closes}
 
@@ -19,12 +19,12 @@ module _ {N : Type 0} where
       → (s.lane ≡ i) × (s.seat.table_id ≡ z))
 
   -- each lane was closed, from what the round and the seat knew of it
-  abbrev pub AllClosed : List TurnView → List (LaneSeat N) → List TurnView → List LaneView → Type 0
+  abbrev pub AllClosed : List TraceView → List (LaneSeat N) → List TraceView → List LaneView → Type 0
   AllClosed ts seats ts' xs' =
       (length xs' ≡ length seats)
       × ((i : ℕ) (s : (LaneSeat N)) → slice_get seats i ≡ Some s
-      → (n : ℕ) × Closes (slice_index_or ts i unturned) (seat_view s)
-      (slice_index_or ts' i unturned) (slice_index_or xs' i fresh) n)
+      → (n : ℕ) × Closes (slice_index_or ts i untraced) (seat_view s)
+      (slice_index_or ts' i untraced) (slice_index_or xs' i fresh) n)
 
 abbrev pub taken_in_all : List LaneView → ℕ
 taken_in_all xs = sum_by (λ x. sum x.taken) xs

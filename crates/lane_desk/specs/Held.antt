@@ -3,11 +3,11 @@ use Rattle.std.specs.Prelude.{◌≡◌, ℕ, zero, suc, ◌+◌, ◌<◌, ◌�
 use Rattle.atomic_table.specs.Table.{Me}
 use Rattle.desk_rule.specs.declared.view.LaneSlot.{LaneSlot}
 use Rattle.desk_rule.specs.declared.view.LaneSlot.TheVariants.{Blank}
-use Rattle.desk_rule.specs.declared.view.TurnView.{TurnView}
+use Rattle.desk_rule.specs.declared.view.TraceView.{TraceView}
 use Rattle.desk_rule.specs.declared.view.RoundView.{RoundView}
 use Rattle.desk_rule.specs.declared.view.DeskView.{DeskView}
 use Rattle.desk_rule.specs.declared.view.DeskView.TheVariants.{Spent, Lane, Round}
-use Rattle.desk_rule.specs.Lanes.{first_round, turn_in, posted_in, most}
+use Rattle.desk_rule.specs.Lanes.{first_round, trace_in, posted_in, most}
 
 module _ {N : Type 0} where
   abbrev pub slot_if : List Bool → ℕ → List (ℕ × (LaneSlot N))
@@ -28,7 +28,7 @@ module _ {N : Type 0} where
   stack held i n = below held i ++ above held i n
 
 -- an ask was collected and not answered
-abbrev pub is_due : TurnView → Bool
+abbrev pub is_due : TraceView → Bool
 is_due t = nat_eq (length t.collected) (length t.posted + 1)
 
 abbrev pub round_in : DeskView → RoundView
@@ -39,8 +39,8 @@ round_in (Round sh) = sh
 module _ {N : Type 0} where
   pub record KnowsDesk (m : Me (LaneSlot N) DeskView) (lanes : ℕ) (held : List Bool) : Type 0 where
     pub view_is : m.0 ≡ Round (round_in m.0)
-    pub wide : length (round_in m.0).turns ≡ lanes
+    pub wide : length (round_in m.0).traces ≡ lanes
     pub room : lanes ≤ length held
     pub slots_are : m.1 ≡ stack held 0 lanes
-    pub within : posted_in (round_in m.0).turns ≤ most
-    pub marks : (i : ℕ) → i < lanes → slice_index_or held i false ≡ is_due (turn_in i m.0)
+    pub within : posted_in (round_in m.0).traces ≤ most
+    pub marks : (i : ℕ) → i < lanes → slice_index_or held i false ≡ is_due (trace_in i m.0)

@@ -3,7 +3,7 @@ use Rattle.std.specs.Prelude.{◌≡◌, ℕ, suc, ◌+◌, List, [], ◌∷◌,
 use Rattle.std.specs.Int.{bit_at}
 use Rattle.line_rates.specs.declared.ask.Ask.{Ask}
 use Rattle.line_rates.specs.TickTree.{Asker}
-use Rattle.desk_rule.specs.declared.view.TurnView.{TurnView}
+use Rattle.desk_rule.specs.declared.view.TraceView.{TraceView}
 use Rattle.desk_rule.specs.Lanes.{has_missed, has_collected}
 
 -- whether a lane is given, by a list of what holds of each
@@ -15,12 +15,12 @@ abbrev pub every : ℕ → Bool
 every i = true
 
 -- a lane after it was tried if it is given, with the ask found there, if any
-abbrev pub tried_by : Bool → Option Ask → TurnView → TurnView
+abbrev pub tried_by : Bool → Option Ask → TraceView → TraceView
 tried_by given None t = cond given (has_missed t) t
 tried_by given (Some a) t = has_collected a t
 
 -- the first lanes, each after it was tried if it is given
-abbrev pub tried : (ℕ → Bool) → List (Option Ask) → List TurnView → List TurnView
+abbrev pub tried : (ℕ → Bool) → List (Option Ask) → List TraceView → List TraceView
 tried given [] ts = ts
 tried given (f ∷ fs) [] = []
 tried given (f ∷ fs) (t ∷ ts) = tried_by (given 0) f t ∷ tried (λ i. given (suc i)) fs ts
@@ -49,10 +49,10 @@ abbrev pub AreMarks : List (Option Ask) → ℕ → Type 0
 AreMarks found n = (i : ℕ) → bit_at n i ≡ mark_of (slice_index_or found i None)
 
 -- each given lane was tried once, with these results, and no other
-pub record AreTried (given : ℕ → Bool) (found : List (Option Ask)) (old new : List TurnView)
+pub record AreTried (given : ℕ → Bool) (found : List (Option Ask)) (old new : List TraceView)
     (asks : List Asker) (answered : ℕ) : Type 0 where
   pub wide : length found ≡ length old
   pub only : AreOfGiven given found
-  pub turns : new ≡ tried given found old
+  pub traces : new ≡ tried given found old
   pub asks_are : asks ≡ asks_from 0 found
   pub marks : AreMarks found answered

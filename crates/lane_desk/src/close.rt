@@ -2,7 +2,7 @@
 
 ghost use Rattle.std.specs.Prelude.{◌≡◌, ◌+◌, ◌<◌, [], length};
 ghost use Rattle.lane_desk.specs.Seats.{desk_id};
-ghost use Rattle.lane_desk.specs.Turns.{turns, back, IsRoundOf};
+ghost use Rattle.lane_desk.specs.Traces.{traces, back, IsRoundOf};
 ghost use Rattle.lane_desk.specs.Close.{AllSettled};
 ghost use Rattle.lane_desk.specs.AllLanes.{AreSeats, AllClosed, GivesBack};
 
@@ -24,7 +24,7 @@ pub struct Lists<N> {
 /// Frees the table of a desk on which each lane is closed.
 pub(crate) fn free<N, A: Allocator>(desk: Desk<N, A>, round: RoundDesk<N>)
     requires round { IsRoundOf desk round × (length (back round) ≡ round.lanes) }
-    requires settled { AllSettled (turns round) (back round) }
+    requires settled { AllSettled (traces round) (back round) }
 {
     let mut closed = desk.into_table().close_with(round.into_seat());
     let mut i = 0;
@@ -50,7 +50,7 @@ pub fn close_desk<N, A: Allocator, B: Allocator>(
 ) -> Lists<N>
     requires round { IsRoundOf desk round × (back round ≡ []) }
     requires seats { AreSeats (desk_id desk) desk.lanes seats.items }
-    ensures lanes { AllClosed (turns round) seats.items (turns result.round.value)
+    ensures lanes { AllClosed (traces round) seats.items (traces result.round.value)
         (back result.round.value) }
     ensures moved { tally.new.moved ≡ tally.old.moved }
     ensures back { GivesBack tally.old.back tally.new.back seats.items (back result.round.value) }

@@ -1,9 +1,9 @@
 //! Collecting.
 
 ghost use Rattle.std.specs.Prelude.{◌≡◌, ◌<◌, [], List, Option, None, true, slice_set, slice_index_or, IfSome, IfNone, OnSome};
-ghost use Rattle.desk_rule.specs.Lanes.{unturned, has_collected};
+ghost use Rattle.desk_rule.specs.Lanes.{untraced, has_collected};
 ghost use Rattle.line_rates.specs.declared.ask.Ask.{Ask};
-ghost use Rattle.lane_desk.specs.Turns.{turns, IsRoundOf, IsSameRound};
+ghost use Rattle.lane_desk.specs.Traces.{traces, IsRoundOf, IsSameRound};
 ghost use Rattle.lane_desk.specs.Tried.{is_given, tried_by, AreTried};
 
 use crate::asks::Asks;
@@ -23,10 +23,10 @@ fn collect_if<N, A: Allocator>(
     requires desk { IsRoundOf desk.now round.old }
     requires lane { lane < round.old.lanes }
     ensures same { IsSameRound round.old round.new }
-    ensures some { IfSome result (λ a. turns round.new ≡ slice_set (turns round.old) lane
-        (has_collected a (slice_index_or (turns round.old) lane unturned))) }
-    ensures none { IfNone result (turns round.new ≡ slice_set (turns round.old) lane
-        (tried_by is_given None (slice_index_or (turns round.old) lane unturned))) }
+    ensures some { IfSome result (λ a. traces round.new ≡ slice_set (traces round.old) lane
+        (has_collected a (slice_index_or (traces round.old) lane untraced))) }
+    ensures none { IfNone result (traces round.new ≡ slice_set (traces round.old) lane
+        (tried_by is_given None (slice_index_or (traces round.old) lane untraced))) }
     ensures only { OnSome result (is_given ≡ true) }
 {
     if is_given {
@@ -47,7 +47,7 @@ pub(crate) fn collect_all<N, A: Allocator>(
     requires empty { asks.old ≡ record { asks = []; answered = 0 } }
     ensures same { IsSameRound round.old round.new }
     ensures tried { (found : List (Option Ask))
-        × AreTried (is_given given.now) found (turns round.old) (turns round.new) asks.new.asks
+        × AreTried (is_given given.now) found (traces round.old) (traces round.new) asks.new.asks
         asks.new.answered }
 {
     for lane in 0..round.lanes() {

@@ -2,9 +2,9 @@
 
 ghost use Rattle.std.specs.Prelude.{◌≡◌, ◌≢◌, ◌<◌, [], ◌∷◌, ◌++◌, length, slice_set, slice_index_or, IfSome, IfNone};
 ghost use Rattle.desk_rule.specs.declared.view.SeatState.TheVariants.{Worker};
-ghost use Rattle.desk_rule.specs.Lanes.{fresh, unturned, has_risen, has_taken, has_looked};
+ghost use Rattle.desk_rule.specs.Lanes.{fresh, untraced, has_risen, has_taken, has_looked};
 ghost use Rattle.lane_desk.specs.Seats.{seat_view, IsSeatOf};
-ghost use Rattle.lane_desk.specs.Turns.{turns, back, IsRoundOf};
+ghost use Rattle.lane_desk.specs.Traces.{traces, back, IsRoundOf};
 
 use crate::desk::Desk;
 use crate::round::RoundDesk;
@@ -18,7 +18,7 @@ pub(crate) fn join<N, A: Allocator>(round: &mut RoundDesk<N>, desk: &Desk<N, A>,
     requires round { IsRoundOf desk.now round.old }
     requires seat { IsSeatOf desk.now seat × (seat.lane ≡ length (back round.old)) }
     requires state { (seat_view seat).state ≢ Worker }
-    ensures same { IsRoundOf desk.now round.new × (turns round.new ≡ turns round.old) }
+    ensures same { IsRoundOf desk.now round.new × (traces round.new ≡ traces round.old) }
     ensures back { back round.new ≡ back round.old ++ seat_view seat ∷ [] }
 {
     let shared = desk.shared();
@@ -34,14 +34,14 @@ pub(crate) fn take_back<N, A: Allocator>(
 ) -> Option<Grant<N>>
     requires round { IsRoundOf desk.now round.old }
     requires lane { (lane < length (back round.old)) × (lane < round.old.lanes) }
-    ensures same { IsRoundOf desk.now round.new × (turns round.new ≡ turns round.old) }
+    ensures same { IsRoundOf desk.now round.new × (traces round.new ≡ traces round.old) }
     ensures some { IfSome result (λ g. (back round.new ≡ slice_set (back round.old) lane
         (has_risen (has_taken g.octets (slice_index_or (back round.old) lane fresh))))
-        × ((slice_index_or (turns round.old) lane unturned).posted
+        × ((slice_index_or (traces round.old) lane untraced).posted
         ≡ (slice_index_or (back round.old) lane fresh).taken ++ g.octets ∷ [])) }
     ensures none { IfNone result ((back round.new ≡ slice_set (back round.old) lane
         (has_looked (slice_index_or (back round.old) lane fresh)))
-        × ((slice_index_or (turns round.old) lane unturned).posted
+        × ((slice_index_or (traces round.old) lane untraced).posted
         ≡ (slice_index_or (back round.old) lane fresh).taken)) }
 {
     let shared = desk.shared();

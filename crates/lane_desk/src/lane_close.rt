@@ -4,9 +4,9 @@ ghost use Rattle.std.specs.Prelude.{◌≡◌, ◌≢◌, ◌+◌, ◌<◌, [], 
 ghost use Rattle.grant_ledger.specs.Books.{capped};
 ghost use Rattle.desk_rule.specs.declared.view.SeatState.TheVariants.{Worker};
 ghost use Rattle.desk_rule.specs.declared.view.LaneView.{LaneView};
-ghost use Rattle.desk_rule.specs.Lanes.{unturned};
+ghost use Rattle.desk_rule.specs.Lanes.{untraced};
 ghost use Rattle.lane_desk.specs.Seats.{seat_view, IsSeatOf, IsSameSeat};
-ghost use Rattle.lane_desk.specs.Turns.{turns, back, IsRoundOf, IsSameRound};
+ghost use Rattle.lane_desk.specs.Traces.{traces, back, IsRoundOf, IsSameRound};
 ghost use Rattle.lane_desk.specs.Close.{Closes, answered};
 
 use crate::desk::Desk;
@@ -22,8 +22,8 @@ fn answer<N, A: Allocator>(round: &mut RoundDesk<N>, desk: &Desk<N, A>, lane: us
     requires round { IsRoundOf desk.now round.old }
     requires lane { lane < round.old.lanes }
     ensures same { IsSameRound round.old round.new }
-    ensures turns { turns round.new ≡ slice_set (turns round.old) lane
-        (answered (slice_index_or (turns round.old) lane unturned)) }
+    ensures traces { traces round.new ≡ slice_set (traces round.old) lane
+        (answered (slice_index_or (traces round.old) lane untraced)) }
 {
     if round.is_due(lane) {
         round.post(desk, lane, Grant::none(lane as u8, 0));
@@ -54,11 +54,11 @@ pub(crate) fn close_lane<N, A: Allocator>(
     requires round { IsRoundOf desk.now round.old }
     requires seat { IsSeatOf desk.now seat × (seat.lane ≡ length (back round.old)) }
     ensures same { IsRoundOf desk.now round.new }
-    ensures turns { turns round.new ≡ slice_set (turns round.old) seat.lane
-        (slice_index_or (turns round.new) seat.lane unturned) }
+    ensures traces { traces round.new ≡ slice_set (traces round.old) seat.lane
+        (slice_index_or (traces round.new) seat.lane untraced) }
     ensures back { (x : LaneView) × (back round.new ≡ back round.old ++ x ∷ [])
-        × Closes (slice_index_or (turns round.old) seat.lane unturned) (seat_view seat)
-        (slice_index_or (turns round.new) seat.lane unturned) x result }
+        × Closes (slice_index_or (traces round.old) seat.lane untraced) (seat_view seat)
+        (slice_index_or (traces round.new) seat.lane untraced) x result }
     ensures moved { tally.new.moved ≡ tally.old.moved }
     ensures tally { tally.new.back ≡ capped tally.old.back result }
 {

@@ -3,9 +3,9 @@
 ghost use Rattle.std.specs.Prelude.{◌≡◌, ◌+◌, ◌<◌, ◌≤◌, [], length, replicate, IfOk, IfErr, Some, vec_capacity};
 ghost use Rattle.desk_rule.specs.declared.view.LaneSlot.TheVariants.{Blank};
 ghost use Rattle.desk_rule.specs.declared.view.DeskView.TheVariants.{Round};
-ghost use Rattle.desk_rule.specs.Lanes.{unturned, first_round, posted_in};
+ghost use Rattle.desk_rule.specs.Lanes.{untraced, first_round, posted_in};
 ghost use Rattle.lane_desk.specs.Seats.{desk_id};
-ghost use Rattle.lane_desk.specs.Turns.{turns, back, IsRoundOf};
+ghost use Rattle.lane_desk.specs.Traces.{traces, back, IsRoundOf};
 ghost use Rattle.lane_desk.specs.Begun.{dealt_round};
 ghost use Rattle.lane_desk.specs.Posted.{AllAnswered};
 ghost use Rattle.lane_desk.specs.Open.{AreFresh, IsNotOpened};
@@ -73,9 +73,9 @@ pub fn open_desk<N, A: Allocator + Clone>(
     _book: &Book<N>,
 ) -> Result<Opened<N, A>, DeskFault>
     ensures desk { IfOk result (λ r. r.0.lanes ≡ lanes) }
-    ensures round { IfOk result (λ r. IsRoundOf r.0 r.1 × (turns r.1 ≡ replicate lanes unturned)
+    ensures round { IfOk result (λ r. IsRoundOf r.0 r.1 × (traces r.1 ≡ replicate lanes untraced)
         × (back r.1 ≡ [])) }
-    ensures begun { IfOk result (λ r. AllAnswered (turns r.1) × (posted_in (turns r.1) ≡ 0)) }
+    ensures begun { IfOk result (λ r. AllAnswered (traces r.1) × (posted_in (traces r.1) ≡ 0)) }
     ensures seats { IfOk result (λ r. AreFresh (desk_id r.0) lanes r.2.items) }
     ensures few { IfOk result (λ r. lanes ≤ MAX_LANES) }
     ensures fault { IfErr result (IsNotOpened lanes) }

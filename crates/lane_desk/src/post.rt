@@ -3,7 +3,7 @@
 ghost use Rattle.std.specs.Prelude.{◌≡◌, ◌+◌, ◌<◌, ◌≤◌, length, sum, map};
 ghost use Rattle.line_rates.specs.TickTree.{lane_in};
 ghost use Rattle.desk_rule.specs.Lanes.{posted_in, most};
-ghost use Rattle.lane_desk.specs.Turns.{turns, IsRoundOf, IsSameRound};
+ghost use Rattle.lane_desk.specs.Traces.{traces, IsRoundOf, IsSameRound};
 ghost use Rattle.lane_desk.specs.Posted.{posted_all, AreDue, nothing_for};
 
 use crate::desk::Desk;
@@ -22,11 +22,11 @@ pub(crate) fn post_all<N, A: Allocator>(
 )
     requires desk { IsRoundOf desk.now round.old }
     requires each { length lanes.now ≡ length grants.now }
-    requires due { AreDue lanes.now (turns round.old) }
+    requires due { AreDue lanes.now (traces round.old) }
     requires purse { purse.left ≡ sum grants.now }
-    requires most { posted_in (turns round.old) + sum grants.now ≤ most }
+    requires most { posted_in (traces round.old) + sum grants.now ≤ most }
     ensures same { IsSameRound round.old round.new }
-    ensures posted { turns round.new ≡ posted_all lanes.now grants.now (turns round.old) }
+    ensures posted { traces round.new ≡ posted_all lanes.now grants.now (traces round.old) }
 {
     for i in 0..lanes.len() {
         let grant = purse.split(lanes[i], grants[i]);
@@ -43,11 +43,11 @@ pub(crate) fn refuse_all<N, A: Allocator>(
     tick: u64,
 )
     requires desk { IsRoundOf desk.now round.old }
-    requires due { AreDue (map lane_in asks.now) (turns round.old) }
-    requires most { posted_in (turns round.old) ≤ most }
+    requires due { AreDue (map lane_in asks.now) (traces round.old) }
+    requires most { posted_in (traces round.old) ≤ most }
     ensures same { IsSameRound round.old round.new }
-    ensures posted { turns round.new
-        ≡ posted_all (map lane_in asks.now) (map nothing_for asks.now) (turns round.old) }
+    ensures posted { traces round.new
+        ≡ posted_all (map lane_in asks.now) (map nothing_for asks.now) (traces round.old) }
 {
     for i in 0..asks.len() {
         let lane = asks[i].0;

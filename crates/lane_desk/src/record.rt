@@ -4,7 +4,7 @@ ghost use Rattle.std.specs.Prelude.{◌≡◌, ◌+◌, ◌/◌, ◌≤◌, Some
 ghost use Rattle.limit_tree.specs.Outline.{limits as seen};
 ghost use Rattle.limit_tree.specs.Sharing.{IsBest};
 ghost use Rattle.desk_rule.specs.Lanes.{posted_in};
-ghost use Rattle.lane_desk.specs.Turns.{turns, IsRoundOf, IsSameRound};
+ghost use Rattle.lane_desk.specs.Traces.{traces, IsRoundOf, IsSameRound};
 ghost use Rattle.lane_desk.specs.Posted.{AllAnswered};
 ghost use Rattle.lane_desk.specs.Tried.{is_given};
 ghost use Rattle.lane_desk.specs.Rounded.{IsRound, IsRefusedRound, IsRoundOver, IsRefusedRoundOver};
@@ -61,24 +61,24 @@ impl<N> RoundDesk<N> {
         given: &[bool; MAX_LANES],
     ) -> Result<RoundRecord<A>, RoundFault>
         requires desk { IsRoundOf desk.now self.old }
-        requires answered { AllAnswered (turns self.old) }
-        requires issued { posted_in (turns self.old) ≤ book.old.issued }
+        requires answered { AllAnswered (traces self.old) }
+        requires issued { posted_in (traces self.old) ≤ book.old.issued }
         ensures same { IsSameRound self.old self.new }
-        ensures answered { AllAnswered (turns self.new) }
+        ensures answered { AllAnswered (traces self.new) }
         ensures tick { IfOk result (λ r. r.tick ≡ moment / 100) }
         ensures round { IfOk result (λ r. IsRoundOver (is_given given.now) limits.now (moment / 100)
-            (turns self.old) (turns self.new) r.answered (seen r.sealed.tree) r.lanes.items r.asks.items
+            (traces self.old) (traces self.new) r.answered (seen r.sealed.tree) r.lanes.items r.asks.items
             r.sealed.grants) }
         ensures best { IfOk result (λ r. IsBest (seen r.sealed.tree) r.sealed.grants) }
         ensures issued { IfOk result
             (λ r. book.new.issued ≡ book.old.issued + sum r.sealed.grants) }
-        ensures total { IfOk result (λ r. posted_in (turns self.new)
-            ≡ posted_in (turns self.old) + sum r.sealed.grants) }
+        ensures total { IfOk result (λ r. posted_in (traces self.new)
+            ≡ posted_in (traces self.old) + sum r.sealed.grants) }
         ensures last_tick { OnOk result (book.new.last_tick ≡ Some (moment / 100)) }
         ensures undrawn { book.new.undrawn ≡ book.old.undrawn }
         ensures refused { IfErr result (λ f. IsRefusedRoundOver A (is_given given.now) limits.now
-            (moment / 100) book.old (turns self.old) (turns self.new) f.answered f.reason) }
-        ensures unposted { OnErr result (posted_in (turns self.new) ≡ posted_in (turns self.old)) }
+            (moment / 100) book.old (traces self.old) (traces self.new) f.answered f.reason) }
+        ensures unposted { OnErr result (posted_in (traces self.new) ≡ posted_in (traces self.old)) }
         ensures unchanged { OnErr result (book.new ≡ book.old) }
     {
         let tick = moment / 100;
@@ -120,24 +120,24 @@ impl<N> RoundDesk<N> {
         book: &mut Book<N>,
     ) -> Result<RoundRecord<A>, RoundFault>
         requires desk { IsRoundOf desk.now self.old }
-        requires answered { AllAnswered (turns self.old) }
-        requires issued { posted_in (turns self.old) ≤ book.old.issued }
+        requires answered { AllAnswered (traces self.old) }
+        requires issued { posted_in (traces self.old) ≤ book.old.issued }
         ensures same { IsSameRound self.old self.new }
-        ensures answered { AllAnswered (turns self.new) }
+        ensures answered { AllAnswered (traces self.new) }
         ensures tick { IfOk result (λ r. r.tick ≡ moment / 100) }
-        ensures round { IfOk result (λ r. IsRound limits.now (moment / 100) (turns self.old)
-            (turns self.new) r.answered (seen r.sealed.tree) r.lanes.items r.asks.items
+        ensures round { IfOk result (λ r. IsRound limits.now (moment / 100) (traces self.old)
+            (traces self.new) r.answered (seen r.sealed.tree) r.lanes.items r.asks.items
             r.sealed.grants) }
         ensures best { IfOk result (λ r. IsBest (seen r.sealed.tree) r.sealed.grants) }
         ensures issued { IfOk result
             (λ r. book.new.issued ≡ book.old.issued + sum r.sealed.grants) }
-        ensures total { IfOk result (λ r. posted_in (turns self.new)
-            ≡ posted_in (turns self.old) + sum r.sealed.grants) }
+        ensures total { IfOk result (λ r. posted_in (traces self.new)
+            ≡ posted_in (traces self.old) + sum r.sealed.grants) }
         ensures last_tick { OnOk result (book.new.last_tick ≡ Some (moment / 100)) }
         ensures undrawn { book.new.undrawn ≡ book.old.undrawn }
         ensures refused { IfErr result (λ f. IsRefusedRound A limits.now (moment / 100) book.old
-            (turns self.old) (turns self.new) f.answered f.reason) }
-        ensures unposted { OnErr result (posted_in (turns self.new) ≡ posted_in (turns self.old)) }
+            (traces self.old) (traces self.new) f.answered f.reason) }
+        ensures unposted { OnErr result (posted_in (traces self.new) ≡ posted_in (traces self.old)) }
         ensures unchanged { OnErr result (book.new ≡ book.old) }
     {
         self.round_of(alloc, desk, limits, moment, book, &[true; MAX_LANES])

@@ -1,7 +1,7 @@
 //! The round's seat: collect and post.
 
 ghost use Rattle.std.specs.Prelude.{◌≡◌, ◌+◌, ◌-◌, ◌<◌, ◌≤◌, [], true, length, slice_set, slice_index_or, IfSome, IfNone};
-ghost use Rattle.desk_rule.specs.Lanes.{unturned, has_missed, has_collected, has_posted, posted_in, most};
+ghost use Rattle.desk_rule.specs.Lanes.{untraced, has_missed, has_collected, has_posted, posted_in, most};
 ghost use Rattle.lane_desk.specs.Held.{stack, KnowsDesk, is_due};
 
 use crate::desk::Desk;
@@ -12,7 +12,7 @@ use line_rates::Ask;
 use std::alloc::Allocator;
 
 /// The right to collect the asks of a desk's lanes and to post the grants that answer them. Contracts see what it knows
-/// of each lane as `turns`: its tries, the asks collected, and the amounts posted.
+/// of each lane as `traces`: its tries, the asks collected, and the amounts posted.
 pub struct RoundDesk<N> {
     pub(crate) seat: Seat<LaneSlot<N>, DeskView>,
     lanes: usize,
@@ -23,7 +23,7 @@ pub struct RoundDesk<N> {
 }
 
 // A seat can access only the first of its slots. This moves the slots of lanes from `from` down to `to` to the end.
-fn turn_down<N>(
+fn rotate_down<N>(
     seat: &mut Seat<LaneSlot<N>, DeskView>,
     held: &[bool; MAX_LANES],
     lanes: usize,
@@ -39,13 +39,13 @@ fn turn_down<N>(
     while i > to {
         i -= 1;
         if held[i] {
-            seat.turn();
+            seat.trace();
         }
     }
 }
 
 impl<N> RoundDesk<N> {
-    ghost use Rattle.lane_desk.specs.Turns.{turns, IsRoundOf, IsSameRound};
+    ghost use Rattle.lane_desk.specs.Traces.{traces, IsRoundOf, IsSameRound};
     ghost use Rattle.desk_rule.specs.declared.view.DeskView.TheVariants.{Round};
     ghost use Rattle.lane_desk.specs.Begun.{dealt_round};
 
@@ -76,7 +76,7 @@ impl<N> RoundDesk<N> {
     /// Number of lanes.
     pub fn lanes(&self) -> usize
         ensures lanes { result ≡ self.now.lanes }
-        ensures turns { result ≡ length (turns self.now) }
+        ensures traces { result ≡ length (traces self.now) }
         ensures few { result ≤ 64 }
     {
         self.lanes
@@ -85,7 +85,7 @@ impl<N> RoundDesk<N> {
     /// Returns whether an ask of the lane was collected and not answered.
     pub fn is_due(&self, lane: usize) -> bool
         requires lane { lane < self.now.lanes }
-        ensures due { result ≡ is_due (slice_index_or (turns self.now) lane unturned) }
+        ensures due { result ≡ is_due (slice_index_or (traces self.now) lane untraced) }
     {
         self.held[lane]
     }
@@ -95,21 +95,21 @@ impl<N> RoundDesk<N> {
         requires desk { IsRoundOf desk.now self.old }
         requires lane { lane < self.old.lanes }
         ensures same { IsSameRound self.old self.new }
-        ensures some { IfSome result (λ a. turns self.new ≡ slice_set (turns self.old) lane
-            (has_collected a (slice_index_or (turns self.old) lane unturned))) }
-        ensures none { IfNone result (turns self.new ≡ slice_set (turns self.old) lane
-            (has_missed (slice_index_or (turns self.old) lane unturned))) }
+        ensures some { IfSome result (λ a. traces self.new ≡ slice_set (traces self.old) lane
+            (has_collected a (slice_index_or (traces self.old) lane untraced))) }
+        ensures none { IfNone result (traces self.new ≡ slice_set (traces self.old) lane
+            (has_missed (slice_index_or (traces self.old) lane untraced))) }
     {
         let shared = desk.shared();
         let lanes = self.lanes;
-        turn_down(&mut self.seat, &self.held, lanes, lanes, lane);
+        rotate_down(&mut self.seat, &self.held, lanes, lanes, lane);
         if shared.compare_exchange::<Collect>(&mut self.seat, lane, 2, 3) != 2 {
-            turn_down(&mut self.seat, &self.held, lanes, lane, 0);
+            rotate_down(&mut self.seat, &self.held, lanes, lane, 0);
             return None;
         }
         let slot = shared.exchange(&mut self.seat, lane, LaneSlot::Blank);
         self.held[lane] = true;
-        turn_down(&mut self.seat, &self.held, lanes, lane + 1, 0);
+        rotate_down(&mut self.seat, &self.held, lanes, lane + 1, 0);
         match slot {
             LaneSlot::WithAsk(ask) => Some(ask),
             _ => unreachable!(),
@@ -120,22 +120,22 @@ impl<N> RoundDesk<N> {
     pub fn post<A: Allocator>(&mut self, desk: &Desk<N, A>, lane: usize, grant: Grant<N>)
         requires desk { IsRoundOf desk.now self.old }
         requires lane { lane < self.old.lanes }
-        requires due { is_due (slice_index_or (turns self.old) lane unturned) ≡ true }
+        requires due { is_due (slice_index_or (traces self.old) lane untraced) ≡ true }
         requires grant { grant.lane ≡ lane }
-        requires most { posted_in (turns self.old) + grant.octets ≤ most }
+        requires most { posted_in (traces self.old) + grant.octets ≤ most }
         ensures same { IsSameRound self.old self.new }
-        ensures posted { turns self.new ≡ slice_set (turns self.old) lane
-            (has_posted grant.octets (slice_index_or (turns self.old) lane unturned)) }
+        ensures posted { traces self.new ≡ slice_set (traces self.old) lane
+            (has_posted grant.octets (slice_index_or (traces self.old) lane untraced)) }
     {
         let shared = desk.shared();
         let lanes = self.lanes;
-        turn_down(&mut self.seat, &self.held, lanes, lanes, lane + 1);
+        rotate_down(&mut self.seat, &self.held, lanes, lanes, lane + 1);
         match shared.exchange(&mut self.seat, lane, LaneSlot::WithGrant(grant)) {
             LaneSlot::Blank => {}
             _ => unreachable!(),
         }
         shared.store::<Post>(&mut self.seat, lane, 4);
         self.held[lane] = false;
-        turn_down(&mut self.seat, &self.held, lanes, lane, 0);
+        rotate_down(&mut self.seat, &self.held, lanes, lane, 0);
     }
 }

@@ -4,7 +4,7 @@ ghost use Rattle.std.specs.Prelude.{◌≡◌, ◌+◌, ◌/◌, Some, sum, IfOk
 ghost use Rattle.limit_tree.specs.Outline.{limits as seen};
 ghost use Rattle.limit_tree.specs.Sharing.{IsBest};
 ghost use Rattle.desk_rule.specs.Lanes.{posted_in};
-ghost use Rattle.lane_desk.specs.Turns.{turns, IsRoundOf, IsSameRound};
+ghost use Rattle.lane_desk.specs.Traces.{traces, IsRoundOf, IsSameRound};
 ghost use Rattle.lane_desk.specs.Posted.{AllAnswered};
 ghost use Rattle.lane_desk.specs.Tried.{is_given};
 ghost use Rattle.lane_desk.specs.Rounded.{IsRoundOver, IsRefusedRoundOver};
@@ -22,16 +22,16 @@ pub struct Rounds<N> {
     pub(crate) desk: RoundDesk<N>,
     pub(crate) book: Book<N>,
     pub(crate) tally: Tally<N>,
-    ghost told: { book.issued ≡ tally.moved + tally.back + posted_in (turns desk) },
-    ghost answered: { AllAnswered (turns desk) },
+    ghost reported: { book.issued ≡ tally.moved + tally.back + posted_in (traces desk) },
+    ghost answered: { AllAnswered (traces desk) },
 }
 
 impl<N> Rounds<N> {
     /// The rounds of a desk, with a book that has issued the octets in the tally and those posted. A desk just opened
     /// has posted nothing, and a book just opened has issued the octets in its tally.
     pub fn new(desk: RoundDesk<N>, book: Book<N>, tally: Tally<N>) -> Rounds<N>
-        requires told { book.issued ≡ tally.moved + tally.back + posted_in (turns desk) }
-        requires answered { AllAnswered (turns desk) }
+        requires reported { book.issued ≡ tally.moved + tally.back + posted_in (traces desk) }
+        requires answered { AllAnswered (traces desk) }
         ensures parts { (result.desk ≡ desk) × (result.book ≡ book) × (result.tally ≡ tally) }
     {
         Rounds { desk, book, tally }
@@ -66,14 +66,14 @@ impl<N> Rounds<N> {
         ensures tally { self.new.tally ≡ self.old.tally }
         ensures tick { IfOk result (λ r. r.tick ≡ moment / 100) }
         ensures round { IfOk result (λ r. IsRoundOver (is_given given.now) limits.now (moment / 100)
-            (turns self.old.desk) (turns self.new.desk) r.answered (seen r.sealed.tree)
+            (traces self.old.desk) (traces self.new.desk) r.answered (seen r.sealed.tree)
             r.lanes.items r.asks.items r.sealed.grants) }
         ensures best { IfOk result (λ r. IsBest (seen r.sealed.tree) r.sealed.grants) }
         ensures issued { IfOk result
             (λ r. self.new.book.issued ≡ self.old.book.issued + sum r.sealed.grants) }
         ensures last_tick { OnOk result (self.new.book.last_tick ≡ Some (moment / 100)) }
         ensures refused { IfErr result (λ f. IsRefusedRoundOver A (is_given given.now) limits.now
-            (moment / 100) self.old.book (turns self.old.desk) (turns self.new.desk) f.answered
+            (moment / 100) self.old.book (traces self.old.desk) (traces self.new.desk) f.answered
             f.reason) }
         ensures unchanged { OnErr result (self.new.book ≡ self.old.book) }
     {

@@ -2,7 +2,7 @@
 
 ghost use Rattle.std.specs.Prelude.{◌≡◌, ◌+◌, []};
 ghost use Rattle.lane_desk.specs.Seats.{desk_id};
-ghost use Rattle.lane_desk.specs.Turns.{back, IsRoundOf};
+ghost use Rattle.lane_desk.specs.Traces.{back, IsRoundOf};
 ghost use Rattle.lane_desk.specs.Workers.{AreWorkers, moved_by_all};
 
 use crate::close::free;
@@ -34,8 +34,8 @@ pub fn settle_all<N, A: Allocator, B: Allocator>(
     let _ = book.issued();
     workers.reverse();
     while let Some(worked) = workers.pop() {
-        let (seat, told) = worked.parts();
-        tally.join(told);
+        let (seat, reported) = worked.parts();
+        tally.join(reported);
         close_lane(&mut round, &desk, seat, &mut tally);
     }
     workers.destroy_empty();

@@ -11,13 +11,13 @@ use grant_ledger::Tally;
 pub struct Worked<N> {
     seat: LaneSeat<N>,
     tally: Tally<N>,
-    ghost told: { tally.moved + tally.back ≡ sum (seat_view seat).taken },
+    ghost reported: { tally.moved + tally.back ≡ sum (seat_view seat).taken },
 }
 
 impl<N> Worked<N> {
     /// A seat with a tally of everything that it took.
     pub fn new(seat: LaneSeat<N>, tally: Tally<N>) -> Worked<N>
-        requires told { tally.moved + tally.back ≡ sum (seat_view seat).taken }
+        requires reported { tally.moved + tally.back ≡ sum (seat_view seat).taken }
         ensures parts { (result.seat ≡ seat) × (result.tally ≡ tally) }
     {
         Worked { seat, tally }
@@ -26,7 +26,7 @@ impl<N> Worked<N> {
     /// The seat and the tally.
     pub fn parts(self) -> (LaneSeat<N>, Tally<N>)
         ensures parts { (result.0 ≡ self.seat) × (result.1 ≡ self.tally) }
-        ensures told { result.1.moved + result.1.back ≡ sum (seat_view result.0).taken }
+        ensures reported { result.1.moved + result.1.back ≡ sum (seat_view result.0).taken }
     {
         let Worked { seat, tally } = self;
         (seat, tally)

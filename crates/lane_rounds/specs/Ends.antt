@@ -24,16 +24,16 @@ received_end job.Memory = NoMemory
 received_end job.Stopped = Aborted
 
 -- the end reported, given what is left of the job: an unopened job failed at its file
-abbrev pub told_end : {R K C A : Type 0} → JobEnd → Ran R K C A → End
-told_end end (Out out) = sent_end end
-told_end end (In upload) = received_end end
-told_end end Unopened = sent_end end
+abbrev pub reported_end : {R K C A : Type 0} → JobEnd → Ran R K C A → End
+reported_end end (Out out) = sent_end end
+reported_end end (In upload) = received_end end
+reported_end end Unopened = sent_end end
 
 -- the sink returned to the session: that of an upload
-abbrev pub told_sink : {R K C A : Type 0} → Ran R K C A → Option K
-told_sink (Out out) = None
-told_sink (In upload) = Some upload.flow.sink
-told_sink Unopened = None
+abbrev pub reported_sink : {R K C A : Type 0} → Ran R K C A → Option K
+reported_sink (Out out) = None
+reported_sink (In upload) = Some upload.flow.sink
+reported_sink Unopened = None
 
 -- the sink of an upload; a download has none
 abbrev pub bound_sink : {K : Type 0} → Bool → Option K → Option K

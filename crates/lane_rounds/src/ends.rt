@@ -1,7 +1,7 @@
 //! Reports of lanes to sessions.
 
 ghost use Rattle.std.specs.Prelude.{◌≡◌, false, true};
-ghost use Rattle.lane_rounds.specs.Ends.{bound_end, bound_sink, lacks_sink, received_end, sent_end, told_end, told_sink};
+ghost use Rattle.lane_rounds.specs.Ends.{bound_end, bound_sink, lacks_sink, received_end, sent_end, reported_end, reported_sink};
 ghost use Rattle.server_house.specs.Tickets.{HasSinkOf};
 ghost use Rattle.session_table.specs.declared.inputs.End.TheVariants.{Aborted};
 
@@ -39,14 +39,14 @@ fn received_end(end: JobEnd) -> End
 }
 
 /// The end of a job, and the sink of an upload. The connection is dropped first.
-pub(crate) fn told_of<R, K, C, A>(end: JobEnd, ran: Ran<R, K, C, A>) -> (End, Option<K>)
+pub(crate) fn reported_of<R, K, C, A>(end: JobEnd, ran: Ran<R, K, C, A>) -> (End, Option<K>)
 where
     R: Source,
     K: Sink,
     C: Read + Write + Drop,
     A: Allocator,
-    ensures end { result.0 ≡ told_end end ran }
-    ensures sink { result.1 ≡ told_sink ran }
+    ensures end { result.0 ≡ reported_end end ran }
+    ensures sink { result.1 ≡ reported_sink ran }
 {
     match ran {
         Ran::Out(_) => (sent_end(end), None),

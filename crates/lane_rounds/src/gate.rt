@@ -7,9 +7,9 @@ ghost use Rattle.transfer_ticket.specs.Tickets.{is_runner};
 ghost use Rattle.transfer_ticket.specs.Views.{run_view};
 
 use crate::clock::RoundClock;
-use crate::ends::{report_of, told_of};
+use crate::ends::{report_of, reported_of};
+use crate::paced::TalliedRounds;
 use crate::rounds::help;
-use crate::turns::Turns;
 use data_sockets::{DataConnection, Served};
 use handler_hooks::Hooks;
 use lent_parts::{LentDesk, PartsName};
@@ -58,7 +58,7 @@ pub(crate) struct LaneGate<
     rt: &'r R,
     house: &'h House<S, H, B>,
     desk: &'d LentDesk<B, N>,
-    turns: &'t Mutex<Turns<B, N>>,
+    paced: &'t Mutex<TalliedRounds<B, N>>,
     lane: usize,
     run: TicketRun<'h, SessionJob<S>, SessionEnd<S>, LaneEnds>,
     is_upload: bool,
@@ -93,7 +93,7 @@ where
         rt: &'r R,
         house: &'h House<S, H, B>,
         desk: &'d LentDesk<B, N>,
-        turns: &'t Mutex<Turns<B, N>>,
+        paced: &'t Mutex<TalliedRounds<B, N>>,
         lane: usize,
         run: TicketRun<'h, SessionJob<S>, SessionEnd<S>, LaneEnds>,
         is_upload: bool,
@@ -106,7 +106,7 @@ where
             rt,
             house,
             desk,
-            turns,
+            paced,
             lane,
             run,
             is_upload,
@@ -145,7 +145,7 @@ where
             rt: _,
             house: _,
             desk: _,
-            turns: _,
+            paced: _,
             lane: _,
             run,
             is_upload,
@@ -193,7 +193,7 @@ where
             self.rt.alloc(),
             self.house,
             self.desk,
-            self.turns,
+            self.paced,
             sign,
             now,
         );
@@ -284,6 +284,6 @@ where
         end: JobEnd,
         ran: Ran<Served<Global, S::Source>, S::Sink, DataConnection, Global>,
     ) {
-        self.ended = Some(told_of(end, ran));
+        self.ended = Some(reported_of(end, ran));
     }
 }

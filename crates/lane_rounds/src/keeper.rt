@@ -3,8 +3,8 @@
 ghost use Rattle.lane_rounds.specs.Clocks.{IsTestOf};
 
 use crate::clock::RoundClock;
+use crate::paced::TalliedRounds;
 use crate::rounds::try_one;
-use crate::turns::Turns;
 use handler_hooks::Hooks;
 use lent_parts::{LentDesk, PartsName};
 use server_house::{House, ShutdownStage};
@@ -22,7 +22,7 @@ pub fn keep_rounds<R, S, H, B, N>(
     rt: &R,
     house: &House<S, H, B>,
     desk: &LentDesk<B, N>,
-    turns: &Mutex<Turns<B, N>>,
+    paced: &Mutex<TalliedRounds<B, N>>,
 )
 where
     R: Wait + Clock + RoundClock + AllocGlobal,
@@ -37,7 +37,7 @@ where
             return;
         }
         let now = rt.moment();
-        let _ = try_one(rt.alloc(), house, desk, turns, None, now);
+        let _ = try_one(rt.alloc(), house, desk, paced, None, now);
         house
             .bell
             .wait(rt, seen, 0, Duration::from_millis(BACKSTOP));

@@ -8,7 +8,7 @@ ghost use Rattle.server_house.specs.Tickets.{is_upload};
 
 use crate::clock::RoundClock;
 use crate::gate::LaneGate;
-use crate::turns::Turns;
+use crate::paced::TalliedRounds;
 use handler_hooks::Hooks;
 use lent_parts::{LentDesk, LentPass, LentWorker, PartsName};
 use line_rates::Way;
@@ -50,7 +50,7 @@ fn run_transfer<'h, R, S, H, B, N>(
     rt: &R,
     house: &'h House<S, H, B>,
     desk: &LentDesk<B, N>,
-    turns: &Mutex<Turns<B, N>>,
+    paced: &Mutex<TalliedRounds<B, N>>,
     worker: &mut LentWorker<B, N>,
     ticket: &'h SessionTicket<S>,
 )
@@ -70,7 +70,7 @@ where
         Some(own) => sign(own, &job),
         None => {}
     }
-    let mut gate = LaneGate::new(rt, house, desk, turns, lane, run, is_upload(&job));
+    let mut gate = LaneGate::new(rt, house, desk, paced, lane, run, is_upload(&job));
     let before = worker.moved();
     worker.work(rt, rt.alloc(), desk, job, &mut gate);
     gate.report(worker.moved().saturating_sub(before));
@@ -87,7 +87,7 @@ pub fn work_lane<R, S, H, B, N>(
     rt: &R,
     house: &House<S, H, B>,
     desk: &LentDesk<B, N>,
-    turns: &Mutex<Turns<B, N>>,
+    paced: &Mutex<TalliedRounds<B, N>>,
     worker: &mut LentWorker<B, N>,
     mut pass: LentPass<B, u32>,
 )
@@ -105,7 +105,7 @@ where
         let seen = house.jobs.seen();
         match house.board.pop(rt, &mut pass) {
             Some(number) => match (&*house).tickets.get(number as usize) {
-                Some(ticket) => run_transfer(rt, &*house, desk, turns, worker, ticket),
+                Some(ticket) => run_transfer(rt, &*house, desk, paced, worker, ticket),
                 None => {}
             },
             None => {

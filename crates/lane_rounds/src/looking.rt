@@ -3,7 +3,7 @@
 ghost use Rattle.std.specs.Prelude.{◌≡◌, ◌+◌};
 ghost use Rattle.round_tally.specs.Counts.{tallied};
 
-use crate::turns::Turns;
+use crate::paced::TalliedRounds;
 use grant_ledger::MAX_LANES;
 use handler_hooks::Hooks;
 use lent_parts::PartsName;
@@ -50,7 +50,7 @@ fn running_on(lanes: &[LaneSign]) -> [u64; MAX_LANES] {
 pub fn look<R, S, H, B, N>(
     rt: &R,
     house: &House<S, H, B>,
-    turns: &Mutex<Turns<B, N>>,
+    paced: &Mutex<TalliedRounds<B, N>>,
 ) -> Option<RoundLook>
 where
     R: Wait + Clock,
@@ -60,7 +60,7 @@ where
 {
     for _ in 0..TRIES {
         let running = running_on(&house.lanes);
-        if let Some(guard) = turns.try_lock() {
+        if let Some(guard) = paced.try_lock() {
             let look = guard.look(&running);
             drop(guard);
             house.bell.signal();

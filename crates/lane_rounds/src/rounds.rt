@@ -3,7 +3,7 @@
 ghost use Rattle.std.specs.Prelude.{◌≡◌, true};
 ghost use Rattle.lane_rounds.specs.Dues.{sooner};
 
-use crate::turns::Turns;
+use crate::paced::TalliedRounds;
 use grant_ledger::MAX_LANES;
 use handler_hooks::Hooks;
 use lane_desk::RoundRecord;
@@ -76,7 +76,7 @@ fn transfers_of(lanes: &[LaneSign]) -> [u64; MAX_LANES] {
 }
 
 // Tells each lane that a round has answered whether it was granted all that it asked for.
-fn tell_wholes(lanes: &[LaneSign], record: &RoundRecord) {
+fn report_wholes(lanes: &[LaneSign], record: &RoundRecord) {
     let grants = record.sealed.grants().iter();
     for ((lane, ask), grant) in record.lanes.iter().zip(&record.asks).zip(grants) {
         if let Some(sign) = lanes.get(*lane as usize) {
@@ -90,16 +90,16 @@ fn hold_one<S: Store<Global>, H: Hooks, B: PartsName, N>(
     alloc: Global,
     house: &House<S, H, B>,
     desk: &LentDesk<B, N>,
-    turns: &mut Turns<B, N>,
+    paced: &mut TalliedRounds<B, N>,
     now: u64,
 )
     requires when { B.when now ≡ true }
 {
-    let given = open_lanes(house, &turns.rounds, now);
+    let given = open_lanes(house, &paced.rounds, now);
     let transfers = transfers_of(&house.lanes);
-    match turns.hold(alloc, desk, now, &given, &transfers) {
+    match paced.hold(alloc, desk, now, &given, &transfers) {
         Ok(record) => {
-            tell_wholes(&house.lanes, &record);
+            report_wholes(&house.lanes, &record);
             wake_lanes(&house.lanes, record.answered, false);
         }
         Err(fault) => wake_lanes(&house.lanes, fault.answered, true),
@@ -157,13 +157,13 @@ pub(crate) fn try_one<S: Store<Global>, H: Hooks, B: PartsName, N>(
     alloc: Global,
     house: &House<S, H, B>,
     desk: &LentDesk<B, N>,
-    turns: &Mutex<Turns<B, N>>,
+    paced: &Mutex<TalliedRounds<B, N>>,
     sign: Option<&LaneSign>,
     now: u64,
 ) -> Tried
     requires when { B.when now ≡ true }
 {
-    match turns.try_lock() {
+    match paced.try_lock() {
         None => Tried::ByAnother,
         Some(mut guard) => match due_by(house, &guard.rounds, sign, now) {
             Due::At(moment) => Tried::NotBefore(moment),
@@ -186,14 +186,14 @@ pub(crate) fn help<S: Store<Global>, H: Hooks, B: PartsName, N>(
     alloc: Global,
     house: &House<S, H, B>,
     desk: &LentDesk<B, N>,
-    turns: &Mutex<Turns<B, N>>,
+    paced: &Mutex<TalliedRounds<B, N>>,
     sign: &LaneSign,
     now: u64,
 ) -> Option<u64>
     requires when { B.when now ≡ true }
 {
     house.bell.raise();
-    let mut seen = match try_one(alloc, house, desk, turns, Some(sign), now) {
+    let mut seen = match try_one(alloc, house, desk, paced, Some(sign), now) {
         Tried::Held(seen) => seen,
         Tried::ByAnother => return Some(now.saturating_add(TICK_MICROS)),
         Tried::NotBefore(moment) => return Some(moment),
@@ -202,7 +202,7 @@ pub(crate) fn help<S: Store<Global>, H: Hooks, B: PartsName, N>(
         if house.bell.seen() == seen {
             return None;
         }
-        match try_one(alloc, house, desk, turns, None, now) {
+        match try_one(alloc, house, desk, paced, None, now) {
             Tried::Held(next) => seen = next,
             Tried::ByAnother | Tried::NotBefore(_) => return None,
         }

@@ -6,7 +6,7 @@ use Rattle.lane_desk.specs.Workers.{AreWorkers, moved_by_all}
 use Rattle.lane_desk.specs.declared.worked.Worked.{Worked}
 use Rattle.lent_parts.specs.declared.name.PartsName.{Ghosts}
 use Rattle.lent_parts.specs.declared.worker.LentWorker.{LentWorker}
-use Rattle.lent_parts.specs.Told.{moved_by_lent}
+use Rattle.lent_parts.specs.Reported.{moved_by_lent}
 use Rattle.lane_desk.proofs.Opening.{get_end}
 
 module _ {N : Type 0} where

@@ -5,7 +5,7 @@ use Rattle.lane_desk.specs.declared.desk.Desk.{Desk}
 use Rattle.lane_desk.specs.declared.seat.LaneSeat.{LaneSeat}
 use Rattle.lane_desk.specs.Seats.{desk_id}
 use Rattle.lane_desk.specs.declared.round.RoundDesk.{RoundDesk}
-use Rattle.lane_desk.specs.Turns.{back}
+use Rattle.lane_desk.specs.Traces.{back}
 use Rattle.transfer_worker.specs.Boards.{board_id}
 use Rattle.transfer_worker.specs.declared.board.BoardPass.{BoardPass}
 use Rattle.transfer_worker.specs.declared.board.JobBoard.{JobBoard}

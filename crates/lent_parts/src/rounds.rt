@@ -4,7 +4,7 @@ ghost use Rattle.std.specs.Prelude.{◌≡◌, ◌+◌, ◌/◌, ◌++◌, [], �
 ghost use Rattle.limit_tree.specs.Outline.{limits as seen};
 ghost use Rattle.limit_tree.specs.Sharing.{IsBest};
 ghost use Rattle.lent_parts.specs.Names.{RoundsAt};
-ghost use Rattle.lane_desk.specs.Turns.{turns};
+ghost use Rattle.lane_desk.specs.Traces.{traces};
 ghost use Rattle.lane_desk.specs.Tried.{is_given};
 ghost use Rattle.lane_desk.specs.Rounded.{IsRoundOver, IsRefusedRoundOver};
 ghost use Rattle.round_pace.specs.Changed.{IsChangedTo};
@@ -86,8 +86,8 @@ impl<B: PartsName, N> LentRounds<B, N> {
             self.old.rounds.pace in IfOk result (λ r. r.tick ≡ p.moment / 100) }
         ensures round { let p = offer_round (tick_of (max now self.old.rounds.latest))
             self.old.rounds.pace in IfOk result (λ r. IsRoundOver (is_given given.now) p.offered
-            (p.moment / 100) (turns self.old.rounds.rounds.desk)
-            (turns self.new.rounds.rounds.desk) r.answered (seen r.sealed.tree) r.lanes.items
+            (p.moment / 100) (traces self.old.rounds.rounds.desk)
+            (traces self.new.rounds.rounds.desk) r.answered (seen r.sealed.tree) r.lanes.items
             r.asks.items r.sealed.grants) }
         ensures best { IfOk result (λ r. IsBest (seen r.sealed.tree) r.sealed.grants) }
         ensures issued { IfOk result (λ r. self.new.rounds.rounds.book.issued
@@ -98,7 +98,7 @@ impl<B: PartsName, N> LentRounds<B, N> {
         ensures refused { let p = offer_round (tick_of (max now self.old.rounds.latest))
             self.old.rounds.pace in IfErr result (λ f. IsRefusedRoundOver A (is_given given.now)
             p.offered (p.moment / 100) self.old.rounds.rounds.book
-            (turns self.old.rounds.rounds.desk) (turns self.new.rounds.rounds.desk) f.answered
+            (traces self.old.rounds.rounds.desk) (traces self.new.rounds.rounds.desk) f.answered
             f.reason) }
         ensures unchanged { OnErr result
             (self.new.rounds.rounds.book ≡ self.old.rounds.rounds.book) }

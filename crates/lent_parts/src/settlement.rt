@@ -3,7 +3,7 @@
 ghost use Rattle.std.specs.Prelude.{◌≡◌, ◌+◌, ◌≤◌, [], length, vec_capacity};
 ghost use Rattle.lane_desk.specs.Workers.{AreWorkers, moved_by_all};
 ghost use Rattle.paced_rounds.specs.Seconds.{HasKept};
-ghost use Rattle.lent_parts.specs.Told.{moved_by_lent};
+ghost use Rattle.lent_parts.specs.Reported.{moved_by_lent};
 
 use crate::desk::LentDesk;
 use crate::name::PartsName;

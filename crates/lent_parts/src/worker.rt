@@ -26,14 +26,14 @@ pub struct LentWorker<B: PartsName, N> {
     pub(crate) tally: Tally<N>,
     name: PhantomData<B>,
     ghost named: { SitsAt B.desk B.lanes seat },
-    ghost told: { tally.moved + tally.back ≡ sum (seat_view seat).taken },
+    ghost reported: { tally.moved + tally.back ≡ sum (seat_view seat).taken },
 }
 
 impl<B: PartsName, N> LentWorker<B, N> {
     /// A seat of the desk, with a tally of everything that it took.
     pub fn new(seat: LaneSeat<N>, tally: Tally<N>) -> LentWorker<B, N>
         requires named { SitsAt B.desk B.lanes seat }
-        requires told { tally.moved + tally.back ≡ sum (seat_view seat).taken }
+        requires reported { tally.moved + tally.back ≡ sum (seat_view seat).taken }
         ensures parts { (result.seat ≡ seat) × (result.tally ≡ tally) }
     {
         LentWorker {

@@ -11,7 +11,7 @@ use Rattle.limit_tree.specs.declared.place.Place.{Place}
 use Rattle.limit_tree.specs.declared.node.Node.{Node}
 use Rattle.limit_tree.proofs.Places.{places_of_all, length_places_out}
 use Rattle.limit_tree.proofs.Leaves.{length-wants_in}
-use Rattle.limit_tree.proofs.Told.{told, told-out}
+use Rattle.limit_tree.proofs.Reported.{reported, reported-out}
 use Rattle.limit_tree.proofs.Moves.{moved_out, moved_of_all-drop}
 
 -- no kid yet
@@ -21,25 +21,25 @@ copied-start depth n node kids unseen was now is below =
     ap (λ (ps : List Place). ps ++ map (moved depth n) (places_of_all kids)) is ∙ ap (λ (ps : List Place). was ++ unseen ∷ [] ++ map (moved depth n) ps) (sym below)
 
 -- a branch tells what the trees below it tell, and a leaf its own number
-pub told-branch : {A : Type 0} (f : NodeKind → Option ℕ) (node : Node A) (kids : List (Node A)) (limit : Option ℕ) (was : List ℕ) → f (Branch limit) ≡ None → kind_of node ≡ Branch limit → places_of_all (kids_of node) ≡ places_of_all kids
-    → was ++ told f (places_of_all kids) ≡ was ++ told f (places node)
-told-branch f node kids limit was none kind below =
-    ap (λ (ws : List ℕ). was ++ ws) (sym (told-out f node ∙ (ap (λ (k : NodeKind). cons_option (f k) (told f (places_of_all (kids_of node)))) kind ∙
-    (ap (λ (o : Option ℕ). cons_option o (told f (places_of_all (kids_of node)))) none ∙ ap (told f) below))))
+pub reported-branch : {A : Type 0} (f : NodeKind → Option ℕ) (node : Node A) (kids : List (Node A)) (limit : Option ℕ) (was : List ℕ) → f (Branch limit) ≡ None → kind_of node ≡ Branch limit → places_of_all (kids_of node) ≡ places_of_all kids
+    → was ++ reported f (places_of_all kids) ≡ was ++ reported f (places node)
+reported-branch f node kids limit was none kind below =
+    ap (λ (ws : List ℕ). was ++ ws) (sym (reported-out f node ∙ (ap (λ (k : NodeKind). cons_option (f k) (reported f (places_of_all (kids_of node)))) kind ∙
+    (ap (λ (o : Option ℕ). cons_option o (reported f (places_of_all (kids_of node)))) none ∙ ap (reported f) below))))
 
-pub told-leaf : {A : Type 0} (f : NodeKind → Option ℕ) (node : Node A) (want floor number : ℕ) (was now : List ℕ) → f (Leaf want floor) ≡ Some number → kind_of node ≡ Leaf want floor → places_of_all (kids_of node) ≡ []
-    → now ≡ was ++ number ∷ [] → now ≡ was ++ told f (places node)
-told-leaf f node want floor number was now own kind none is =
-    is ∙ ap (λ (ws : List ℕ). was ++ ws) (sym (told-out f node ∙ (ap (λ (k : NodeKind). cons_option (f k) (told f (places_of_all (kids_of node)))) kind ∙
-    (ap (λ (o : Option ℕ). cons_option o (told f (places_of_all (kids_of node)))) own ∙ ap (λ (ps : List Place). number ∷ told f ps) none))))
+pub reported-leaf : {A : Type 0} (f : NodeKind → Option ℕ) (node : Node A) (want floor number : ℕ) (was now : List ℕ) → f (Leaf want floor) ≡ Some number → kind_of node ≡ Leaf want floor → places_of_all (kids_of node) ≡ []
+    → now ≡ was ++ number ∷ [] → now ≡ was ++ reported f (places node)
+reported-leaf f node want floor number was now own kind none is =
+    is ∙ ap (λ (ws : List ℕ). was ++ ws) (sym (reported-out f node ∙ (ap (λ (k : NodeKind). cons_option (f k) (reported f (places_of_all (kids_of node)))) kind ∙
+    (ap (λ (o : Option ℕ). cons_option o (reported f (places_of_all (kids_of node)))) own ∙ ap (λ (ps : List Place). number ∷ reported f ps) none))))
 
 -- nothing stands below a leaf
 pub copied-leaf : {A : Type 0} (depth n : ℕ) (node : Node A) (unseen : Place) (was now : List Place) → now ≡ was ++ unseen ∷ [] → places_of_all (kids_of node) ≡ [] → now ≡ was ++ unseen ∷ [] ++ map (moved depth n) (places_of_all (kids_of node))
 copied-leaf depth n node unseen was now is none = is ∙ (sym (append-nil (was ++ unseen ∷ [])) ∙ ap (λ (ps : List Place). was ++ unseen ∷ [] ++ map (moved depth n) ps) (sym none))
 
 -- how many leaves were passed
-pub reached-more : (was now : List ℕ) (below : List Place) → now ≡ was ++ told leaf_want below → length now ≡ length was + leaf_count below
-reached-more was now below is = ap length is ∙ (length-append was (told leaf_want below) ∙ ap (λ (n : ℕ). length was + n) (length-wants_in below))
+pub reached-more : (was now : List ℕ) (below : List Place) → now ≡ was ++ reported leaf_want below → length now ≡ length was + leaf_count below
+reached-more was now below is = ap length is ∙ (length-append was (reported leaf_want below) ∙ ap (λ (n : ℕ). length was + n) (length-wants_in below))
 
 -- how many nodes a copy has
 pub length-copied : {A : Type 0} (depth n : ℕ) (node : Node A) (unseen : Place) (was now : List Place) → now ≡ was ++ unseen ∷ [] ++ map (moved depth n) (places_of_all (kids_of node)) → length now ≡ length was + length (places node)

@@ -14,7 +14,7 @@ pub mod Shapes
 pub mod Hops
 pub mod Bare
 pub mod Rows
-pub mod Told
+pub mod Reported
 pub mod Copied
 pub mod Shown
 pub mod Deeper

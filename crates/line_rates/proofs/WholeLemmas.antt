@@ -153,11 +153,11 @@ server_over r tick kids rows order ps outline limit g limited is =
 
 pub plan_is : (r : Rates) (tick kids : ℕ) (asks rows order : List Asker) (ps outline : List Place) (limit : Option ℕ) (lanes : List ℕ) → rows ≡ asks → IsGrownFrom r tick 1 rows order ps
     → limit ≡ rate_limit (rate_of r Server) tick → outline ≡ branch_over limit kids ps ∷ map deeper ps → lanes ≡ map lane_in order → IsPlan r tick asks (limits outline) lanes
-plan_is r tick kids asks rows order ps outline limit lanes same g limited is told = record {
+plan_is r tick kids asks rows order ps outline limit lanes same g limited is reported = record {
   order = order;
   all = subst (λ (xs : List Asker). IsPermutation xs order) same g.all;
   tree = server_over r tick kids rows order ps outline limit g limited is;
-  lanes_are = told;
+  lanes_are = reported;
 }
 
 pub fault_is : {A : Type 0} (r : Rates) (tick kids : ℕ) (asks rows order : List Asker) (ps : List Place) (root : Node A) (limit : Option ℕ) (fault : TreeFault) → rows ≡ asks → IsGrownFrom r tick 1 rows order ps

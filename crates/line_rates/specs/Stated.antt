@@ -87,8 +87,8 @@ HasTie {X} number rows =
     × ((d : X) → number (slice_index_or rows (k + 1) d) ≤ number (slice_index_or rows k d))
 
 -- the result says whether each row's number is below that of the next
-abbrev pub TellsRising : {X : Type 0} → (X → ℕ) → List X → Bool → Type 0
-TellsRising number rows rises = MatchBool rises (IsRising number rows) (HasTie number rows)
+abbrev pub ReportsRising : {X : Type 0} → (X → ℕ) → List X → Bool → Type 0
+ReportsRising number rows rises = MatchBool rises (IsRising number rows) (HasTie number rows)
 
 pub record FitsGroup (row : GroupRate) : Type 0 where
   pub down : row.down ≤ MAX_RATE

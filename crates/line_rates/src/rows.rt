@@ -5,7 +5,7 @@ ghost use Rattle.std.specs.FinMap as finite;
 ghost use Rattle.std.specs.List.{All, Contains};
 ghost use Rattle.std.specs.List.Sorted.{IsNonDecreasingBy};
 ghost use Rattle.line_rates.specs.Put.{put, FindsPlace};
-ghost use Rattle.line_rates.specs.Stated.{FitsGroup, FitsUser, group_number, user_number, by_number, is_large_group, is_large_user, has_large_group, has_large_user, has_no_row, has_stray_user, IsRising, TellsRising};
+ghost use Rattle.line_rates.specs.Stated.{FitsGroup, FitsUser, group_number, user_number, by_number, is_large_group, is_large_user, has_large_group, has_large_user, has_no_row, has_stray_user, IsRising, ReportsRising};
 
 use crate::rate::MAX_RATE;
 use crate::row::{GroupRate, UserRate};
@@ -70,7 +70,7 @@ pub(crate) fn sort_users<A: Allocator>(users: &mut Vec<UserRate, A>)
 
 /// Returns whether each group's number is above that of the one before it.
 pub(crate) fn groups_rise(groups: &[GroupRate]) -> bool
-    ensures rise { TellsRising group_number groups.now result }
+    ensures rise { ReportsRising group_number groups.now result }
 {
     for place in 1..groups.len() {
         if groups[place].group <= groups[place - 1].group {
@@ -82,7 +82,7 @@ pub(crate) fn groups_rise(groups: &[GroupRate]) -> bool
 
 /// Returns whether each user's number is above that of the one before them.
 pub(crate) fn users_rise(users: &[UserRate]) -> bool
-    ensures rise { TellsRising user_number users.now result }
+    ensures rise { ReportsRising user_number users.now result }
 {
     for place in 1..users.len() {
         if users[place].user <= users[place - 1].user {

@@ -14,15 +14,15 @@ use Rattle.memory_store.specs.InMemory.{Memory, Upload, Changes, left_by, filled
 use Rattle.memory_store.proofs.Trees.{total-insert, size_within}
 
 -- a refusal that was decided
-pub refuses : {P X : Type 0} (old : Memory) (decided : Result P StoreFault) (told : P → X) (tree : P → Tree) (why : StoreFault) → decided ≡ Err why → Changes old (Err why) old decided told tree
-refuses old decided told tree why is = (λ other. (sym (ap (in_answer told) is), sym (ap (left_by old tree) is)), λ memory. refl)
+pub refuses : {P X : Type 0} (old : Memory) (decided : Result P StoreFault) (reported : P → X) (tree : P → Tree) (why : StoreFault) → decided ≡ Err why → Changes old (Err why) old decided reported tree
+refuses old decided reported tree why is = (λ other. (sym (ap (in_answer reported) is), sym (ap (left_by old tree) is)), λ memory. refl)
 
 -- a change that was decided
-pub succeeds : {P X : Type 0} (old new : Memory) (decided : Result P StoreFault) (told : P → X) (tree : P → Tree) (p : P) → decided ≡ Ok p → new ≡ record { tree = tree p; capacity = old.capacity } → Changes old (Ok (told p)) new decided told tree
-succeeds {P} {X} old new decided told tree p is after =
-    (λ other. (sym (ap (in_answer told) is), after ∙ sym (ap (left_by old tree) is)), λ memory. absurd (never memory))
+pub succeeds : {P X : Type 0} (old new : Memory) (decided : Result P StoreFault) (reported : P → X) (tree : P → Tree) (p : P) → decided ≡ Ok p → new ≡ record { tree = tree p; capacity = old.capacity } → Changes old (Ok (reported p)) new decided reported tree
+succeeds {P} {X} old new decided reported tree p is after =
+    (λ other. (sym (ap (in_answer reported) is), after ∙ sym (ap (left_by old tree) is)), λ memory. absurd (never memory))
   where
-    never : (let answer : Result X StoreFault = Ok (told p) in answer) ≡ Err fault.Memory → ⊥
+    never : (let answer : Result X StoreFault = Ok (reported p) in answer) ≡ Err fault.Memory → ⊥
     never e = cc
 
 pub decided_full : (old : Memory) (upload : Upload) (moment : ℕ) (octets : List ℕ) → nat_lt old.capacity (total (filled old.tree upload moment octets)) ≡ true → finish_octets old upload moment (Some octets) ≡ Err fault.Full

@@ -21,7 +21,7 @@ use Rattle.std.proofs.lemmas.Map.Keys.{sorted_head, sorted_tail}
 use Rattle.virtual_path.specs.Path.{Path, parent_of}
 use Rattle.virtual_tree.specs.Calls.{Entry, entry_of, entries_of, names_of}
 use Rattle.virtual_tree.specs.declared.listed.ListedEntry.{ListedEntry}
-use Rattle.memory_store.specs.Tree.{Node, Spot, Tree, names_cmp, path_cmp, is_same, is_in, is_named, last_of, children_in, listing, told_of}
+use Rattle.memory_store.specs.Tree.{Node, Spot, Tree, names_cmp, path_cmp, is_same, is_in, is_named, last_of, children_in, listing, reported_of}
 use Rattle.memory_store.proofs.Spots.{path_cmp-push, ends_in_last}
 use Rattle.memory_store.specs.Orders.{names_total, paths_total}
 use Rattle.memory_store.proofs.Trees.{exact_names}
@@ -169,14 +169,14 @@ pub bare_answer : {A : Type 0} (shows : A → Spot × Node) (s t : List (Spot ×
 bare_answer shows s t r true is e = sym (ap not e) ∙ found_first shows s t r is
 bare_answer shows s t r false is e = sym (ap not e) ∙ found_first shows s t r is
 
-pub told_all : {A : Type 0} (shows : A → Spot × Node) (told all : List Entry) (s t : List (Spot × Node)) (r : Option A) → told ++ map told_of (filter is_named s) ≡ all → r ≡ None → TakesFirst shows s r t → told ≡ all
-told_all shows told all s t r so_far is step = sym (append-nil told) ∙ ap (λ es. told ++ map told_of (filter is_named es)) (sym (rest_all shows s t r is step)) ∙ so_far
+pub reported_all : {A : Type 0} (shows : A → Spot × Node) (reported all : List Entry) (s t : List (Spot × Node)) (r : Option A) → reported ++ map reported_of (filter is_named s) ≡ all → r ≡ None → TakesFirst shows s r t → reported ≡ all
+reported_all shows reported all s t r so_far is step = sym (append-nil reported) ∙ ap (λ es. reported ++ map reported_of (filter is_named es)) (sym (rest_all shows s t r is step)) ∙ so_far
 
 -- ---- the names rise
 
-names_told : {A : Type 0} (listed : List (ListedEntry A)) → map (λ entry. string_bytes entry.name) listed ≡ map (λ (e : Entry). e.0) (map entry_of listed)
-names_told [] = refl
-names_told (entry ∷ listed) = ap (λ names. string_bytes entry.name ∷ names) (names_told listed)
+names_reported : {A : Type 0} (listed : List (ListedEntry A)) → map (λ entry. string_bytes entry.name) listed ≡ map (λ (e : Entry). e.0) (map entry_of listed)
+names_reported [] = refl
+names_reported (entry ∷ listed) = ap (λ names. string_bytes entry.name ∷ names) (names_reported listed)
 
 only_less : (order : Ordering) → T (is_lt order) → order ≡ Less
 only_less Less h = refl
@@ -209,7 +209,7 @@ name_below directory p q here there less =
     only_less (text_cmp (last_of p) (last_of q)) (subst (λ order. T (is_lt order)) one less)
 
 abbrev shown_names : Path → List (Spot × Node) → List (List ℕ)
-shown_names directory es = map (λ (e : Entry). e.0) (map told_of (filter is_named (filter (λ entry. is_in directory entry.0) es)))
+shown_names directory es = map (λ (e : Entry). e.0) (map reported_of (filter is_named (filter (λ entry. is_in directory entry.0) es)))
 
 first_part : (a b : Bool) → T (a && b) → T a
 first_part true b h = tt
@@ -224,8 +224,8 @@ names_below directory p [] here below = tt
 names_below directory p (e ∷ es) here below =
     let rest = names_below directory p es here (second_part (is_lt (path_cmp p e.0)) (below_all path_cmp p es) below) in
     let children : List (Spot × Node) = filter (λ entry. is_in directory entry.0) es in
-    elim (is_in directory e.0) as (λ b. is_in directory e.0 ≡ b → AllByRecursion (λ name. text_cmp (last_of p) name ≡ Less) (map (λ (e : Entry). e.0) (map told_of (filter is_named (cond b (e ∷ children) children))))) [
-      | true ↦ λ there. elim (is_named e) as (λ b. AllByRecursion (λ name. text_cmp (last_of p) name ≡ Less) (map (λ (e : Entry). e.0) (map told_of (cond b (e ∷ filter is_named children) (filter is_named children))))) [
+    elim (is_in directory e.0) as (λ b. is_in directory e.0 ≡ b → AllByRecursion (λ name. text_cmp (last_of p) name ≡ Less) (map (λ (e : Entry). e.0) (map reported_of (filter is_named (cond b (e ∷ children) children))))) [
+      | true ↦ λ there. elim (is_named e) as (λ b. AllByRecursion (λ name. text_cmp (last_of p) name ≡ Less) (map (λ (e : Entry). e.0) (map reported_of (cond b (e ∷ filter is_named children) (filter is_named children))))) [
         | true ↦ (name_below directory p e.0 here there (first_part (is_lt (path_cmp p e.0)) (below_all path_cmp p es) below), rest)
         | false ↦ rest
       ]
@@ -238,8 +238,8 @@ names_rise directory [] sorted = tt
 names_rise directory (e ∷ es) sorted =
     let rest = names_rise directory es (second_part (below_all path_cmp e.0 es) (is_sorted path_cmp es) sorted) in
     let children : List (Spot × Node) = filter (λ entry. is_in directory entry.0) es in
-    elim (is_in directory e.0) as (λ b. is_in directory e.0 ≡ b → IsStrictlySortedBy text_cmp (map (λ (e : Entry). e.0) (map told_of (filter is_named (cond b (e ∷ children) children))))) [
-      | true ↦ λ there. elim (is_named e) as (λ b. IsStrictlySortedBy text_cmp (map (λ (e : Entry). e.0) (map told_of (cond b (e ∷ filter is_named children) (filter is_named children))))) [
+    elim (is_in directory e.0) as (λ b. is_in directory e.0 ≡ b → IsStrictlySortedBy text_cmp (map (λ (e : Entry). e.0) (map reported_of (filter is_named (cond b (e ∷ children) children))))) [
+      | true ↦ λ there. elim (is_named e) as (λ b. IsStrictlySortedBy text_cmp (map (λ (e : Entry). e.0) (map reported_of (cond b (e ∷ filter is_named children) (filter is_named children))))) [
         | true ↦ (names_below directory e.0 es there (first_part (below_all path_cmp e.0 es) (is_sorted path_cmp es) sorted), rest)
         | false ↦ rest
       ]
@@ -249,7 +249,7 @@ names_rise directory (e ∷ es) sorted =
 -- what was listed rises
 pub listing_rises : {A B : Type 0} (listed : Vec (ListedEntry A) B) (tree : Tree) (directory : Path) → entries_of listed ≡ listing tree directory → IsStrictlySortedBy text_cmp (names_of listed)
 listing_rises listed tree directory is =
-    subst (IsStrictlySortedBy text_cmp) (sym (names_told listed.items ∙ ap (map (λ (e : Entry). e.0)) is)) (names_rise directory (entries tree) (entries_sorted tree))
+    subst (IsStrictlySortedBy text_cmp) (sym (names_reported listed.items ∙ ap (map (λ (e : Entry). e.0)) is)) (names_rise directory (entries tree) (entries_sorted tree))
 
 pub listing_rises_where : {A B E : Type 0} (answer : Result (Vec (ListedEntry A) B) E) (tree : Tree) (directory : Path) → IfOk answer (λ listed. entries_of listed ≡ listing tree directory)
     → IfOk answer (λ listed. IsStrictlySortedBy text_cmp (names_of listed))

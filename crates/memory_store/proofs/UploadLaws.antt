@@ -27,12 +27,12 @@ not_memory : {X : Type 0} (x : X) → (let answer : Result X StoreFault = Ok x i
 not_memory x e = cc
 
 -- what was decided, where the answer is no refusal
-told_by : {P X : Type 0} (told : P → X) (decided : Result P StoreFault) (x : X) → Ok x ≡ in_answer told decided → (p : P) × (decided ≡ Ok p) × (x ≡ told p)
-told_by {P} {X} told (Ok p) x e = (p, refl, same)
+reported_by : {P X : Type 0} (reported : P → X) (decided : Result P StoreFault) (x : X) → Ok x ≡ in_answer reported decided → (p : P) × (decided ≡ Ok p) × (x ≡ reported p)
+reported_by {P} {X} reported (Ok p) x e = (p, refl, same)
   where
-    same : x ≡ told p
+    same : x ≡ reported p
     same = cc
-told_by told (Err why) x e = absurd (no_answer why x (sym e))
+reported_by reported (Err why) x e = absurd (no_answer why x (sym e))
 
 unless_refused : {X : Type 0} (b : Bool) (why : StoreFault) (answer : Result X StoreFault) (x : X) → cond b (Err why) answer ≡ Ok x → answer ≡ Ok x
 unless_refused true why answer x e = absurd (no_answer why x e)
@@ -72,7 +72,7 @@ given_by : (memory : Memory) (tree : Tree) (path : Path) (mode : WriteMode) (mom
     → (found ≡ Some upload.spot) × (upload.kept ≡ kept_by mode (octets_in (node_in tree found))) × (upload.octets ≡ [])
 given_by memory tree path mode moment None upload e = absurd (no_answer fault.IsDir upload (sym e))
 given_by memory tree path mode moment (Some spot) upload e =
-    let decided = told_by (begun memory) (open_node tree path spot moment mode (get tree spot)) upload e in
+    let decided = reported_by (begun memory) (open_node tree path spot moment mode (get tree spot)) upload e in
     let is = subst (IsOpening spot (kept_by mode (octets_in (get tree spot)))) decided.1 (node_opens tree path spot moment mode (get tree spot)) in (
       ap Some (sym is.0 ∙ ap (λ (u : Upload). u.spot) (sym decided.2)),
       ap (λ (u : Upload). u.kept) decided.2 ∙ is.1,
@@ -126,7 +126,7 @@ finish_puts_what_came first opened before after path mode moment later given bro
     let start = given_by first first.tree path mode moment (spot_of path) given (opens.0 (not_memory given)).0 in
     let way = writes_bring pieces given brought writes in
     let end = finish.0 (not_memory tt) in
-    let decided = told_by (unit_of {P = Tree}) (finished before brought later) tt end.0 in
+    let decided = reported_by (unit_of {P = Tree}) (finished before brought later) tt end.0 in
     let stands : spot_of path ≡ Some brought.spot = start.0 ∙ ap (λ target. Some (spot_of_target target)) (sym way.0) in
     let kept : brought.kept ≡ kept_by mode (octets_in (node_at first.tree path)) = ap kept_of_target way.0 ∙ start.1 in
     let octets : brought.octets ≡ concat pieces = way.1 ∙ ap (λ front. front ++ concat pieces) start.2 in

@@ -39,8 +39,8 @@ if_found answer (Some node) = answer node
 
 -- ---- calls that change nothing
 
-abbrev pub meta_told : Node → Result Meta StoreFault
-meta_told node = Ok (meta_of node)
+abbrev pub meta_reported : Node → Result Meta StoreFault
+meta_reported node = Ok (meta_of node)
 
 -- a file's octets from an offset on; None is a directory
 abbrev pub octets_from : ℕ → Option (List ℕ) → Result (List ℕ) StoreFault
@@ -57,10 +57,10 @@ kind_in tree spot = option_map kind_of (get tree spot)
 abbrev pub kind_at : Tree → Path → Option EntryKind
 kind_at tree path = option_map kind_of (node_at tree path)
 
-abbrev pub listing_told : Tree → Path → Option EntryKind → Result (List Entry) StoreFault
-listing_told tree path None = Err fault.NotFound
-listing_told tree path (Some kind.File) = Err fault.NotDir
-listing_told tree path (Some kind.Directory) = Ok (listing tree path)
+abbrev pub listing_reported : Tree → Path → Option EntryKind → Result (List Entry) StoreFault
+listing_reported tree path None = Err fault.NotFound
+listing_reported tree path (Some kind.File) = Err fault.NotDir
+listing_reported tree path (Some kind.Directory) = Ok (listing tree path)
 
 -- the spot, if an entry may be created there, given the kinds of its directory and of an entry at
 -- the spot
@@ -210,9 +210,9 @@ finished memory upload moment =
 -- ---- the relation
 
 -- this result or lack of memory, and the store is unchanged
-abbrev pub Tells : {X : Type 0} → Memory → Result X StoreFault → Memory → Result X StoreFault
+abbrev pub Reports : {X : Type 0} → Memory → Result X StoreFault → Memory → Result X StoreFault
     → Type 0
-Tells old answer new wanted = (answer ≢ Err fault.Memory → answer ≡ wanted) × (new ≡ old)
+Reports old answer new wanted = (answer ≢ Err fault.Memory → answer ≡ wanted) × (new ≡ old)
 
 -- the store after a decision; a refusal leaves it unchanged
 abbrev pub left_by : {P : Type 0} → Memory → (P → Tree) → Result P StoreFault → Memory
@@ -222,9 +222,9 @@ left_by old tree (Err why) = old
 -- this result and the store after it; or lack of memory, and the store is unchanged
 abbrev pub Changes : {P X : Type 0} → Memory → Result X StoreFault → Memory → Result P StoreFault
     → (P → X) → (P → Tree) → Type 0
-Changes old answer new decided told tree =
+Changes old answer new decided reported tree =
     (answer ≢ Err fault.Memory
-    → (answer ≡ in_answer told decided) × (new ≡ left_by old tree decided))
+    → (answer ≡ in_answer reported decided) × (new ≡ left_by old tree decided))
     × (answer ≡ Err fault.Memory → new ≡ old)
 
 abbrev pub unit_of : {P : Type 0} → P → Unit {0}
@@ -236,11 +236,11 @@ Opens old answer new decided =
 
 abbrev pub InMemory : Memory → Exchange (List ℕ) Upload → Memory → Type 0
 InMemory old (Stat path answer) new =
-    Tells old answer new (if_found meta_told (node_at old.tree path))
+    Reports old answer new (if_found meta_reported (node_at old.tree path))
 InMemory old (Listing path answer) new =
-    Tells old answer new (listing_told old.tree path (kind_at old.tree path))
+    Reports old answer new (listing_reported old.tree path (kind_at old.tree path))
 InMemory old (OpenRead path offset answer) new =
-    Tells old answer new
+    Reports old answer new
     (if_found (λ node. octets_from offset (octets_of node)) (node_at old.tree path))
 InMemory old (OpenWrite path mode moment answer) new =
     Opens old answer new (opened old.tree path mode moment (spot_of path))

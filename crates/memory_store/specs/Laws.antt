@@ -15,7 +15,7 @@ use Rattle.virtual_tree.specs.declared.mode.WriteMode.TheVariants.{New, At, Appe
 use Rattle.virtual_tree.specs.Calls.{in_answer, Exchange, refusal, PassesCapacity}
 use Rattle.virtual_tree.specs.Calls.Exchange.{Stat, Listing, OpenRead, OpenWrite, Finish, MakeDir, RemoveDir, RemoveFile, Rename}
 use Rattle.memory_store.specs.Tree.{Node, Spot, Tree, spot_of, node_at, octets_of, total, begins_with}
-use Rattle.memory_store.specs.InMemory.{Memory, Upload, Move, InMemory, would_hold, if_found, meta_told, listing_told, octets_from, vacancy, vacant, spot_to_make, bare_only, is_bare, spot_of_bare, file_only, spot_of_file, outside_itself, move_to, move_of, open_new, open_absent, open_octets, open_node, opened, filled, unit_of, finish_octets, finish_node, finished, octets_at}
+use Rattle.memory_store.specs.InMemory.{Memory, Upload, Move, InMemory, would_hold, if_found, meta_reported, listing_reported, octets_from, vacancy, vacant, spot_to_make, bare_only, is_bare, spot_of_bare, file_only, spot_of_file, outside_itself, move_to, move_of, open_new, open_absent, open_octets, open_node, opened, filled, unit_of, finish_octets, finish_node, finished, octets_at}
 
 -- neither `Device` nor `Full`
 abbrev is_plain : StoreFault → Bool
@@ -58,7 +58,7 @@ plain-if_found answer h None = tt
 plain-if_found answer h (Some node) = h node
 
 plain-listing : (tree : Tree) (path : Path) (found : Option EntryKind)
-    → Plain (listing_told tree path found)
+    → Plain (listing_reported tree path found)
 plain-listing tree path None = tt
 plain-listing tree path (Some kind.File) = tt
 plain-listing tree path (Some kind.Directory) = tt
@@ -171,10 +171,10 @@ not_plain X why (Ok x) h p e = never_ok X why x e
 not_plain X why (Err other) h p e =
     both_ways (is_plain why) h (subst T (sym (ap is_plain (err_same X why other e))) p)
 
-plain-in_answer : {X P : Type 0} (told : P → X) (decided : Result P StoreFault) → Plain decided
-    → Plain (in_answer told decided)
-plain-in_answer told (Ok x) p = tt
-plain-in_answer told (Err why) p = p
+plain-in_answer : {X P : Type 0} (reported : P → X) (decided : Result P StoreFault) → Plain decided
+    → Plain (in_answer reported decided)
+plain-in_answer reported (Ok x) p = tt
+plain-in_answer reported (Err why) p = p
 
 -- a fault that is neither plain nor lack of memory
 pub record IsGrave (why : StoreFault) : Type 0 where
@@ -185,18 +185,18 @@ pub record IsGrave (why : StoreFault) : Type 0 where
 wanted_by : (X : Type 0) (answer wanted : Result X StoreFault) (why : StoreFault)
     → why ≢ fault.Memory → (answer ≢ Err fault.Memory → answer ≡ wanted)
     → result_err answer ≡ Some why → refused X why ≡ wanted
-wanted_by X (Ok x) wanted why other told is = absurd (nothing_some why is)
-wanted_by X (Err found) wanted why other told is =
+wanted_by X (Ok x) wanted why other reported is = absurd (nothing_some why is)
+wanted_by X (Err found) wanted why other reported is =
     let same : found ≡ why = some_same found why is in
-    ap (refused X) (sym same) ∙ told
+    ap (refused X) (sym same) ∙ reported
     (λ memory. other (sym same ∙ err_same X found fault.Memory memory))
 
 refused_by : {X : Type 0} (answer wanted : Result X StoreFault) (why : StoreFault) → IsGrave why
     → Plain wanted → (answer ≢ Err fault.Memory → answer ≡ wanted) → result_err answer ≡ Some why
     → ⊥
-refused_by {X} answer wanted why grave p told is =
+refused_by {X} answer wanted why grave p reported is =
     not_plain X why wanted grave.not_plain p
-    (wanted_by X answer wanted why grave.not_memory told is)
+    (wanted_by X answer wanted why grave.not_memory reported is)
 
 abbrev OnlyFinish : Exchange (List ℕ) Upload → Type 0
 OnlyFinish (Finish upload moment answer) = Unit {0}
@@ -207,7 +207,7 @@ plain_step : (old new : Memory) (exchange : Exchange (List ℕ) Upload) (why : S
     → IsGrave why → InMemory old exchange new → refusal exchange ≡ Some why → OnlyFinish exchange
 plain_step old new (Stat path answer) why grave step is =
     (refused_by answer _ why grave
-    (plain-if_found meta_told (λ node. tt) (node_at old.tree path)) step.0 is)
+    (plain-if_found meta_reported (λ node. tt) (node_at old.tree path)) step.0 is)
 plain_step old new (Listing path answer) why grave step is =
     (refused_by answer _ why grave (plain-listing old.tree path _) step.0 is)
 plain_step old new (OpenRead path offset answer) why grave step is =
@@ -293,10 +293,10 @@ finish-step : (memory : Memory) (upload : Upload) (moment : ℕ)
     (finished memory upload moment)
 finish-step memory upload moment = finish-node memory upload moment (get memory.tree upload.spot)
 
-err_from : {P X : Type 0} (told : P → X) (decided : Result P StoreFault) (why : StoreFault)
-    → refused X why ≡ in_answer told decided → decided ≡ Err why
-err_from {P} {X} told (Ok x) why e = absurd (never_ok X why (told x) e)
-err_from {P} {X} told (Err other) why e = ap (refused P) (sym (err_same X why other e))
+err_from : {P X : Type 0} (reported : P → X) (decided : Result P StoreFault) (why : StoreFault)
+    → refused X why ≡ in_answer reported decided → decided ≡ Err why
+err_from {P} {X} reported (Ok x) why e = absurd (never_ok X why (reported x) e)
+err_from {P} {X} reported (Err other) why e = ap (refused P) (sym (err_same X why other e))
 
 device_is_grave : IsGrave fault.Device
 device_is_grave = record { not_plain = tt; not_memory = λ e. differ 7 8 tt (ap fault_number e) }
@@ -312,7 +312,7 @@ decided_by : (old new : Memory) (upload : Upload) (moment : ℕ)
 decided_by old new upload moment answer why other step is =
     err_from unit_of (finished old upload moment) why
     (wanted_by (Unit {0}) answer (in_answer unit_of (finished old upload moment)) why other
-    (λ told. (step.0 told).0) is)
+    (λ reported. (step.0 reported).0) is)
 
 pub never_device : (old new : Memory) (exchange : Exchange (List ℕ) Upload)
     → InMemory old exchange new → refusal exchange ≡ Some fault.Device → ◌≢◌ {A = ℕ} 0 0

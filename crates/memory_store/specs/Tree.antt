@@ -89,8 +89,8 @@ last_of (name ∷ []) = name
 last_of (name ∷ next ∷ names) = last_of (next ∷ names)
 
 -- an entry of a directory as listed: its name there, and its metadata
-abbrev pub told_of : Spot × Node → List ℕ × Meta
-told_of entry = (last_of entry.0, meta_of entry.1)
+abbrev pub reported_of : Spot × Node → List ℕ × Meta
+reported_of entry = (last_of entry.0, meta_of entry.1)
 
 -- only names that a path can contain are listed
 abbrev pub is_named : Spot × Node → Bool
@@ -98,7 +98,7 @@ is_named entry = is_name (last_of entry.0)
 
 -- a directory's entries, sorted by the octets of their names
 abbrev pub listing : Tree → Path → List (List ℕ × Meta)
-listing tree directory = map told_of (filter is_named (children_in tree directory))
+listing tree directory = map reported_of (filter is_named (children_in tree directory))
 
 -- a path is this one or beneath it
 abbrev pub begins_with : Path → Path → Bool

@@ -99,7 +99,7 @@ impl<A: Allocator + Clone> Spot<A> {
     ghost use Rattle.std.specs.Prelude.{◌≡◌, ◌++◌, ◌∷◌, [], IfOk};
     ghost use Rattle.virtual_path.specs.Path.{Path, slashed, names_in, parent_of};
     ghost use Rattle.virtual_tree.specs.Calls.{entry_of};
-    ghost use Rattle.memory_store.specs.Tree.{last_of, spot_of, told_of, moved};
+    ghost use Rattle.memory_store.specs.Tree.{last_of, spot_of, reported_of, moved};
 
     /// The spot with this text, which has `/` before each name; none if the text is empty, as the root's
     /// is.
@@ -175,7 +175,7 @@ impl<A: Allocator + Clone> Spot<A> {
         ensures { IfOk result (λ found. MatchOption found
             (is_name (last_of self.now) ≡ false)
             (λ listed. (is_name (last_of self.now) ≡ true)
-            × (entry_of listed ≡ told_of (self.now, entry.now)))) }
+            × (entry_of listed ≡ reported_of (self.now, entry.now)))) }
     {
         if !is_name(self.name.as_str()) {
             return Ok(None);

@@ -13,7 +13,7 @@ use Rattle.line_rates.specs.Granted.{Granted, granted_ask, granted_octets, Grant
 use Rattle.line_rates.specs.Names.{want_of}
 use Rattle.line_rates.specs.Rates.{Rates}
 use Rattle.line_rates.specs.TickTree.{IsTickTree}
-use Rattle.desk_rule.specs.declared.view.TurnView.{TurnView}
+use Rattle.desk_rule.specs.declared.view.TraceView.{TraceView}
 use Rattle.lane_desk.specs.declared.record.RoundRecord.{RoundRecord}
 use Rattle.lane_desk.specs.declared.record.RoundFault.{RoundFault}
 use Rattle.lane_desk.specs.Rounded.{IsRoundOver}
@@ -110,7 +110,7 @@ taken_next xs ns d i old new h e is =
     ∙ (λ k. map granted_in old ++ leaves (sym (drops xs d i h) k) (sym (drops ns 0 i (omega (arith, h, e))) k))
 
 -- what a round grants keeps the limits
-pub keeps : GrantsKeepNames → (given : ℕ → Bool) (rates : Rates) (tick : ℕ) (old new : List TurnView) (marks : ℕ) (tree : LimitTree) (lanes : List ℕ) (asks : List Ask) (grants : List ℕ) → IsRoundOver given rates tick old new marks tree lanes asks grants → IsBest tree grants
+pub keeps : GrantsKeepNames → (given : ℕ → Bool) (rates : Rates) (tick : ℕ) (old new : List TraceView) (marks : ℕ) (tree : LimitTree) (lanes : List ℕ) (asks : List Ask) (grants : List ℕ) → IsRoundOver given rates tick old new marks tree lanes asks grants → IsBest tree grants
     → (length asks ≡ length grants) × KeepsLimits rates tick (leaves asks grants)
 keeps law given rates tick old new marks tree lanes asks grants round best =
     let tree_of : IsTickTree rates tick asks tree = subst (λ (xs : List Ask). IsTickTree rates tick xs tree) (sym round.asks_are) round.plan.tree in
@@ -191,32 +191,32 @@ pub record Leads {A : Type 0} (p q : Paced) (now old new : ℕ) (taken : List (A
   pub log : map granted_in taken ≡ granted_by out
   pub issued : new ≡ old + octets_of (round_at now out)
 
-pub leads_ok : {A : Type 0} → GrantsKeepNames → (given : ℕ → Bool) (p o q : Paced) (now moment before issued : ℕ) (rates : Rates) (taken : List (Ask × ℕ)) (out : Outcome A) (r : RoundRecord A) (old new : List TurnView) (xs : List Ask) (ns : List ℕ) → out ≡ Ok r
+pub leads_ok : {A : Type 0} → GrantsKeepNames → (given : ℕ → Bool) (p o q : Paced) (now moment before issued : ℕ) (rates : Rates) (taken : List (Ask × ℕ)) (out : Outcome A) (r : RoundRecord A) (old new : List TraceView) (xs : List Ask) (ns : List ℕ) → out ≡ Ok r
     → o ≡ offer_round (tick_of now) p → rates ≡ o.offered → moment ≡ o.moment
     → IfOk out (λ r. IsRoundOver given rates (moment / 100) old new r.answered (seen r.sealed.tree) r.lanes.items r.asks.items r.sealed.grants) → IfOk out (λ r. IsBest (seen r.sealed.tree) r.sealed.grants)
     → xs ≡ r.asks.items → ns ≡ r.sealed.grants → q ≡ take_all (leaves xs ns) o → map granted_in taken ≡ leaves xs ns → IfOk out (λ r. issued ≡ before + sum r.sealed.grants) → Leads p q now before issued taken out
-leads_ok {A} law given p o q now moment before issued rates taken out r old new xs ns is offered limits at rounded bests asks grants charged logged tells =
+leads_ok {A} law given p o q now moment before issued rates taken out r old new xs ns is offered limits at rounded bests asks grants charged logged reports =
     let round : IsRoundOver given rates (moment / 100) old new r.answered (seen r.sealed.tree) r.lanes.items r.asks.items r.sealed.grants =
     subst (λ (x : Outcome A). IfOk x (λ r. IsRoundOver given rates (moment / 100) old new r.answered (seen r.sealed.tree) r.lanes.items r.asks.items r.sealed.grants)) is rounded in
     let best : IsBest (seen r.sealed.tree) r.sealed.grants = subst (λ (x : Outcome A). IfOk x (λ r. IsBest (seen r.sealed.tree) r.sealed.grants)) is bests in
-    let told : issued ≡ before + sum r.sealed.grants = subst (λ (x : Outcome A). IfOk x (λ r. issued ≡ before + sum r.sealed.grants)) is tells in
+    let reported : issued ≡ before + sum r.sealed.grants = subst (λ (x : Outcome A). IfOk x (λ r. issued ≡ before + sum r.sealed.grants)) is reports in
     let kept = keeps law given rates (moment / 100) old new r.answered (seen r.sealed.tree) r.lanes.items r.asks.items r.sealed.grants round best in
     subst (Leads p q now before issued taken) (sym is) (record {
       kept = subst (λ (z : Rates × ℕ). KeepsLimits z.0 (z.1 / 100) (leaves r.asks.items r.sealed.grants)) (λ i. ((limits ∙ ap (λ (x : Paced). x.offered) offered) i, (at ∙ ap (λ (x : Paced). x.moment) offered) i)) kept.1;
       is = charged ∙ (λ i. take_all (leaves (asks i) (grants i)) (offered i));
       log = logged ∙ (λ i. leaves (asks i) (grants i));
-      issued = told ∙ ap (λ (n : ℕ). before + n) (sym (octets_granted r.asks.items r.sealed.grants kept.0));
+      issued = reported ∙ ap (λ (n : ℕ). before + n) (sym (octets_granted r.asks.items r.sealed.grants kept.0));
     })
 
 pub leads_err : {A : Type 0} → (p o q : Paced) (now before issued : ℕ) (taken : List (Ask × ℕ)) (out : Outcome A) (f : RoundFault) → out ≡ Err f → o ≡ offer_round (tick_of now) p → q ≡ o → taken ≡ [] → OnErr out (issued ≡ before) → Leads p q now before issued taken out
-leads_err {A} p o q now before issued taken out f is offered same none tells =
-    let told : issued ≡ before = subst (λ (x : Outcome A). OnErr x (issued ≡ before)) is tells in
+leads_err {A} p o q now before issued taken out f is offered same none reports =
+    let reported : issued ≡ before = subst (λ (x : Outcome A). OnErr x (issued ≡ before)) is reports in
     subst (Leads p q now before issued taken) (sym is) (record {
       kept = keeps_none (offer_round (tick_of now) p).offered ((offer_round (tick_of now) p).moment / 100);
       is = same ∙ offered;
       log = ap (map granted_in) none;
-      issued = told ∙ (let e : before ≡ before + 0 = omega arith in e);
+      issued = reported ∙ (let e : before ≡ before + 0 = omega arith in e);
     })
 
-pub told_more : (before issued carried granted all octets : ℕ) → before ≡ carried + granted → all ≡ granted + octets → issued ≡ before + octets → issued ≡ carried + all
-told_more before issued carried granted all octets a b c = omega arith
+pub reported_more : (before issued carried granted all octets : ℕ) → before ≡ carried + granted → all ≡ granted + octets → issued ≡ before + octets → issued ≡ carried + all
+reported_more before issued carried granted all octets a b c = omega arith

@@ -4,7 +4,7 @@ ghost use Rattle.std.specs.Prelude.{◌≡◌, ◌+◌, ◌/◌, ◌++◌, [], �
 ghost use Rattle.limit_tree.specs.Outline.{limits as seen};
 ghost use Rattle.limit_tree.specs.Sharing.{IsBest};
 ghost use Rattle.line_rates.specs.Rates.{Rates};
-ghost use Rattle.lane_desk.specs.Turns.{turns, IsRoundOf, IsSameRound};
+ghost use Rattle.lane_desk.specs.Traces.{traces, IsRoundOf, IsSameRound};
 ghost use Rattle.lane_desk.specs.Tried.{is_given};
 ghost use Rattle.lane_desk.specs.Rounded.{IsRoundOver, IsRefusedRoundOver};
 ghost use Rattle.round_pace.specs.Earned.{tick_of};
@@ -44,7 +44,7 @@ pub struct PacedRounds<N, A: Allocator = Global> {
     /// The stretches that have ended, each with the pace that its rounds left.
     ended: ProofLog<Pace<A>, ProofLog<u64, ProofLog<Ask, u64>>>,
     ghost run: { ∥ IsRun pace latest (stretches ended.items pace log.items) ∥₁ },
-    ghost told: { rounds.book.issued
+    ghost reported: { rounds.book.issued
         ≡ carried + sum_by octets_in (stretches ended.items pace log.items) },
 }
 
@@ -121,7 +121,7 @@ impl<N, A: Allocator> PacedRounds<N, A> {
             IfOk result (λ r. r.tick ≡ p.moment / 100) }
         ensures round { let p = offer_round (tick_of (max now self.old.latest)) self.old.pace in
             IfOk result (λ r. IsRoundOver (is_given given.now) p.offered (p.moment / 100)
-            (turns self.old.rounds.desk) (turns self.new.rounds.desk) r.answered
+            (traces self.old.rounds.desk) (traces self.new.rounds.desk) r.answered
             (seen r.sealed.tree) r.lanes.items r.asks.items r.sealed.grants) }
         ensures best { IfOk result (λ r. IsBest (seen r.sealed.tree) r.sealed.grants) }
         ensures issued { IfOk result (λ r.
@@ -130,7 +130,7 @@ impl<N, A: Allocator> PacedRounds<N, A> {
             OnOk result (self.new.rounds.book.last_tick ≡ Some (p.moment / 100)) }
         ensures refused { let p = offer_round (tick_of (max now self.old.latest)) self.old.pace in
             IfErr result (λ f. IsRefusedRoundOver B (is_given given.now) p.offered (p.moment / 100)
-            self.old.rounds.book (turns self.old.rounds.desk) (turns self.new.rounds.desk)
+            self.old.rounds.book (traces self.old.rounds.desk) (traces self.new.rounds.desk)
             f.answered f.reason) }
         ensures unchanged { OnErr result (self.new.rounds.book ≡ self.old.rounds.book) }
         ensures latest { self.new.latest ≡ max now self.old.latest }

@@ -13,8 +13,8 @@ reported (Ok x) octets config read shares = record { config = config; read = rea
 reported (Err e) octets config read shares = shares
 
 -- The JSON has the plan by the tables of the document that was read.
-pub told : {T E : Type 0} (bytes : T → List ℕ) (r : Result T E) (octets : List ℕ) (config : Config) (document : Members) (tables : Tables) → IsConfigText octets config → parse_document octets ≡ Some document
+pub reported_plan : {T E : Type 0} (bytes : T → List ℕ) (r : Result T E) (octets : List ℕ) (config : Config) (document : Members) (tables : Tables) → IsConfigText octets config → parse_document octets ≡ Some document
     → IsTables document tables → IfOk r (λ text. IsPlanText tables config.limits (bytes text)) → IfOk r (λ text. IsPlanJson octets (bytes text))
-told bytes (Ok x) octets config document tables read parsed stated plan =
+reported_plan bytes (Ok x) octets config document tables read parsed stated plan =
     record { config = config; configured = read; document = document; parsed = parsed; tables = tables; stated = stated; plan = plan }
-told bytes (Err e) octets config document tables read parsed stated plan = plan
+reported_plan bytes (Err e) octets config document tables read parsed stated plan = plan

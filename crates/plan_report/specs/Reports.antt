@@ -64,11 +64,11 @@ pub record IsPlanJson (octets text : List ℕ) : Type 0 where
 -- the configuration is refused for that fault
 abbrev pub IsNoPlan : List ℕ → NoPlan → Type 0
 IsNoPlan octets (Unread fault) = IsFaultOfText octets fault
-IsNoPlan octets (Transfers name told) = Unit {0}
+IsNoPlan octets (Transfers name reported) = Unit {0}
 IsNoPlan octets Memory = Unit {0}
 
 -- the same, if the configuration was read
 abbrev pub IsNoPlanOf : NoPlan → Type 0
 IsNoPlanOf (Unread fault) = ⊥
-IsNoPlanOf (Transfers name told) = Unit {0}
+IsNoPlanOf (Transfers name reported) = Unit {0}
 IsNoPlanOf Memory = Unit {0}

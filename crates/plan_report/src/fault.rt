@@ -10,7 +10,10 @@ pub enum NoPlan {
     /// The configuration is refused.
     Config(ConfigFault),
     /// The transfers are refused: the name of the fault, and what is wrong with them.
-    Transfers { name: &'static str, told: String },
+    Transfers {
+        name: &'static str,
+        reported: String,
+    },
     /// Memory ran out.
     Memory,
 }

@@ -61,7 +61,7 @@ fn no_plan(
 ) -> NoPlan
     ensures of { IsNoPlanOf result }
 {
-    let told = match fault {
+    let reported = match fault {
         Unplanned::TooManySessions => {
             let most = named.server.max_cons as usize;
             return too_many(alloc, "TooManySessions", most, "max_cons");
@@ -80,8 +80,8 @@ fn no_plan(
         Unplanned::NotGuaranteed(_, _) => "NotGuaranteed",
         _ => "RateTooLarge",
     };
-    match told {
-        Ok(told) => NoPlan::Transfers { name, told },
+    match reported {
+        Ok(reported) => NoPlan::Transfers { name, reported },
         Err(_) => NoPlan::Memory,
     }
 }
@@ -116,7 +116,12 @@ fn shares_of(
     }
 }
 
-fn told_of(alloc: Global, tables: &Tables, limits: &Limits, wishes: &str) -> Result<String, NoPlan>
+fn reported_of(
+    alloc: Global,
+    tables: &Tables,
+    limits: &Limits,
+    wishes: &str,
+) -> Result<String, NoPlan>
     ensures shares { IfOk result (λ _. HasShares limits.now) }
     ensures fault { IfErr result IsNoPlanOf }
 {
@@ -161,7 +166,7 @@ pub fn plan_lines(alloc: Global, octets: &[u8], wishes: &str) -> Result<String, 
     let Ok(tables) = read_tables(alloc, &document) else {
         return Err(NoPlan::Memory);
     };
-    told_of(alloc, &tables, &config.limits, wishes)
+    reported_of(alloc, &tables, &config.limits, wishes)
 }
 
 /// The same plan as JSON, with a row for each transfer, and a line feed.

@@ -54,9 +54,9 @@ fn no_user(alloc: Global, name: &str) -> NoPlan
     ensures of { IsNoPlanOf result }
 {
     match format!(in alloc; "{name}: no such user") {
-        Ok(told) => NoPlan::Transfers {
+        Ok(reported) => NoPlan::Transfers {
             name: "NoSuchUser",
-            told,
+            reported,
         },
         Err(_) => NoPlan::Memory,
     }
@@ -65,13 +65,13 @@ fn no_user(alloc: Global, name: &str) -> NoPlan
 fn bad_count(alloc: Global, word: &str) -> NoPlan
     ensures of { IsNoPlanOf result }
 {
-    let told = format!(in alloc;
+    let reported = format!(in alloc;
         "{word}: it must be NAME=N, NAME:down=N or NAME:up=N with a number of transfers from 1, in digits"
     );
-    match told {
-        Ok(told) => NoPlan::Transfers {
+    match reported {
+        Ok(reported) => NoPlan::Transfers {
             name: "BadCount",
-            told,
+            reported,
         },
         Err(_) => NoPlan::Memory,
     }
@@ -81,9 +81,9 @@ fn twice(alloc: Global, word: &str) -> NoPlan
     ensures of { IsNoPlanOf result }
 {
     match format!(in alloc; "{word}: the user was stated for this direction before") {
-        Ok(told) => NoPlan::Transfers {
+        Ok(reported) => NoPlan::Transfers {
             name: "Twice",
-            told,
+            reported,
         },
         Err(_) => NoPlan::Memory,
     }
@@ -94,7 +94,7 @@ pub(crate) fn too_many(alloc: Global, name: &'static str, most: usize, key: &str
     ensures of { IsNoPlanOf result }
 {
     match format!(in alloc; "more transfers than {key} = {most} lets in at once") {
-        Ok(told) => NoPlan::Transfers { name, told },
+        Ok(reported) => NoPlan::Transfers { name, reported },
         Err(_) => NoPlan::Memory,
     }
 }

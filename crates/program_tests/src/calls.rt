@@ -1,11 +1,11 @@
 //! Public calls of the programs' crates on their normal path, except for those in the examples.
 
 use crate::ends::{Files, Given};
-use crate::expect::{holds, same, tells};
+use crate::expect::{holds, reports, same};
 use crate::texts::{LOGIN, LUNCH, LUNCH_GRANTS, MIGRATED, SMALL, WELCOME};
 use command_line::{SheetWords, WordsFault};
 use ftpd_program::{Print, STANDARD_INPUT, run_print, run_script};
-use sheets_program::{ErrorText, Exit, as_words, run_sheet_words, tell};
+use sheets_program::{ErrorText, Exit, as_words, report, run_sheet_words};
 
 /// One empty file.
 const NO_FILES: Files<'static> = Files {
@@ -31,12 +31,12 @@ fn grants_are_checked(rt: HostRuntime) {
 fn words_are_refused(rt: HostRuntime) {
     let ending = Exit::refused(rt.alloc(), "error: no such word\n");
     holds(&rt, ending.status() == 2);
-    let told = ErrorText {
+    let reported = ErrorText {
         name: "sheets",
         ending: &ending,
         output: None,
     };
-    tells(&rt, &told, "error: no such word\n");
+    reports(&rt, &reported, "error: no such word\n");
 }
 
 #[test]
@@ -46,7 +46,7 @@ fn help_is_written(rt: HostRuntime) {
         text: String::from_str(rt.alloc(), "Usage\n").expect(&rt, "memory"),
         is_help: true,
     };
-    holds(&rt, tell(fault, &mut output).status() == 0);
+    holds(&rt, report(fault, &mut output).status() == 0);
     same(&rt, &output, "Usage\n");
 }
 

@@ -18,7 +18,7 @@ pub(crate) fn same(rt: &impl Abort, found: &[u8], wanted: &str) {
 }
 
 /// Ends the test unless the value prints as this text.
-pub(crate) fn tells<T: Display>(rt: &(impl Abort + AllocGlobal), shown: &T, told: &str) {
+pub(crate) fn reports<T: Display>(rt: &(impl Abort + AllocGlobal), shown: &T, reported: &str) {
     let text = format!(in rt.alloc(); "{shown}").expect(rt, "memory");
-    same(rt, text.as_str().as_bytes(), told);
+    same(rt, text.as_str().as_bytes(), reported);
 }

@@ -1,7 +1,7 @@
 //! Runs whose ends fail midway: the fault, and the output up to it.
 
 use crate::ends::{FailingWriter, Files, Given};
-use crate::expect::{holds, same, tells};
+use crate::expect::{holds, reports, same};
 use crate::servers::Noting;
 use crate::texts::{LOGIN, LUNCH, LUNCH_GRANTS, LUNCH_LINES, SMALL, WELCOME};
 use ftpd_program::{FtpdErrorText, STANDARD_INPUT, run_words};
@@ -31,7 +31,7 @@ fn breaks_off(rt: &(impl Abort + AllocGlobal), words: &[&str], run: &Run<'_>) {
     let mut files = Files { file, input };
     let mut server = Noting::new();
     let ending = run_words(rt.alloc(), words, &mut files, &mut server, &mut writer);
-    let told = match (left == ALL, words.contains(&"script") && input.is_none()) {
+    let reported = match (left == ALL, words.contains(&"script") && input.is_none()) {
         (_, true) => NO_INPUT,
         (true, false) => READ_FAULT,
         (false, false) => WRITE_FAULT,
@@ -41,7 +41,7 @@ fn breaks_off(rt: &(impl Abort + AllocGlobal), words: &[&str], run: &Run<'_>) {
         output: None,
         start: None,
     };
-    tells(rt, &shown, told);
+    reports(rt, &shown, reported);
     holds(rt, ending.status() == 1);
     let most = output.as_bytes();
     holds(rt, taken.as_slice() == &most[..left.min(most.len())]);

@@ -77,10 +77,10 @@ fn a_watch_shows_the_rates_of_a_second(rt: HostRuntime) {
 }
 
 #[test]
-fn a_watch_tells_that_nothing_is_written(rt: HostRuntime) {
+fn a_watch_reports_that_nothing_is_written(rt: HostRuntime) {
     let found = screens(&rt, &[LATE, LATE, "", "{}", LATE, LATE]);
-    let told = "no new status for 5 seconds: the server has ended, or writes no more\n";
-    holds(&rt, found.ends_with(told.as_bytes()));
+    let reported = "no new status for 5 seconds: the server has ended, or writes no more\n";
+    holds(&rt, found.ends_with(reported.as_bytes()));
     let found = screens(&rt, &[LATE, LATE, "", "{}", LATE]);
-    holds(&rt, !found.ends_with(told.as_bytes()));
+    holds(&rt, !found.ends_with(reported.as_bytes()));
 }

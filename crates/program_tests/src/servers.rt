@@ -1,7 +1,7 @@
 //! The command `serve`, by a server that serves nobody and notes its calls.
 
 use crate::ends::{Files, Given};
-use crate::expect::{holds, same, tells};
+use crate::expect::{holds, reports, same};
 use crate::texts::SMALL;
 use ftpd_program::{
     FtpdErrorText, FtpdExit, Patience, ReadConfig, ServeFault, ServeFiles, Server, StartFault,
@@ -98,13 +98,13 @@ impl<W: TextWriter> Server<W> for Noting {
 }
 
 /// Checks that the ending prints as this text.
-fn is_told(rt: &(impl Abort + AllocGlobal), ending: &FtpdExit<'_>, wanted: &str) {
-    let told = FtpdErrorText {
+fn is_reported(rt: &(impl Abort + AllocGlobal), ending: &FtpdExit<'_>, wanted: &str) {
+    let reported = FtpdErrorText {
         ending,
         output: None,
         start: None,
     };
-    tells(rt, &told, wanted);
+    reports(rt, &reported, wanted);
 }
 
 /// Runs `serve` by these words, on a file of this text.
@@ -212,14 +212,14 @@ static FAULTS: [(ServeFault, &str); 11] = [
 ];
 
 #[test]
-fn faults_are_told(rt: HostRuntime) {
-    for (fault, told) in &FAULTS {
+fn faults_are_reported(rt: HostRuntime) {
+    for (fault, reported) in &FAULTS {
         let mut output = Vec::new(rt.alloc());
         let mut server = Noting::new();
         server.fault = Some(*fault);
         let ending = served(&rt, &["serve", "file"], SMALL, &mut server, &mut output);
         holds(&rt, ending.status() == 1);
-        is_told(&rt, &ending, told);
+        is_reported(&rt, &ending, reported);
     }
 }
 
@@ -231,12 +231,12 @@ fn starts_not(
     wanted: &str,
 ) {
     let ending = FtpdExit::Server(fault);
-    let told = FtpdErrorText {
+    let reported = FtpdErrorText {
         ending: &ending,
         output: None,
         start: Some(start),
     };
-    tells(rt, &told, wanted);
+    reports(rt, &reported, wanted);
 }
 
 fn text(rt: &(impl Abort + AllocGlobal), word: &str) -> String {
@@ -398,6 +398,6 @@ fn a_refusal_calls_no_server(rt: HostRuntime) {
         &mut output,
     );
     holds(&rt, ending.status() == 1);
-    is_told(&rt, &ending, OUT_OF_RANGE);
+    is_reported(&rt, &ending, OUT_OF_RANGE);
     holds(&rt, server.calls == 0 && output.is_empty());
 }

@@ -1,6 +1,6 @@
 //! Commands for which memory runs out.
 
-use crate::expect::{holds, same, tells};
+use crate::expect::{holds, reports, same};
 use crate::texts::{LUNCH, LUNCH_GRANTS, LUNCH_LINES};
 use linked_list_allocator::LocalHeap;
 use sheet_check::{CheckFault, run_check, verdict_of};
@@ -156,5 +156,5 @@ fn runs(rt: HostRuntime) {
     are_not_read(&rt, &heap, &mut output);
     same(&rt, &output, BEFORE);
     are_not_written(&rt, &heap);
-    tells(&rt, &TextFault::Memory, "Memory");
+    reports(&rt, &TextFault::Memory, "Memory");
 }

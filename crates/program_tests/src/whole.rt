@@ -92,7 +92,7 @@ fn interrupted_texts_are_written(rt: HostRuntime) {
 
 /// A flush that fails is a fault, although all octets were taken.
 #[test]
-fn refused_flushes_are_told(rt: HostRuntime) {
+fn refused_flushes_are_reported(rt: HostRuntime) {
     let mut taken = Vec::new(rt.alloc());
     let mut writer = FallibleIo(UnflushedWriter { taken: &mut taken });
     let written = write_whole(LUNCH_LINES, &mut writer);

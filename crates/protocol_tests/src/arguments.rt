@@ -1,7 +1,7 @@
 //! Arguments of commands, and lines that common clients send.
 
 use crate::expect::same;
-use crate::told::check_line;
+use crate::reported::check_line;
 use ftp_wire::{ExtendedPort, HostPort, LineFault, read_eprt, read_port};
 
 /// Lines and their meaning: the command as it is written, or the reply to a fault.

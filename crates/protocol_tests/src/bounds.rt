@@ -1,7 +1,7 @@
 //! The longest line, and floods.
 
 use crate::expect::same;
-use crate::told::{add_told, told};
+use crate::reported::{add_reported, reported};
 use ftp_wire::LineReader;
 use std::alloc::Global;
 use std::process::Abort;
@@ -41,10 +41,10 @@ fn check_flood(rt: &impl Abort, alloc: Global, flood: &Flood) {
     let many = vec![in alloc; octet; count].expect(rt, "memory");
     let mut reader = LineReader::new(alloc);
     let mut out = Vec::new(alloc);
-    add_told(rt, alloc, &mut out, &mut reader, start);
-    add_told(rt, alloc, &mut out, &mut reader, many.as_slice());
+    add_reported(rt, alloc, &mut out, &mut reader, start);
+    add_reported(rt, alloc, &mut out, &mut reader, many.as_slice());
     same(rt, &reader.kept(), &kept);
-    add_told(rt, alloc, &mut out, &mut reader, end);
+    add_reported(rt, alloc, &mut out, &mut reader, end);
     same(rt, &out.as_slice(), &wanted);
 }
 
@@ -59,7 +59,7 @@ fn nothing_is_kept_of_a_flood(rt: HostRuntime) {
 fn longest_line(rt: HostRuntime) {
     let name = "x".repeat(rt.alloc(), 4092).expect(&rt, "memory");
     let line = format!(in rt.alloc(); "CWD {name}\r\n").expect(&rt, "memory");
-    let found = told(&rt, rt.alloc(), &[line.as_bytes()]);
+    let found = reported(&rt, rt.alloc(), &[line.as_bytes()]);
     same(&rt, &found.as_slice(), &line.as_bytes());
 }
 

@@ -1,6 +1,6 @@
 //! Each known code, without an argument and with one.
 
-use crate::told::check_line;
+use crate::reported::check_line;
 
 /// A code, its meaning alone, and its meaning with the argument `x`.
 static CODES: &[(&str, &str, &str)] = &[

@@ -16,10 +16,10 @@ mod refused;
 #[cfg(test)]
 mod replies;
 #[cfg(test)]
+mod reported;
+#[cfg(test)]
 mod sessions;
 #[cfg(test)]
 mod texts;
-#[cfg(test)]
-mod told;
 #[cfg(test)]
 mod words;

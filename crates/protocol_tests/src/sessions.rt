@@ -1,7 +1,7 @@
 //! A control connection in pieces, with Telnet commands in it.
 
 use crate::expect::{holds, same};
-use crate::told::{add_told, told};
+use crate::reported::{add_reported, reported};
 use ftp_wire::{LONGEST_HELD, LineReader, items_stay, only_items, spellings_apart};
 use std::alloc::Global;
 use std::process::Abort;
@@ -43,10 +43,10 @@ static SESSION: [(&[u8], &str); 32] = [
 ];
 
 /// The octets of the session, or their meaning.
-fn session(rt: &impl Abort, alloc: Global, is_told: bool) -> Vec<u8> {
+fn session(rt: &impl Abort, alloc: Global, is_reported: bool) -> Vec<u8> {
     let mut octets = Vec::new(alloc);
     for (line, item) in &SESSION {
-        let part = if is_told { item.as_bytes() } else { *line };
+        let part = if is_reported { item.as_bytes() } else { *line };
         octets.extend_from_slice(part).expect(rt, "memory");
     }
     octets
@@ -58,7 +58,7 @@ fn session_however_cut(rt: HostRuntime) {
     let items = session(&rt, rt.alloc(), true);
     for at in 0..octets.len() {
         let (first, second) = octets.as_slice().split_at(at);
-        same(&rt, &told(&rt, rt.alloc(), &[first, second]), &items);
+        same(&rt, &reported(&rt, rt.alloc(), &[first, second]), &items);
     }
 }
 
@@ -67,12 +67,12 @@ fn session_by_octets(rt: HostRuntime) {
     let octets = session(&rt, rt.alloc(), false);
     let items = session(&rt, rt.alloc(), true);
     let mut reader = LineReader::new(rt.alloc());
-    let mut told = Vec::new(rt.alloc());
+    let mut reported = Vec::new(rt.alloc());
     for octet in &octets {
-        add_told(&rt, rt.alloc(), &mut told, &mut reader, &[*octet]);
+        add_reported(&rt, rt.alloc(), &mut reported, &mut reader, &[*octet]);
         holds(&rt, reader.kept() <= LONGEST_HELD);
     }
-    same(&rt, &told, &items);
+    same(&rt, &reported, &items);
     reader.reads_as();
     only_items();
     items_stay();

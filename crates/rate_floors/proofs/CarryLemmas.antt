@@ -117,21 +117,21 @@ module _ (users : List UserSessions) (i : ℕ) (entry : UserSessions) (lt : i < 
       sum_by_more (λ (x : UserSessions). cond (is_number x.row.group g) (promised_user w x) 0) users i entry lt
       ∙ ap (λ (x : UserSessions). promised_group (take i users) w g + cond (is_number x.row.group g) (promised_user w x) 0) (sym is)
 
-  entry_told : (group : GroupPromise) (b : Bool) → is_number entry.row.group (group_key group) ≡ b → IsPromised (take i users) group
+  entry_reported : (group : GroupPromise) (b : Bool) → is_number entry.row.group (group_key group) ≡ b → IsPromised (take i users) group
       → IsPromised (take (i + 1) users) (cond b (record { row = group.row; down = group.down + promised_user Down entry; up = group.up + promised_user Up entry }) group)
-  entry_told group true e h = record {
+  entry_reported group true e h = record {
     down = ap (λ (n : ℕ). n + promised_user Down entry) h.down ∙ ap (λ b. promised_group (take i users) Down (group_key group) + cond b (promised_user Down entry) 0) (sym e) ∙ sym (group_more Down (group_key group));
     up = ap (λ (n : ℕ). n + promised_user Up entry) h.up ∙ ap (λ b. promised_group (take i users) Up (group_key group) + cond b (promised_user Up entry) 0) (sym e) ∙ sym (group_more Up (group_key group));
   }
-  entry_told group false e h =
+  entry_reported group false e h =
       let down = group_more Down (group_key group) ∙ ap (λ b. promised_group (take i users) Down (group_key group) + cond b (promised_user Down entry) 0) e in
       let up = group_more Up (group_key group) ∙ ap (λ b. promised_group (take i users) Up (group_key group) + cond b (promised_user Up entry) 0) e in
       record { down = omega (arith, h.down, down); up = omega (arith, h.up, up) }
 
-  pub told_more : (groups : List GroupPromise) → All (IsPromised (take i users)) groups → All (IsPromised (take (i + 1) users)) (map (with_floors added (bundle entry)) groups)
-  told_more groups told =
+  pub reported_more : (groups : List GroupPromise) → All (IsPromised (take i users)) groups → All (IsPromised (take (i + 1) users)) (map (with_floors added (bundle entry)) groups)
+  reported_more groups reported =
       all_mapped (IsPromised (take i users)) (IsPromised (take (i + 1) users)) (with_floors added (bundle entry)) groups
-      (λ group h. entry_told group (is_number entry.row.group (group_key group)) refl h) told
+      (λ group h. entry_reported group (is_number entry.row.group (group_key group)) refl h) reported
 
   pub way_more : (w : Way) → promised (take (i + 1) users) w ≡ promised (take i users) w + promised_user w entry
   way_more w =
@@ -148,16 +148,16 @@ module _ (users : List UserSessions) (i : ℕ) (entry : UserSessions) (lt : i < 
     small_up = let part = user_part Up in omega arith
 
     pub bundle_room : (groups : List GroupPromise) → All (IsPromised (take i users)) groups → HasRoom groups (bundle entry)
-    bundle_room groups told j d less in_group =
-        let group = told j d less in
+    bundle_room groups reported j d less in_group =
+        let group = reported j d less in
         let a = group.down in let b = group.up in
         let x = group_within (take i users) Down (group_key (get_or groups j d)) in
         let y = group_within (take i users) Up (group_key (get_or groups j d)) in
         let m = user_part Down in let n = user_part Up in
         (omega arith, omega arith)
 
-pub none_told : (rows : List GroupRate) → All (IsPromised []) (map no_promise rows)
-none_told rows k d lt =
+pub none_reported : (rows : List GroupRate) → All (IsPromised []) (map no_promise rows)
+none_reported rows k d lt =
     all_mapped (λ (row : GroupRate). Unit {0}) (IsPromised []) no_promise rows (λ row h. record { down = refl; up = refl }) (λ k d lt. tt) k d lt
 
 pub rows_of_none : (rows : List GroupRate) → map group_row (map no_promise rows) ≡ rows
@@ -167,12 +167,12 @@ rows_of_none (row ∷ rows) = ap (λ rs. row ∷ rs) (rows_of_none rows)
 -- ---- broken limits
 
 pub groups_same : (users : List UserSessions) (groups : List GroupPromise) → All (IsPromised users) groups → first_broken broken_sums groups ≡ first_broken (broken_group users) (map group_row groups)
-groups_same users [] told = refl
-groups_same users (group ∷ groups) told =
-    let here = told 0 group (omega arith) in
+groups_same users [] reported = refl
+groups_same users (group ∷ groups) reported =
+    let here = reported 0 group (omega arith) in
     ap (λ (n : ℕ). option_or (broken_sums (record { row = group.row; down = n; up = group.up })) (first_broken broken_sums groups)) here.down
     ∙ ap (λ (n : ℕ). option_or (broken_sums (record { row = group.row; down = promised_group users Down group.row.group; up = n })) (first_broken broken_sums groups)) here.up
-    ∙ ap (option_or (broken_group users group.row)) (groups_same users groups (λ k d lt. told (suc k) d (omega arith)))
+    ∙ ap (option_or (broken_group users group.row)) (groups_same users groups (λ k d lt. reported (suc k) d (omega arith)))
 
 or_none : (a b : Option CarryFault) → option_or a b ≡ None → (a ≡ None) × (b ≡ None)
 or_none None b e = (refl, e)
@@ -431,13 +431,13 @@ pub record IsReady (rates : Rates) (server down up promised_down promised_up : �
   pub rows_are : by_number group_number rows ≡ rates.groups
   pub rows_rise : IsRising group_number rows
   pub groups_are : map group_row groups ≡ rows
-  pub groups_told : All (IsPromised users) groups
+  pub groups_reported : All (IsPromised users) groups
   pub users_are : by_number user_number (map user_row users) ≡ rates.users
   pub users_rise : IsRising user_key users
   pub users_fit : All (λ (entry : UserSessions). FitsUser entry.row) users
   pub few : All (λ (entry : UserSessions). entry.sessions ≤ MAX_PROMISED) users
-  pub down_told : promised_down ≡ promised users Down
-  pub up_told : promised_up ≡ promised users Up
+  pub down_reported : promised_down ≡ promised users Down
+  pub up_reported : promised_up ≡ promised users Up
   pub small : promised_down + promised_up ≤ MAX_PROMISED
 
 module _ (rates : Rates) (server down up promised_down promised_up : ℕ) (rows : List GroupRate) (groups : List GroupPromise) (users : List UserSessions) (ready : IsReady rates server down up promised_down promised_up rows groups users) where
@@ -466,13 +466,13 @@ module _ (rates : Rates) (server down up promised_down promised_up : ℕ) (rows 
 
   groups_found : first_broken broken_sums groups ≡ first_broken (broken_group users) (finite.values rates.groups)
   groups_found =
-      groups_same users groups ready.groups_told
+      groups_same users groups ready.groups_reported
       ∙ ap (first_broken (broken_group users)) (ready.groups_are ∙ sym (values-by_number group_number rows ready.rows_rise) ∙ ap finite.values ready.rows_are)
 
   line_found : broken_line promised_down promised_up server down up ≡ broken_line (promised users Down) (promised users Up) rates.server rates.down rates.up
   line_found =
-      ap (λ x. broken_line x promised_up server down up) ready.down_told
-      ∙ ap (λ x. broken_line (promised users Down) x server down up) ready.up_told
+      ap (λ x. broken_line x promised_up server down up) ready.down_reported
+      ∙ ap (λ x. broken_line (promised users Down) x server down up) ready.up_reported
       ∙ ap (λ x. broken_line (promised users Down) (promised users Up) x down up) ready.server_is
       ∙ ap (λ x. broken_line (promised users Down) (promised users Up) rates.server x up) ready.down_is
       ∙ ap (λ x. broken_line (promised users Down) (promised users Up) rates.server rates.down x) ready.up_is
@@ -483,7 +483,7 @@ module _ (rates : Rates) (server down up promised_down promised_up : ℕ) (rows 
       ∙ ap (option_or (option_or (first_broken broken_user users) (first_broken (broken_group users) (finite.values rates.groups)))) line_found
 
   within : promised users Down + promised users Up ≤ MAX_PROMISED
-  within = let m = ready.down_told in let n = ready.up_told in let s = ready.small in omega arith
+  within = let m = ready.down_reported in let n = ready.up_reported in let s = ready.small in omega arith
 
   pub fault_found : carry_fault now ≡ found
   fault_found =
@@ -492,15 +492,15 @@ module _ (rates : Rates) (server down up promised_down promised_up : ℕ) (rows 
 
   pub ready_kept : found ≡ None → IsKept server down up promised_down promised_up groups users
   ready_kept none = record {
-    told = record {
-      down_told = ready.down_told;
-      up_told = ready.up_told;
+    reported = record {
+      down_reported = ready.down_reported;
+      up_reported = ready.up_reported;
       small = ready.small;
       few = ready.few;
       users_rise = ready.users_rise;
       users_fit = ready.users_fit;
       groups_rise = rising_rows groups rows ready.groups_are ready.rows_rise;
-      groups_told = ready.groups_told;
+      groups_reported = ready.groups_reported;
     };
     fit = subst PromisesFit (sym ready_seen) (fit_of_none now ready_rows (sym limit_found ∙ none));
   }

@@ -18,9 +18,9 @@ use Rattle.rate_floors.specs.declared.find.GroupPromise.{GroupPromise}
 use Rattle.rate_floors.specs.declared.find.UserSessions.{UserSessions}
 use Rattle.rate_floors.specs.declared.fits.TheConstants.{MAX_PROMISED}
 use Rattle.line_rates.specs.Put.{IsAt}
-use Rattle.rate_floors.specs.Promises.{Promises, changed, admits, fits, HasRoom, HasFloors, added, taken, user_key, group_key, user_row, group_row, floor_in, promised_user, promised, promised_group, with_sessions, with_floors, one_more, one_less, counted, user_of, keeps, group_fits, no_session, no_promise, IsInGroup, HasNone, IsPromised, IsTold, seen}
+use Rattle.rate_floors.specs.Promises.{Promises, changed, admits, fits, HasRoom, HasFloors, added, taken, user_key, group_key, user_row, group_row, floor_in, promised_user, promised, promised_group, with_sessions, with_floors, one_more, one_less, counted, user_of, keeps, group_fits, no_session, no_promise, IsInGroup, HasNone, IsPromised, IsReported, seen}
 use Rattle.rate_floors.proofs.PlaceLemmas.{all_mapped, rising_mapped, map_none, nowhere}
-use Rattle.rate_floors.proofs.SumLemmas.{line_after, group_after, user_within, of_user, entry_with, users-set, promised-less, group-less, told-more, told-less, same_rates}
+use Rattle.rate_floors.proofs.SumLemmas.{line_after, group_after, user_within, of_user, entry_with, users-set, promised-less, group-less, reported-more, reported-less, same_rates}
 
 pub group_within : (users : List UserSessions) (w : Way) (g : ℕ) → promised_group users w g ≤ promised users w
 group_within users w g = sum_by-le-sum_by (λ entry. cond (is_number entry.row.group g) (promised_user w entry) 0) (promised_user w) users (λ entry. part (is_number entry.row.group g) (promised_user w entry))
@@ -36,23 +36,23 @@ pub record IsAfter (p : Promises) (down up : ℕ) (entry : UserSessions) : Type 
   pub down_user : entry.sessions * entry.row.session_down_floor ≤ down
   pub up_user : entry.sessions * entry.row.session_up_floor ≤ up
 
-module _ (p : Promises) (down up : ℕ) (groups : List GroupPromise) (users : List UserSessions) (entry : UserSessions) (same : users ≡ p.users) (told : IsTold down up groups users) (stands : user_of p (user_key entry) ≡ Some entry) where
+module _ (p : Promises) (down up : ℕ) (groups : List GroupPromise) (users : List UserSessions) (entry : UserSessions) (same : users ≡ p.users) (reported : IsReported down up groups users) (stands : user_of p (user_key entry) ≡ Some entry) where
   there : finite.get (by_number user_key users) (user_key entry) ≡ Some entry
   there = ap (λ us. finite.get (by_number user_key us) (user_key entry)) same ∙ stands
 
   fit : FitsUser entry.row
-  fit = of_user (λ (x : UserSessions). FitsUser x.row) users entry told.users_rise there told.users_fit
+  fit = of_user (λ (x : UserSessions). FitsUser x.row) users entry reported.users_rise there reported.users_fit
 
   after : (w : Way) → promised users w + floor_in entry.row w ≡ promised (counted p (user_key entry)).users w
-  after w = sym (line_after users entry told.users_rise there w) ∙ ap (λ us. promised (map (with_sessions one_more (user_key entry)) us) w) same
+  after w = sym (line_after users entry reported.users_rise there w) ∙ ap (λ us. promised (map (with_sessions one_more (user_key entry)) us) w) same
 
   pub is_after : IsAfter p down up entry
   is_after = record {
-    down_after = ap (λ (n : ℕ). n + entry.row.session_down_floor) told.down_told ∙ after Down;
-    up_after = ap (λ (n : ℕ). n + entry.row.session_up_floor) told.up_told ∙ after Up;
-    room = let s = told.small in let a = fit.session_down_floor in let b = fit.session_up_floor in omega arith;
-    down_user = let le : promised_user Down entry ≤ promised users Down = user_within users entry told.users_rise there Down in let e = told.down_told in omega arith;
-    up_user = let le : promised_user Up entry ≤ promised users Up = user_within users entry told.users_rise there Up in let e = told.up_told in omega arith;
+    down_after = ap (λ (n : ℕ). n + entry.row.session_down_floor) reported.down_reported ∙ after Down;
+    up_after = ap (λ (n : ℕ). n + entry.row.session_up_floor) reported.up_reported ∙ after Up;
+    room = let s = reported.small in let a = fit.session_down_floor in let b = fit.session_up_floor in omega arith;
+    down_user = let le : promised_user Down entry ≤ promised users Down = user_within users entry reported.users_rise there Down in let e = reported.down_reported in omega arith;
+    up_user = let le : promised_user Up entry ≤ promised users Up = user_within users entry reported.users_rise there Up in let e = reported.up_reported in omega arith;
   }
 
   times_more : (r l : ℕ) → (r + 1) * l ≡ r * l + l
@@ -61,8 +61,8 @@ module _ (p : Promises) (down up : ℕ) (groups : List GroupPromise) (users : Li
   -- the group at a place
   pub group_room : (i : ℕ) (d : GroupPromise) → i < length groups → ((get_or groups i d).down + entry.row.session_down_floor < 2 ^ 64) × ((get_or groups i d).up + entry.row.session_up_floor < 2 ^ 64)
   group_room i d lt =
-      let g = told.groups_told i d lt in
-      let e = g.down in let f = g.up in let m = told.down_told in let n = told.up_told in let s = told.small in let a = fit.session_down_floor in let b = fit.session_up_floor in
+      let g = reported.groups_reported i d lt in
+      let e = g.down in let f = g.up in let m = reported.down_reported in let n = reported.up_reported in let s = reported.small in let a = fit.session_down_floor in let b = fit.session_up_floor in
       let x = group_within users Down (group_key (get_or groups i d)) in let y = group_within users Up (group_key (get_or groups i d)) in
       (omega arith, omega arith)
 
@@ -97,11 +97,11 @@ module _ (p : Promises) (down up : ℕ) (groups : List GroupPromise) (users : Li
         go (Some g) e h =
             let x = get_or groups i d in
             let row : finite.get p.rates.groups g ≡ Some x.row = ap (λ m. finite.get m g) rates ∙ get_row g ∙ ap (option_map group_row) (h.1 d) in
-            let told_at = told.groups_told i d h.0 in
+            let reported_at = reported.groups_reported i d h.0 in
             let sums : (w : Way) → promised_group (counted p (user_key entry)).users w g ≡ promised_group users w g + floor_in entry.row w =
-            λ w. ap (λ us. promised_group (map (with_sessions one_more (user_key entry)) us) w g) (sym same) ∙ group_after users entry told.users_rise there w g e in
-            let down_is : promised_group (counted p (user_key entry)).users Down g ≡ x.down + entry.row.session_down_floor = sums Down ∙ ap (λ (n : ℕ). n + entry.row.session_down_floor) (ap (promised_group users Down) (sym (h.2 d)) ∙ sym told_at.down) in
-            let up_is : promised_group (counted p (user_key entry)).users Up g ≡ x.up + entry.row.session_up_floor = sums Up ∙ ap (λ (n : ℕ). n + entry.row.session_up_floor) (ap (promised_group users Up) (sym (h.2 d)) ∙ sym told_at.up) in
+            λ w. ap (λ us. promised_group (map (with_sessions one_more (user_key entry)) us) w g) (sym same) ∙ group_after users entry reported.users_rise there w g e in
+            let down_is : promised_group (counted p (user_key entry)).users Down g ≡ x.down + entry.row.session_down_floor = sums Down ∙ ap (λ (n : ℕ). n + entry.row.session_down_floor) (ap (promised_group users Down) (sym (h.2 d)) ∙ sym reported_at.down) in
+            let up_is : promised_group (counted p (user_key entry)).users Up g ≡ x.up + entry.row.session_up_floor = sums Up ∙ ap (λ (n : ℕ). n + entry.row.session_up_floor) (ap (promised_group users Up) (sym (h.2 d)) ∙ sym reported_at.up) in
             ap (λ (n : ℕ). keeps n (group_rate (finite.get p.rates.groups g) Down) && keeps (promised_group (counted p (user_key entry)).users Up g) (group_rate (finite.get p.rates.groups g) Up)) down_is
             ∙ ap (λ (n : ℕ). keeps (x.down + entry.row.session_down_floor) (group_rate (finite.get p.rates.groups g) Down) && keeps n (group_rate (finite.get p.rates.groups g) Up)) up_is
             ∙ ap (λ o. keeps (x.down + entry.row.session_down_floor) (group_rate o Down) && keeps (x.up + entry.row.session_up_floor) (group_rate o Up)) row
@@ -111,16 +111,16 @@ pub none_promised : (w : Way) (rows : List UserRate) → promised (map no_sessio
 none_promised w [] = refl
 none_promised w (row ∷ rows) = omega (arith, sum_by-cons (promised_user w) (no_session row) (map no_session rows), none_promised w rows)
 
-pub told_none : (groups : List GroupRate) (users : List UserRate) → IsRising group_number groups → IsRising user_number users → All FitsUser users → IsTold 0 0 (map no_promise groups) (map no_session users)
-told_none groups users groups_up users_up fit = record {
-  down_told = sym (none_promised Down users);
-  up_told = sym (none_promised Up users);
+pub reported_none : (groups : List GroupRate) (users : List UserRate) → IsRising group_number groups → IsRising user_number users → All FitsUser users → IsReported 0 0 (map no_promise groups) (map no_session users)
+reported_none groups users groups_up users_up fit = record {
+  down_reported = sym (none_promised Down users);
+  up_reported = sym (none_promised Up users);
   small = omega arith;
   few = all_mapped (λ row. ⊤) (λ (entry : UserSessions). entry.sessions ≤ MAX_PROMISED) no_session users (λ row h. omega arith) (λ k d lt. tt);
   users_rise = rising_mapped user_number user_key no_session users (λ row. refl) users_up;
   users_fit = all_mapped FitsUser (λ (entry : UserSessions). FitsUser entry.row) no_session users (λ row h. h) fit;
   groups_rise = rising_mapped group_number group_key no_promise groups (λ row. refl) groups_up;
-  groups_told = all_mapped (λ row. ⊤) (IsPromised (map no_session users)) no_promise groups (λ row h. record { down = zero_group Down row.group; up = zero_group Up row.group }) (λ k d lt. tt);
+  groups_reported = all_mapped (λ row. ⊤) (IsPromised (map no_session users)) no_promise groups (λ row h. record { down = zero_group Down row.group; up = zero_group Up row.group }) (λ k d lt. tt);
 }
   where
     zero_group : (w : Way) (g : ℕ) → 0 ≡ promised_group (map no_session users) w g
@@ -173,48 +173,48 @@ module _ (users : List UserSessions) (user i : ℕ) (entry : UserSessions) (at :
       ∙ ap (λ us. record { rates = stated server down up (map group_row groups) (map user_row users); users = us }) (sym (users-set users user i entry rise at change))
       ∙ ap (λ q. changed change q user) is_p
 
-  module _ (down up : ℕ) (groups gs : List GroupPromise) (told : IsTold down up groups users) where
-    pub told_after : (p : Promises) → users ≡ p.users → admits p (user_key entry) ≡ true → gs ≡ map (with_floors added entry.row) groups
-        → IsTold (down + entry.row.session_down_floor) (up + entry.row.session_up_floor) gs (set users i (record { row = entry.row; sessions = entry.sessions + 1 }))
-    told_after p same admitted is_gs =
+  module _ (down up : ℕ) (groups gs : List GroupPromise) (reported : IsReported down up groups users) where
+    pub reported_after : (p : Promises) → users ≡ p.users → admits p (user_key entry) ≡ true → gs ≡ map (with_floors added entry.row) groups
+        → IsReported (down + entry.row.session_down_floor) (up + entry.row.session_up_floor) gs (set users i (record { row = entry.row; sessions = entry.sessions + 1 }))
+    reported_after p same admitted is_gs =
         let stands = entry_stands p same in
         let all = sym (ap (fits (counted p (user_key entry))) stands) ∙ admitted in
         let small = and_parts _ _ (and_parts _ _ all).0 in
         let le = leb-true (promised (counted p (user_key entry)).users Down + promised (counted p (user_key entry)).users Up) MAX_PROMISED small.0 in
         let few : entry.sessions < MAX_PROMISED = ltb-true entry.sessions MAX_PROMISED small.1 in
-        let sums = is_after p down up groups users entry same told stands in
+        let sums = is_after p down up groups users entry same reported stands in
         let a = sums.down_after in let b = sums.up_after in
         let most : down + entry.row.session_down_floor + (up + entry.row.session_up_floor) ≤ MAX_PROMISED = omega arith in
-        subst (λ (g : List GroupPromise). IsTold (down + entry.row.session_down_floor) (up + entry.row.session_up_floor) g (set users i (record { row = entry.row; sessions = entry.sessions + 1 }))) (sym is_gs)
-        (subst (λ (x : UserSessions). IsTold (down + x.row.session_down_floor) (up + x.row.session_up_floor) (map (with_floors added x.row) groups) (set users i (entry_with one_more x))) (sym is)
-        (subst (λ (us : List UserSessions). IsTold (down + (get_or users i entry).row.session_down_floor) (up + (get_or users i entry).row.session_up_floor) (map (with_floors added (get_or users i entry).row) groups) us) (users-set users user i entry told.users_rise at one_more)
-        (told-more users user i entry told.users_rise at down up groups told
+        subst (λ (g : List GroupPromise). IsReported (down + entry.row.session_down_floor) (up + entry.row.session_up_floor) g (set users i (record { row = entry.row; sessions = entry.sessions + 1 }))) (sym is_gs)
+        (subst (λ (x : UserSessions). IsReported (down + x.row.session_down_floor) (up + x.row.session_up_floor) (map (with_floors added x.row) groups) (set users i (entry_with one_more x))) (sym is)
+        (subst (λ (us : List UserSessions). IsReported (down + (get_or users i entry).row.session_down_floor) (up + (get_or users i entry).row.session_up_floor) (map (with_floors added (get_or users i entry).row) groups) us) (users-set users user i entry reported.users_rise at one_more)
+        (reported-more users user i entry reported.users_rise at down up groups reported
         (subst (λ (x : UserSessions). x.sessions + 1 ≤ MAX_PROMISED) is (omega arith))
         (subst (λ (x : UserSessions). down + x.row.session_down_floor + (up + x.row.session_up_floor) ≤ MAX_PROMISED) is most))))
 
-    pub told_before : 0 < entry.sessions → gs ≡ map (with_floors taken entry.row) groups
-        → IsTold (down - entry.row.session_down_floor) (up - entry.row.session_up_floor) gs (set users i (record { row = entry.row; sessions = entry.sessions - 1 }))
-    told_before some is_gs =
-        subst (λ (g : List GroupPromise). IsTold (down - entry.row.session_down_floor) (up - entry.row.session_up_floor) g (set users i (record { row = entry.row; sessions = entry.sessions - 1 }))) (sym is_gs)
-        (subst (λ (x : UserSessions). IsTold (down - x.row.session_down_floor) (up - x.row.session_up_floor) (map (with_floors taken x.row) groups) (set users i (entry_with one_less x))) (sym is)
-        (subst (λ (us : List UserSessions). IsTold (down - (get_or users i entry).row.session_down_floor) (up - (get_or users i entry).row.session_up_floor) (map (with_floors taken (get_or users i entry).row) groups) us) (users-set users user i entry told.users_rise at one_less)
-        (told-less users user i entry told.users_rise at down up groups told (subst (λ (x : UserSessions). 0 < x.sessions) is some))))
+    pub reported_before : 0 < entry.sessions → gs ≡ map (with_floors taken entry.row) groups
+        → IsReported (down - entry.row.session_down_floor) (up - entry.row.session_up_floor) gs (set users i (record { row = entry.row; sessions = entry.sessions - 1 }))
+    reported_before some is_gs =
+        subst (λ (g : List GroupPromise). IsReported (down - entry.row.session_down_floor) (up - entry.row.session_up_floor) g (set users i (record { row = entry.row; sessions = entry.sessions - 1 }))) (sym is_gs)
+        (subst (λ (x : UserSessions). IsReported (down - x.row.session_down_floor) (up - x.row.session_up_floor) (map (with_floors taken x.row) groups) (set users i (entry_with one_less x))) (sym is)
+        (subst (λ (us : List UserSessions). IsReported (down - (get_or users i entry).row.session_down_floor) (up - (get_or users i entry).row.session_up_floor) (map (with_floors taken (get_or users i entry).row) groups) us) (users-set users user i entry reported.users_rise at one_less)
+        (reported-less users user i entry reported.users_rise at down up groups reported (subst (λ (x : UserSessions). 0 < x.sessions) is some))))
 
     pub has_room : (p : Promises) → users ≡ p.users → HasRoom groups entry.row
-    has_room p same j d lt in_group = group_room p down up groups users entry same told (entry_stands p same) j d lt
+    has_room p same j d lt in_group = group_room p down up groups users entry same reported (entry_stands p same) j d lt
 
     pub line_floors : 0 < entry.sessions → (entry.row.session_down_floor ≤ down) × (entry.row.session_up_floor ≤ up)
     line_floors some =
         let more : 0 < (get_or users i entry).sessions = subst (λ (x : UserSessions). 0 < x.sessions) is some in
-        let a = promised-less users user i entry told.users_rise at Down more in let b = promised-less users user i entry told.users_rise at Up more in
-        let m = told.down_told in let n = told.up_told in
+        let a = promised-less users user i entry reported.users_rise at Down more in let b = promised-less users user i entry reported.users_rise at Up more in
+        let m = reported.down_reported in let n = reported.up_reported in
         subst (λ (x : UserSessions). (x.row.session_down_floor ≤ down) × (x.row.session_up_floor ≤ up)) (sym is) (omega arith, omega arith)
 
     pub has_floors : 0 < entry.sessions → HasFloors groups entry.row
     has_floors some j d lt in_group =
         let more : 0 < (get_or users i entry).sessions = subst (λ (x : UserSessions). 0 < x.sessions) is some in
         let here : is_number (get_or users i entry).row.group (group_key (get_or groups j d)) ≡ true = subst (λ (x : UserSessions). is_number x.row.group (group_key (get_or groups j d)) ≡ true) is in_group in
-        let a = group-less users user i entry told.users_rise at Down (group_key (get_or groups j d)) true here more in
-        let b = group-less users user i entry told.users_rise at Up (group_key (get_or groups j d)) true here more in
-        let m = (told.groups_told j d lt).down in let n = (told.groups_told j d lt).up in
+        let a = group-less users user i entry reported.users_rise at Down (group_key (get_or groups j d)) true here more in
+        let b = group-less users user i entry reported.users_rise at Up (group_key (get_or groups j d)) true here more in
+        let m = (reported.groups_reported j d lt).down in let n = (reported.groups_reported j d lt).up in
         subst (λ (x : UserSessions). (x.row.session_down_floor ≤ (get_or groups j d).down) × (x.row.session_up_floor ≤ (get_or groups j d).up)) (sym is) (omega arith, omega arith)

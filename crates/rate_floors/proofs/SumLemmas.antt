@@ -16,7 +16,7 @@ use Rattle.rate_floors.specs.declared.find.GroupPromise.{GroupPromise}
 use Rattle.rate_floors.specs.declared.find.UserSessions.{UserSessions}
 use Rattle.rate_floors.specs.declared.fits.TheConstants.{MAX_PROMISED}
 use Rattle.line_rates.specs.Put.{IsAt}
-use Rattle.rate_floors.specs.Promises.{user_key, group_key, user_row, group_row, floor_in, promised_user, promised, promised_group, with_sessions, with_floors, one_more, one_less, added, taken, IsInGroup, HasNone, IsPromised, IsTold}
+use Rattle.rate_floors.specs.Promises.{user_key, group_key, user_row, group_row, floor_in, promised_user, promised, promised_group, with_sessions, with_floors, one_more, one_less, added, taken, IsInGroup, HasNone, IsPromised, IsReported}
 use Rattle.rate_floors.proofs.PlaceLemmas.{map_none, map_one, here, elsewhere, nowhere, stands_at, all_mapped, rising_mapped, kept_mapped}
 use Rattle.line_rates.proofs.RowLemmas.{other_number}
 use Rattle.line_rates.proofs.TickLemmas.{times_more}
@@ -70,15 +70,15 @@ module _ (users : List UserSessions) (user i : ℕ) (d : UserSessions) (up : IsR
       go true p q = omega (arith, sum_set (group_part w g) one_less, p, q, times_less (get_or users i d).sessions (floor_in (get_or users i d).row w) some)
       go false p q = omega (arith, sum_set (group_part w g) one_less, p, q)
 
-  more_told : (entry : GroupPromise) (b : Bool) → is_number (get_or users i d).row.group (group_key entry) ≡ b → IsPromised users entry
+  more_reported : (entry : GroupPromise) (b : Bool) → is_number (get_or users i d).row.group (group_key entry) ≡ b → IsPromised users entry
       → IsPromised (map (with_sessions one_more user) users) (cond b (record { row = entry.row; down = entry.down + (get_or users i d).row.session_down_floor; up = entry.up + (get_or users i d).row.session_up_floor }) entry)
-  more_told entry true e h = record { down = ap (λ (n : ℕ). n + (get_or users i d).row.session_down_floor) h.down ∙ sym (group-more Down (group_key entry) true e); up = ap (λ (n : ℕ). n + (get_or users i d).row.session_up_floor) h.up ∙ sym (group-more Up (group_key entry) true e) }
-  more_told entry false e h = record { down = h.down ∙ sym (group-more Down (group_key entry) false e ∙ omega arith); up = h.up ∙ sym (group-more Up (group_key entry) false e ∙ omega arith) }
+  more_reported entry true e h = record { down = ap (λ (n : ℕ). n + (get_or users i d).row.session_down_floor) h.down ∙ sym (group-more Down (group_key entry) true e); up = ap (λ (n : ℕ). n + (get_or users i d).row.session_up_floor) h.up ∙ sym (group-more Up (group_key entry) true e) }
+  more_reported entry false e h = record { down = h.down ∙ sym (group-more Down (group_key entry) false e ∙ omega arith); up = h.up ∙ sym (group-more Up (group_key entry) false e ∙ omega arith) }
 
-  less_told : (entry : GroupPromise) (b : Bool) → is_number (get_or users i d).row.group (group_key entry) ≡ b → 0 < (get_or users i d).sessions → IsPromised users entry
+  less_reported : (entry : GroupPromise) (b : Bool) → is_number (get_or users i d).row.group (group_key entry) ≡ b → 0 < (get_or users i d).sessions → IsPromised users entry
       → IsPromised (map (with_sessions one_less user) users) (cond b (record { row = entry.row; down = entry.down - (get_or users i d).row.session_down_floor; up = entry.up - (get_or users i d).row.session_up_floor }) entry)
-  less_told entry true e some h = record { down = omega (arith, h.down, group-less Down (group_key entry) true e some); up = omega (arith, h.up, group-less Up (group_key entry) true e some) }
-  less_told entry false e some h = record { down = omega (arith, h.down, group-less Down (group_key entry) false e some); up = omega (arith, h.up, group-less Up (group_key entry) false e some) }
+  less_reported entry true e some h = record { down = omega (arith, h.down, group-less Down (group_key entry) true e some); up = omega (arith, h.up, group-less Up (group_key entry) true e some) }
+  less_reported entry false e some h = record { down = omega (arith, h.down, group-less Down (group_key entry) false e some); up = omega (arith, h.up, group-less Up (group_key entry) false e some) }
 
   same_number : (change : ℕ → ℕ) (entry : UserSessions) → user_key (with_sessions change user entry) ≡ user_key entry
   same_number change entry = elim (nat_eq (user_key entry) user) as (λ b. user_key (cond b (entry_with change entry) entry) ≡ user_key entry) [ true ↦ refl | false ↦ refl ]
@@ -92,32 +92,32 @@ module _ (users : List UserSessions) (user i : ℕ) (d : UserSessions) (up : IsR
   same_group_row : (change : ℕ → ℕ → ℕ) (row : UserRate) (entry : GroupPromise) → group_row (with_floors change row entry) ≡ group_row entry
   same_group_row change row entry = elim (is_number row.group (group_key entry)) as (λ b. group_row (cond b (record { row = entry.row; down = change entry.down row.session_down_floor; up = change entry.up row.session_up_floor }) entry) ≡ group_row entry) [ true ↦ refl | false ↦ refl ]
 
-  module _ (down_sum up_sum : ℕ) (groups : List GroupPromise) (told : IsTold down_sum up_sum groups users) where
-    pub told-more : (get_or users i d).sessions + 1 ≤ MAX_PROMISED → down_sum + (get_or users i d).row.session_down_floor + (up_sum + (get_or users i d).row.session_up_floor) ≤ MAX_PROMISED
-        → IsTold (down_sum + (get_or users i d).row.session_down_floor) (up_sum + (get_or users i d).row.session_up_floor) (map (with_floors added (get_or users i d).row) groups) (map (with_sessions one_more user) users)
-    told-more few small = record {
-      down_told = ap (λ (n : ℕ). n + (get_or users i d).row.session_down_floor) told.down_told ∙ sym (promised-more Down);
-      up_told = ap (λ (n : ℕ). n + (get_or users i d).row.session_up_floor) told.up_told ∙ sym (promised-more Up);
+  module _ (down_sum up_sum : ℕ) (groups : List GroupPromise) (reported : IsReported down_sum up_sum groups users) where
+    pub reported-more : (get_or users i d).sessions + 1 ≤ MAX_PROMISED → down_sum + (get_or users i d).row.session_down_floor + (up_sum + (get_or users i d).row.session_up_floor) ≤ MAX_PROMISED
+        → IsReported (down_sum + (get_or users i d).row.session_down_floor) (up_sum + (get_or users i d).row.session_up_floor) (map (with_floors added (get_or users i d).row) groups) (map (with_sessions one_more user) users)
+    reported-more few small = record {
+      down_reported = ap (λ (n : ℕ). n + (get_or users i d).row.session_down_floor) reported.down_reported ∙ sym (promised-more Down);
+      up_reported = ap (λ (n : ℕ). n + (get_or users i d).row.session_up_floor) reported.up_reported ∙ sym (promised-more Up);
       small = small;
-      few = subst (All (λ (entry : UserSessions). entry.sessions ≤ MAX_PROMISED)) (sym (users-set one_more)) (All-set (λ (entry : UserSessions). entry.sessions ≤ MAX_PROMISED) users i (entry_with one_more (get_or users i d)) few told.few);
-      users_rise = rising_mapped user_key user_key (with_sessions one_more user) users (same_number one_more) told.users_rise;
-      users_fit = all_mapped (λ (entry : UserSessions). FitsUser entry.row) (λ (entry : UserSessions). FitsUser entry.row) (with_sessions one_more user) users (still_fits one_more) told.users_fit;
-      groups_rise = rising_mapped group_key group_key (with_floors added (get_or users i d).row) groups (same_group added (get_or users i d).row) told.groups_rise;
-      groups_told = all_mapped (IsPromised users) (IsPromised (map (with_sessions one_more user) users)) (with_floors added (get_or users i d).row) groups (λ entry h. more_told entry (is_number (get_or users i d).row.group (group_key entry)) refl h) told.groups_told;
+      few = subst (All (λ (entry : UserSessions). entry.sessions ≤ MAX_PROMISED)) (sym (users-set one_more)) (All-set (λ (entry : UserSessions). entry.sessions ≤ MAX_PROMISED) users i (entry_with one_more (get_or users i d)) few reported.few);
+      users_rise = rising_mapped user_key user_key (with_sessions one_more user) users (same_number one_more) reported.users_rise;
+      users_fit = all_mapped (λ (entry : UserSessions). FitsUser entry.row) (λ (entry : UserSessions). FitsUser entry.row) (with_sessions one_more user) users (still_fits one_more) reported.users_fit;
+      groups_rise = rising_mapped group_key group_key (with_floors added (get_or users i d).row) groups (same_group added (get_or users i d).row) reported.groups_rise;
+      groups_reported = all_mapped (IsPromised users) (IsPromised (map (with_sessions one_more user) users)) (with_floors added (get_or users i d).row) groups (λ entry h. more_reported entry (is_number (get_or users i d).row.group (group_key entry)) refl h) reported.groups_reported;
     }
 
-    pub told-less : 0 < (get_or users i d).sessions
-        → IsTold (down_sum - (get_or users i d).row.session_down_floor) (up_sum - (get_or users i d).row.session_up_floor) (map (with_floors taken (get_or users i d).row) groups) (map (with_sessions one_less user) users)
-    told-less some = record {
-      down_told = omega (arith, told.down_told, promised-less Down some);
-      up_told = omega (arith, told.up_told, promised-less Up some);
-      small = let s = told.small in omega arith;
+    pub reported-less : 0 < (get_or users i d).sessions
+        → IsReported (down_sum - (get_or users i d).row.session_down_floor) (up_sum - (get_or users i d).row.session_up_floor) (map (with_floors taken (get_or users i d).row) groups) (map (with_sessions one_less user) users)
+    reported-less some = record {
+      down_reported = omega (arith, reported.down_reported, promised-less Down some);
+      up_reported = omega (arith, reported.up_reported, promised-less Up some);
+      small = let s = reported.small in omega arith;
       few = subst (All (λ (entry : UserSessions). entry.sessions ≤ MAX_PROMISED)) (sym (users-set one_less))
-          (All-set (λ (entry : UserSessions). entry.sessions ≤ MAX_PROMISED) users i (entry_with one_less (get_or users i d)) (let most = told.few i d at.0 in omega arith) told.few);
-      users_rise = rising_mapped user_key user_key (with_sessions one_less user) users (same_number one_less) told.users_rise;
-      users_fit = all_mapped (λ (entry : UserSessions). FitsUser entry.row) (λ (entry : UserSessions). FitsUser entry.row) (with_sessions one_less user) users (still_fits one_less) told.users_fit;
-      groups_rise = rising_mapped group_key group_key (with_floors taken (get_or users i d).row) groups (same_group taken (get_or users i d).row) told.groups_rise;
-      groups_told = all_mapped (IsPromised users) (IsPromised (map (with_sessions one_less user) users)) (with_floors taken (get_or users i d).row) groups (λ entry h. less_told entry (is_number (get_or users i d).row.group (group_key entry)) refl some h) told.groups_told;
+          (All-set (λ (entry : UserSessions). entry.sessions ≤ MAX_PROMISED) users i (entry_with one_less (get_or users i d)) (let most = reported.few i d at.0 in omega arith) reported.few);
+      users_rise = rising_mapped user_key user_key (with_sessions one_less user) users (same_number one_less) reported.users_rise;
+      users_fit = all_mapped (λ (entry : UserSessions). FitsUser entry.row) (λ (entry : UserSessions). FitsUser entry.row) (with_sessions one_less user) users (still_fits one_less) reported.users_fit;
+      groups_rise = rising_mapped group_key group_key (with_floors taken (get_or users i d).row) groups (same_group taken (get_or users i d).row) reported.groups_rise;
+      groups_reported = all_mapped (IsPromised users) (IsPromised (map (with_sessions one_less user) users)) (with_floors taken (get_or users i d).row) groups (λ entry h. less_reported entry (is_number (get_or users i d).row.group (group_key entry)) refl some h) reported.groups_reported;
     }
 
   -- the rates stay

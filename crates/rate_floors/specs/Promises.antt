@@ -218,21 +218,21 @@ seen server down up groups users =
     }
 
 -- the stored sums are those of the definitions
-pub record IsTold (down up : ℕ) (groups : List GroupPromise)
+pub record IsReported (down up : ℕ) (groups : List GroupPromise)
     (users : List UserSessions) : Type 0 where
-  pub down_told : down ≡ promised users Down
-  pub up_told : up ≡ promised users Up
+  pub down_reported : down ≡ promised users Down
+  pub up_reported : up ≡ promised users Up
   pub small : down + up ≤ MAX_PROMISED
   pub few : All (λ (entry : UserSessions). entry.sessions ≤ MAX_PROMISED) users
   pub users_rise : IsRising user_key users
   pub users_fit : All (λ (entry : UserSessions). FitsUser entry.row) users
   pub groups_rise : IsRising group_key groups
-  pub groups_told : All (IsPromised users) groups
+  pub groups_reported : All (IsPromised users) groups
 
 -- promises as they are stored: in sums, which fit
 pub record IsKept (server down up promised_down promised_up : ℕ) (groups : List GroupPromise)
     (users : List UserSessions) : Type 0 where
-  pub told : IsTold promised_down promised_up groups users
+  pub reported : IsReported promised_down promised_up groups users
   pub fit : PromisesFit (seen server down up groups users)
 
 -- no session is counted

@@ -120,7 +120,7 @@ pub(crate) fn promised_groups<A: Allocator>(
     requires rising { IsRising group_number rows.now }
     requires small { promised users.now Down + promised users.now Up ≤ MAX_PROMISED }
     ensures rows { IfOk result (λ groups. map group_row groups.items ≡ rows.now) }
-    ensures told { IfOk result (λ groups. All (IsPromised users.now) groups.items) }
+    ensures reported { IfOk result (λ groups. All (IsPromised users.now) groups.items) }
 {
     let mut groups = no_promises(alloc, rows)?;
     for entry in users {

@@ -12,7 +12,7 @@ use Rattle.world_terms.specs.declared.event.LaneState.{LaneState}
 use Rattle.world_terms.specs.declared.event.LaneState.TheVariants as state
 use Rattle.world_terms.specs.Decisions.{AllPosted, AreGiven, IsDecision, IsGiven, IsReady, IsShared, asker_of, decided_sum, in_round, in_round_from, with_amount}
 use Rattle.world_terms.specs.Lanes.{Lane}
-use Rattle.share_world.specs.Turns.{HasAsk}
+use Rattle.share_world.specs.Performed.{HasAsk}
 use Rattle.lane_desk.proofs.PostedLemmas.{names_other}
 use Rattle.round_events.specs.Decided.{IsPlanned, decided_on}
 use Rattle.round_events.proofs.Collects.{at}

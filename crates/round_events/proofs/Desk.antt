@@ -20,8 +20,8 @@ use Rattle.world_terms.specs.Steps.{HiddenStep, IsChange, lane_of}
 use Rattle.desk_rule.specs.declared.view.DeskView.{DeskView}
 use Rattle.desk_rule.specs.declared.view.LaneSlot.{LaneSlot}
 use Rattle.desk_rule.specs.declared.view.LaneSlot.TheVariants.{Blank, WithAsk, WithGrant}
-use Rattle.desk_rule.specs.Events.{HasLane, HasTurns, after}
-use Rattle.desk_rule.specs.Lanes.{Kept, has_collected, has_posted, has_taken, lane_in, turn_in, with_lane, with_turn}
+use Rattle.desk_rule.specs.Events.{HasLane, HasTraces, after}
+use Rattle.desk_rule.specs.Lanes.{Kept, has_collected, has_posted, has_taken, lane_in, trace_in, with_lane, with_trace}
 use Rattle.desk_rule.specs.Shown.{Changes, StepsTo, shown_in}
 use Rattle.desk_rule.proofs.Events.{sit_is, ask_is, collect_is, miss_is, post_is, take_is, look_is, rise_is}
 use Rattle.round_events.specs.Desk.{HoldStep, Holdings, LookStep, NoneDecided, TableStep, held_lanes, lanes_by, world_of}
@@ -87,11 +87,11 @@ module _ {N : Type 0} where
   same_grant g k e f = cc
 
   -- collecting the ask that is in the slot
-  collected_step : (s : State (LaneSlot N) DeskView) (r : Kept s) (id i : ℕ) (v : DeskView) (a : Ask) → HasTurns s id i v → get_or s.words i 0 ≡ 2 → get_elem? s.homes i ≡ some (some (WithAsk a))
-      → StepsTo r (after s i 3 none id (with_turn i (has_collected a (turn_in i v)) v)) i (ShownStep (event.Collect i) answer.Got)
+  collected_step : (s : State (LaneSlot N) DeskView) (r : Kept s) (id i : ℕ) (v : DeskView) (a : Ask) → HasTraces s id i v → get_or s.words i 0 ≡ 2 → get_elem? s.homes i ≡ some (some (WithAsk a))
+      → StepsTo r (after s i 3 none id (with_trace i (has_collected a (trace_in i v)) v)) i (ShownStep (event.Collect i) answer.Got)
   collected_step s r id i v a at hit slot =
       let c = collect_is s r id i v at hit in
-      subst (λ (b : Ask). StepsTo r (after s i 3 none id (with_turn i (has_collected b (turn_in i v)) v)) i (ShownStep (event.Collect i) answer.Got)) (same_ask c.0 a c.1 slot) (c.2.0, (c.2.1.0.1, c.2.1.1))
+      subst (λ (b : Ask). StepsTo r (after s i 3 none id (with_trace i (has_collected b (trace_in i v)) v)) i (ShownStep (event.Collect i) answer.Got)) (same_ask c.0 a c.1 slot) (c.2.0, (c.2.1.0.1, c.2.1.1))
 
   -- taking the grant that is in the slot
   taken_step : (s : State (LaneSlot N) DeskView) (r : Kept s) (id i : ℕ) (v : DeskView) (g : GrantView) → HasLane s id i v → get_or s.words i 0 ≡ 4 → get_elem? s.homes i ≡ some (some (WithGrant g))
@@ -113,7 +113,7 @@ module _ {N : Type 0} where
       exchange r t _ h h' i (event.Collect i) answer.Missed k.before k.after c.4 refl long (miss_is s r c.0 i c.1 c.2 c.3) k.there k.step k.rest
   exchanged (event.Post i) (answer.Posted n) {s} r t h h' long c k =
       exchange r t _ h h' i (event.Post i) (answer.Posted n) k.before k.after c.8 (length-set s.homes i (some (WithGrant c.2))) long
-      (subst (λ (m : ℕ). StepsTo r (after s i 4 (some (WithGrant c.2)) c.0 (with_turn i (has_posted c.2.octets (turn_in i c.1)) c.1)) i (ShownStep (event.Post i) (answer.Posted m))) c.7 (post_is s r c.0 i c.1 c.2 c.3 c.4 c.5 c.6)) k.there k.step k.rest
+      (subst (λ (m : ℕ). StepsTo r (after s i 4 (some (WithGrant c.2)) c.0 (with_trace i (has_posted c.2.octets (trace_in i c.1)) c.1)) i (ShownStep (event.Post i) (answer.Posted m))) c.7 (post_is s r c.0 i c.1 c.2 c.3 c.4 c.5 c.6)) k.there k.step k.rest
   exchanged (event.Taken i) (answer.Taken n) {s} r t h h' long c k =
       exchange r t _ h h' i (event.Taken i) (answer.Taken n) k.before k.after c.7 (length-set s.homes i none) long
       (subst (λ (m : ℕ). StepsTo r (after s i 1 none c.0 (with_lane i (has_taken c.2.octets (lane_in i c.1)) c.1)) i (ShownStep (event.Taken i) (answer.Taken m))) c.6 (taken_step s r c.0 i c.1 c.2 c.3 c.4 c.5)) k.there k.step k.rest

@@ -18,12 +18,12 @@ use Rattle.desk_rule.specs.declared.view.DeskView.TheVariants.{Round}
 use Rattle.desk_rule.specs.declared.view.LaneSlot.{LaneSlot}
 use Rattle.desk_rule.specs.declared.view.LaneView.{LaneView}
 use Rattle.desk_rule.specs.declared.view.RoundView.{RoundView}
-use Rattle.desk_rule.specs.declared.view.TurnView.{TurnView}
+use Rattle.desk_rule.specs.declared.view.TraceView.{TraceView}
 use Rattle.desk_rule.specs.Lanes.{Agrees, Kept, KnowsRound, Phase, free, worker, asked, round, granted}
 use Rattle.desk_rule.specs.Shown.{last_of, shown_in, state_in}
 use Rattle.lane_desk.specs.Tried.{asks_from}
 use Rattle.round_events.specs.Desk.{HoldsDecision, Holdings, NoneDecided, decided_by, due_ask, grant_on, lanes_by, world_of}
-use Rattle.share_world.specs.Turns.{HasAsk}
+use Rattle.share_world.specs.Performed.{HasAsk}
 use Rattle.lane_desk.proofs.PostedLemmas.{names_other}
 use Rattle.round_events.proofs.Deciding.{Once, amount_on, amount_at, decides, give, given_to, lanes_length, to_other}
 use Rattle.round_events.proofs.Desk.{all_decided}
@@ -33,10 +33,10 @@ use Rattle.round_events.proofs.Found.{AreFound, are_found}
 abbrev pub IsDueOn : Option Ask → Shown → Type 0
 IsDueOn o x = ((x.state ≡ state.Round) × (o ≡ x.ask) × ((a : Ask) × (x.ask ≡ Some a))) ⊎ ((x.state ≢ state.Round) × (o ≡ None))
 
-pub not_due : (t : TurnView) → length t.collected ≡ length t.posted + 0 → due_ask t ≡ None
+pub not_due : (t : TraceView) → length t.collected ≡ length t.posted + 0 → due_ask t ≡ None
 not_due t e = ap (λ (b : Bool). cond b (last_of t.collected) None) (ne_eqb (length t.collected) (length t.posted + 1) (λ same. omega (arith, e, same)))
 
-pub is_now_due : (t : TurnView) → length t.collected ≡ length t.posted + 1 → due_ask t ≡ last_of t.collected
+pub is_now_due : (t : TraceView) → length t.collected ≡ length t.posted + 1 → due_ask t ≡ last_of t.collected
 is_now_due t e = ap (λ (b : Bool). cond b (last_of t.collected) None) (eq-eqb (length t.collected) (length t.posted + 1) e)
 
 last_some : (xs : List Ask) (n : ℕ) → length xs ≡ n + 1 → (a : Ask) × (last_of xs ≡ Some a)
@@ -45,7 +45,7 @@ last_some (a ∷ []) n e = (a, refl)
 last_some (a ∷ b ∷ xs) n e = last_some (b ∷ xs) (length xs) (omega arith)
 
 module _ {N : Type 0} where
-  pub due_on : (i n : ℕ) (h : mathlib.Core.Option.Option (mathlib.Core.Option.Option (LaneSlot N))) (x : LaneView) (t : TurnView) (ph : Phase N) → Agrees i n h x t ph → IsDueOn (due_ask t) (Rattle.desk_rule.specs.Shown.shown_of ph x t)
+  pub due_on : (i n : ℕ) (h : mathlib.Core.Option.Option (mathlib.Core.Option.Option (LaneSlot N))) (x : LaneView) (t : TraceView) (ph : Phase N) → Agrees i n h x t ph → IsDueOn (due_ask t) (Rattle.desk_rule.specs.Shown.shown_of ph x t)
   due_on i n h x t free ok = inr ((λ e. cc), not_due t ok.answered)
   due_on i n h x t worker ok = inr ((λ e. cc), not_due t ok.answered)
   due_on i n h x t (asked a) ok = inr ((λ e. cc), not_due t ok.answered)
@@ -55,7 +55,7 @@ module _ {N : Type 0} where
       inl (refl, is_now_due t ok.answered ∙ ap last_of (sym same), (last.0, ap last_of same ∙ last.1))
   due_on i n h x t (granted g) ok = inr ((λ e. cc), not_due t ok.answered)
 
-due_mapped : (ts : List TurnView) (i : ℕ) (t : TurnView) → get_elem? ts i ≡ some t → get_or (map due_ask ts) i None ≡ due_ask t
+due_mapped : (ts : List TraceView) (i : ℕ) (t : TraceView) → get_elem? ts i ≡ some t → get_or (map due_ask ts) i None ≡ due_ask t
 due_mapped [] i t e = absurd (cc)
 due_mapped (u ∷ ts) zero t e = ap due_ask (some-injective _ _ e)
 due_mapped (u ∷ ts) (suc i) t e = due_mapped ts i t e
@@ -139,18 +139,18 @@ each_due f o k n [] e h = tt
 each_due f o k n (x ∷ xs) e h = (h k (omega (arith, e)), each_due f o (suc k) n xs (omega (arith, e)) h)
 
 module _ {N : Type 0} (s : State (LaneSlot N) DeskView) (r : Kept s) (h h' : Holdings) (long : length h.lanes ≡ length s.homes) (seat : ℕ) (view : RoundView) (there : get_elem? s.views seat ≡ some (Round view)) where
-  due : EachDue (shown_in r) (λ i. get_or (map due_ask view.turns) i None) 0 h.lanes
+  due : EachDue (shown_in r) (λ i. get_or (map due_ask view.traces) i None) 0 h.lanes
   due =
-      let kn : KnowsRound (length s.homes) r.lane r.turn r.owner r.desk r.dealt seat view = r.each_view seat (Round view) there in
-      each_due (shown_in r) (λ i. get_or (map due_ask view.turns) i None) 0 (length s.homes) h.lanes (omega (arith, long))
-      (λ i less. subst (λ (o : Option Ask). IsDueOn o (shown_in r i)) (sym (due_mapped view.turns i (r.turn i) (kn.each_turn i less))) (due_on i (get_or s.words i 0) (get_elem? s.homes i) (r.lane i) (r.turn i) (r.phase i) (r.each_lane i less)))
+      let kn : KnowsRound (length s.homes) r.lane r.trace r.owner r.desk r.dealt seat view = r.each_view seat (Round view) there in
+      each_due (shown_in r) (λ i. get_or (map due_ask view.traces) i None) 0 (length s.homes) h.lanes (omega (arith, long))
+      (λ i less. subst (λ (o : Option Ask). IsDueOn o (shown_in r i)) (sym (due_mapped view.traces i (r.trace i) (kn.each_trace i less))) (due_on i (get_or s.words i 0) (get_elem? s.homes i) (r.lane i) (r.trace i) (r.phase i) (r.each_lane i less)))
 
-  pub decided_step : (rates : Rates) (moment tick total : ℕ) → HoldsDecision rates view.turns moment tick total h h' → IsDecision rates (world_of r h) moment tick total (world_of r h')
+  pub decided_step : (rates : Rates) (moment tick total : ℕ) → HoldsDecision rates view.traces moment tick total h h' → IsDecision rates (world_of r h) moment tick total (world_of r h')
   decided_step rates moment tick total d =
-      let os : List (Option Ask) = map due_ask view.turns in
-      let kn : KnowsRound (length s.homes) r.lane r.turn r.owner r.desk r.dealt seat view = r.each_view seat (Round view) there in
+      let os : List (Option Ask) = map due_ask view.traces in
+      let kn : KnowsRound (length s.homes) r.lane r.trace r.owner r.desk r.dealt seat view = r.each_view seat (Round view) there in
       let ls : List Lane = lanes_by (shown_in r) 0 h.lanes in
-      let asks : in_round ls ≡ asks_from 0 os = due_asks_are (shown_in r) (λ i. get_or os i None) 0 h.lanes os (length-map view.turns due_ask ∙ kn.wide ∙ sym long) (λ i. (let z : 0 + i ≡ i = omega arith in ap (λ (n : ℕ). get_or os n None) z)) due in
+      let asks : in_round ls ≡ asks_from 0 os = due_asks_are (shown_in r) (λ i. get_or os i None) 0 h.lanes os (length-map view.traces due_ask ∙ kn.wide ∙ sym long) (λ i. (let z : 0 + i ≡ i = omega arith in ap (λ (n : ℕ). get_or os n None) z)) due in
       let plan : IsPlan rates (moment / 100) (in_round ls) d.tree d.lanes = subst (λ (xs : List Asker). IsPlan rates (moment / 100) xs d.tree d.lanes) (sym asks) d.plan in
       let are : AreFound os d.lanes = subst (AreFound os) (sym d.plan.lanes_are) (are_found os d.plan.order d.plan.all) in
       let asked : All HasAsk ls = due_asked (shown_in r) (λ i. get_or os i None) 0 h.lanes due in

@@ -11,7 +11,7 @@ use Rattle.desk_rule.specs.declared.view.DeskView.TheVariants.{Spent, Lane as La
 use Rattle.desk_rule.specs.declared.view.LaneSlot.{LaneSlot}
 use Rattle.desk_rule.specs.declared.view.LaneView.{LaneView}
 use Rattle.desk_rule.specs.declared.view.RoundView.{RoundView}
-use Rattle.desk_rule.specs.Lanes.{Kept, Knows, KnowsRound, free, fresh, unturned, first_round}
+use Rattle.desk_rule.specs.Lanes.{Kept, Knows, KnowsRound, free, fresh, untraced, first_round}
 use Rattle.desk_rule.specs.Shown.{shown_in, shown_of}
 use Rattle.desk_rule.proofs.Keeps.{at_end, at_replicate, is_free}
 use Rattle.round_events.specs.Desk.{OpenedIsNew, lanes_by}
@@ -41,13 +41,13 @@ module _ {A : Type 0} where
       go (no _) = refl
 
 module _ {N : Type 0} (s : State (LaneSlot N) DeskView) (r : Kept s) (id : ℕ) (sh : RoundView) (at : get_elem? s.views id ≡ some (Round sh)) where
-  kn : KnowsRound (length s.homes) r.lane r.turn r.owner r.desk r.dealt id sh
+  kn : KnowsRound (length s.homes) r.lane r.trace r.owner r.desk r.dealt id sh
   kn = r.each_view id (Round sh) at
 
   -- a lane that has had no seat gets one
-  module _ (room : sh.dealt < length sh.turns) where
+  module _ (room : sh.dealt < length sh.traces) where
     abbrev left : RoundView
-    left = record { dealt = sh.dealt + 1; turns = sh.turns; back = sh.back }
+    left = record { dealt = sh.dealt + 1; traces = sh.traces; back = sh.back }
 
     abbrev views' : List DeskView
     views' = set s.views id (Round left)
@@ -55,25 +55,25 @@ module _ {N : Type 0} (s : State (LaneSlot N) DeskView) (r : Kept s) (id : ℕ) 
     abbrev owner' : ℕ → ℕ
     owner' = put r.owner r.dealt (length views')
 
-    deal_else : (j : ℕ) (u : DeskView) → j ≢ id → Knows (length s.homes) r.lane r.turn r.owner r.desk r.dealt j u → Knows (length s.homes) r.lane r.turn owner' r.desk (r.dealt + 1) j u
+    deal_else : (j : ℕ) (u : DeskView) → j ≢ id → Knows (length s.homes) r.lane r.trace r.owner r.desk r.dealt j u → Knows (length s.homes) r.lane r.trace owner' r.desk (r.dealt + 1) j u
     deal_else j Spent other k = tt
     deal_else j (LaneOf q y) other k = let h = k.2 in (put_else r.owner r.dealt (length views') q (λ e. omega arith) ∙ k.0, k.1, omega arith)
     deal_else j (Round th) other k = absurd (other (sym k.is_desk ∙ kn.is_desk))
 
-    deal_here : KnowsRound (length s.homes) r.lane r.turn owner' r.desk (r.dealt + 1) id left
+    deal_here : KnowsRound (length s.homes) r.lane r.trace owner' r.desk (r.dealt + 1) id left
     deal_here = record {
       is_desk = kn.is_desk;
       dealt_is = ap (λ (z : ℕ). z + 1) kn.dealt_is;
       wide = kn.wide;
-      each_turn = kn.each_turn;
+      each_trace = kn.each_trace;
       each_back = λ q y e. let t = kn.each_back q y e in let h = t.2 in (put_else r.owner r.dealt (length views') q (λ f. omega arith) ∙ t.0, t.1, omega arith);
       within = kn.within;
     }
 
-    pub dealt_kept : Kept record { words = s.words; homes = s.homes; views = set s.views id (Round record { dealt = sh.dealt + 1; turns = sh.turns; back = sh.back }) ++ LaneOf sh.dealt fresh ∷ [] }
+    pub dealt_kept : Kept record { words = s.words; homes = s.homes; views = set s.views id (Round record { dealt = sh.dealt + 1; traces = sh.traces; back = sh.back }) ++ LaneOf sh.dealt fresh ∷ [] }
     dealt_kept = record {
       lane = r.lane;
-      turn = r.turn;
+      trace = r.trace;
       phase = r.phase;
       owner = owner';
       desk = r.desk;
@@ -84,9 +84,9 @@ module _ {N : Type 0} (s : State (LaneSlot N) DeskView) (r : Kept s) (id : ℕ) 
       each_lane = r.each_lane;
       each_view = λ j u e. ⊎_elim
           (λ (old : (j < length views') × (get_elem? views' j ≡ some u)). ⊎_elim
-          (λ (y : (j ≡ id) × (Round left ≡ u)). subst (λ (z : ℕ × DeskView). Knows (length s.homes) r.lane r.turn owner' r.desk (r.dealt + 1) z.0 z.1) (λ q. (sym y.0 q, y.1 q)) deal_here)
+          (λ (y : (j ≡ id) × (Round left ≡ u)). subst (λ (z : ℕ × DeskView). Knows (length s.homes) r.lane r.trace owner' r.desk (r.dealt + 1) z.0 z.1) (λ q. (sym y.0 q, y.1 q)) deal_here)
           (λ (y : (j ≢ id) × (get_elem? s.views j ≡ some u)). deal_else j u y.0 (r.each_view j u y.1)) (at_set s.views id j (Round left) u old.1))
-          (λ (new : (j ≡ length views') × (LaneOf sh.dealt fresh ≡ u)). subst (λ (z : ℕ × DeskView). Knows (length s.homes) r.lane r.turn owner' r.desk (r.dealt + 1) z.0 z.1) (λ q. (sym new.0 q, new.1 q))
+          (λ (new : (j ≡ length views') × (LaneOf sh.dealt fresh ≡ u)). subst (λ (z : ℕ × DeskView). Knows (length s.homes) r.lane r.trace owner' r.desk (r.dealt + 1) z.0 z.1) (λ q. (sym new.0 q, new.1 q))
           (put_at r.owner r.dealt (length views') sh.dealt kn.dealt_is, r.new sh.dealt (omega (arith, kn.dealt_is)), omega (arith, kn.dealt_is)))
           (at_end views' (LaneOf sh.dealt fresh) u j e);
     }
@@ -101,22 +101,22 @@ module _ {N : Type 0} (s : State (LaneSlot N) DeskView) (r : Kept s) (id : ℕ) 
     lane_kn = r.each_view other (LaneOf (length sh.back) x) there
 
     abbrev all_back : RoundView
-    all_back = record { dealt = sh.dealt; turns = sh.turns; back = sh.back ++ x ∷ [] }
+    all_back = record { dealt = sh.dealt; traces = sh.traces; back = sh.back ++ x ∷ [] }
 
     abbrev owner'' : ℕ → ℕ
     owner'' = put r.owner (length sh.back) id
 
-    join_else : (j : ℕ) (u : DeskView) → j ≢ id → j ≢ other → Knows (length s.homes) r.lane r.turn r.owner r.desk r.dealt j u → Knows (length s.homes) r.lane r.turn owner'' r.desk r.dealt j u
+    join_else : (j : ℕ) (u : DeskView) → j ≢ id → j ≢ other → Knows (length s.homes) r.lane r.trace r.owner r.desk r.dealt j u → Knows (length s.homes) r.lane r.trace owner'' r.desk r.dealt j u
     join_else j Spent a b k = tt
     join_else j (LaneOf q y) a b k = (put_else r.owner (length sh.back) id q (λ e. b (sym k.0 ∙ ap r.owner e ∙ lane_kn.0)) ∙ k.0, k.1, k.2)
     join_else j (Round th) a b k = absurd (a (sym k.is_desk ∙ kn.is_desk))
 
-    join_here : KnowsRound (length s.homes) r.lane r.turn owner'' r.desk r.dealt id all_back
+    join_here : KnowsRound (length s.homes) r.lane r.trace owner'' r.desk r.dealt id all_back
     join_here = record {
       is_desk = kn.is_desk;
       dealt_is = kn.dealt_is;
       wide = kn.wide;
-      each_turn = kn.each_turn;
+      each_trace = kn.each_trace;
       each_back = λ q y e. ⊎_elim
           (λ (t : (q < length sh.back) × (get_elem? sh.back q ≡ some y)). let k = kn.each_back q y t.1 in let h = t.0 in (put_else r.owner (length sh.back) id q (λ f. omega arith) ∙ k.0, k.1, k.2))
           (λ (t : (q ≡ length sh.back) × (x ≡ y)). (put_at r.owner (length sh.back) id q t.0, ap r.lane t.0 ∙ lane_kn.1 ∙ t.1, subst (λ (z : ℕ). z < r.dealt) (sym t.0) lane_kn.2))
@@ -124,10 +124,10 @@ module _ {N : Type 0} (s : State (LaneSlot N) DeskView) (r : Kept s) (id : ℕ) 
       within = kn.within;
     }
 
-    pub joined_kept : Kept record { words = s.words; homes = s.homes; views = set (set s.views id (Round record { dealt = sh.dealt; turns = sh.turns; back = sh.back ++ x ∷ [] })) other Spent }
+    pub joined_kept : Kept record { words = s.words; homes = s.homes; views = set (set s.views id (Round record { dealt = sh.dealt; traces = sh.traces; back = sh.back ++ x ∷ [] })) other Spent }
     joined_kept = record {
       lane = r.lane;
-      turn = r.turn;
+      trace = r.trace;
       phase = r.phase;
       owner = owner'';
       desk = r.desk;
@@ -137,9 +137,9 @@ module _ {N : Type 0} (s : State (LaneSlot N) DeskView) (r : Kept s) (id : ℕ) 
       new = r.new;
       each_lane = r.each_lane;
       each_view = λ j u e. ⊎_elim
-          (λ (y : (j ≡ other) × (Spent ≡ u)). subst (λ (z : DeskView). Knows (length s.homes) r.lane r.turn owner'' r.desk r.dealt j z) y.1 tt)
+          (λ (y : (j ≡ other) × (Spent ≡ u)). subst (λ (z : DeskView). Knows (length s.homes) r.lane r.trace owner'' r.desk r.dealt j z) y.1 tt)
           (λ (z : (j ≢ other) × (get_elem? (set s.views id (Round all_back)) j ≡ some u)). ⊎_elim
-          (λ (y : (j ≡ id) × (Round all_back ≡ u)). subst (λ (w : ℕ × DeskView). Knows (length s.homes) r.lane r.turn owner'' r.desk r.dealt w.0 w.1) (λ q. (sym y.0 q, y.1 q)) join_here)
+          (λ (y : (j ≡ id) × (Round all_back ≡ u)). subst (λ (w : ℕ × DeskView). Knows (length s.homes) r.lane r.trace owner'' r.desk r.dealt w.0 w.1) (λ q. (sym y.0 q, y.1 q)) join_here)
           (λ (y : (j ≢ id) × (get_elem? s.views j ≡ some u)). join_else j u y.0 z.0 (r.each_view j u y.1)) (at_set s.views id j (Round all_back) u z.1))
           (at_set (set s.views id (Round all_back)) other j Spent u e);
     }
@@ -152,13 +152,13 @@ module _ {N : Type 0} (s : State (LaneSlot N) DeskView) (r : Kept s) (id : ℕ) 
 
 new_shown : {N : Type 0} (s : State (LaneSlot N) DeskView) (r : Kept s) (k : ℕ) → length s.homes ≡ k → get_elem? s.views 0 ≡ some (Round (first_round k)) → (i : ℕ) → i < k → shown_in r i ≡ new_lane.shown
 new_shown s r k long at i less =
-    let kn : KnowsRound (length s.homes) r.lane r.turn r.owner r.desk r.dealt 0 (first_round k) = r.each_view 0 (Round (first_round k)) at in
+    let kn : KnowsRound (length s.homes) r.lane r.trace r.owner r.desk r.dealt 0 (first_round k) = r.each_view 0 (Round (first_round k)) at in
     let dealt : r.dealt ≡ 0 = sym kn.dealt_is in
     let within : i < length s.homes = omega (arith, less, long) in
     let lane : r.lane i ≡ fresh = r.new i (omega (arith, dealt)) in
-    let turn : r.turn i ≡ unturned = some-injective _ _ (sym (kn.each_turn i within) ∙ at_replicate k i unturned less) in
+    let trace : r.trace i ≡ untraced = some-injective _ _ (sym (kn.each_trace i within) ∙ at_replicate k i untraced less) in
     let phase : r.phase i ≡ free = is_free (r.phase i) (sym (ap (λ (x : LaneView). x.state) lane) ∙ (r.each_lane i within).state_is) in
-    λ q. shown_of (phase q) (lane q) (turn q)
+    λ q. shown_of (phase q) (lane q) (trace q)
 
 new_lanes : (f : ℕ → Shown) (j n k : ℕ) → j + n ≡ k → ((i : ℕ) → i < k → f i ≡ new_lane.shown) → lanes_by f j (replicate n (hidden 0 0 None None)) ≡ replicate n new_lane
 new_lanes f j zero k e h = refl

@@ -13,11 +13,11 @@ use Rattle.desk_rule.specs.declared.view.DeskView.{DeskView}
 use Rattle.desk_rule.specs.declared.view.DeskView.TheVariants.{Round}
 use Rattle.desk_rule.specs.declared.view.LaneSlot.{LaneSlot}
 use Rattle.desk_rule.specs.declared.view.RoundView.{RoundView}
-use Rattle.desk_rule.specs.declared.view.TurnView.{TurnView}
-use Rattle.desk_rule.specs.Lanes.{Phase, free, worker, asked, round, granted, code, Kept, KnowsRound, has_collected, has_missed, unturned}
+use Rattle.desk_rule.specs.declared.view.TraceView.{TraceView}
+use Rattle.desk_rule.specs.Lanes.{Phase, free, worker, asked, round, granted, code, Kept, KnowsRound, has_collected, has_missed, untraced}
 use Rattle.desk_rule.specs.Shown.{last_of, shown_in, state_in}
 use Rattle.desk_rule.proofs.Keeps.{index_at, own, ruled}
-use Rattle.lane_desk.specs.Posted.{AllAnswered, turn_at}
+use Rattle.lane_desk.specs.Posted.{AllAnswered, trace_at}
 use Rattle.lane_desk.specs.Tried.{asks_from, tried, tried_by}
 use Rattle.round_events.specs.Desk.{Holdings, NoneDecided, RoundDecides, ShownIsOne, TablesAreShown, TriedAreDue, due_ask, lanes_by}
 use Rattle.round_events.specs.Rounds.{AreSmall}
@@ -41,31 +41,31 @@ not_in_round : (o : Option Ask) (x : Shown) → IsDueOn o x → o ≡ None → x
 not_in_round o x (inl d) e = let bad : Some d.2.0 ≡ None = sym d.2.1 ∙ sym d.1 ∙ e in absurd (cc)
 not_in_round o x (inr d) e = d.0
 
-module _ {N : Type 0} (s : State (LaneSlot N) DeskView) (r : Kept s) (h : Holdings) (seat : ℕ) (v : RoundView) (there : get_elem? s.views seat ≡ some (Round v)) (answered : AllAnswered v.turns) (unset : NoneDecided h.lanes) (long : length h.lanes ≡ length s.homes) where
-  kn : KnowsRound (length s.homes) r.lane r.turn r.owner r.desk r.dealt seat v
+module _ {N : Type 0} (s : State (LaneSlot N) DeskView) (r : Kept s) (h : Holdings) (seat : ℕ) (v : RoundView) (there : get_elem? s.views seat ≡ some (Round v)) (answered : AllAnswered v.traces) (unset : NoneDecided h.lanes) (long : length h.lanes ≡ length s.homes) where
+  kn : KnowsRound (length s.homes) r.lane r.trace r.owner r.desk r.dealt seat v
   kn = r.each_view seat (Round v) there
 
-  turn_is : (i : ℕ) → i < length s.homes → turn_at v.turns i ≡ r.turn i
-  turn_is i less = some-injective _ _ (sym (index_at v.turns i unturned (omega (arith, less, kn.wide))) ∙ kn.each_turn i less)
+  trace_is : (i : ℕ) → i < length s.homes → trace_at v.traces i ≡ r.trace i
+  trace_is i less = some-injective _ _ (sym (index_at v.traces i untraced (omega (arith, less, kn.wide))) ∙ kn.each_trace i less)
 
-  shown_lane : (i : ℕ) (x : Hidden) → i < length s.homes → x.decided ≡ None → IsShownBy (turn_at v.turns i) (record { shown = shown_in r i; hidden = x })
+  shown_lane : (i : ℕ) (x : Hidden) → i < length s.homes → x.decided ≡ None → IsShownBy (trace_at v.traces i) (record { shown = shown_in r i; hidden = x })
   shown_lane i x less e =
-      let same = turn_is i less in
-      let t : TurnView = r.turn i in
-      let even : length t.collected ≡ length t.posted = subst (λ (u : TurnView). length u.collected ≡ length u.posted) same (answered i (omega (arith, less, kn.wide))) in
+      let same = trace_is i less in
+      let t : TraceView = r.trace i in
+      let even : length t.collected ≡ length t.posted = subst (λ (u : TraceView). length u.collected ≡ length u.posted) same (answered i (omega (arith, less, kn.wide))) in
       record {
-        posted = sym (ap (λ (u : TurnView). u.posted) same);
+        posted = sym (ap (λ (u : TraceView). u.posted) same);
         idle = not_in_round (due_ask t) (shown_in r i) (due_on i (get_or s.words i 0) (get_elem? s.homes i) (r.lane i) t (r.phase i) (r.each_lane i less)) (not_due t (omega (arith, even)));
         settled = e;
       }
 
-  shown_at : (i : ℕ) (l : Lane) → slice_get (lanes_by (shown_in r) 0 h.lanes) i ≡ Some l → IsShownBy (turn_at v.turns i) l
+  shown_at : (i : ℕ) (l : Lane) → slice_get (lanes_by (shown_in r) 0 h.lanes) i ≡ Some l → IsShownBy (trace_at v.traces i) l
   shown_at i l e =
       let within : i < length h.lanes = omega (arith, slice_get_within (lanes_by (shown_in r) 0 h.lanes) i l e, length-lanes (shown_in r) 0 h.lanes) in
       let x = hidden_there h.lanes i within in
       let at : 0 + i ≡ i = omega arith in
       let is : ◌≡◌ {A = Lane} (record { shown = shown_in r i; hidden = x.0 }) l = same_Some _ l (sym (lane_at (shown_in r) 0 h.lanes i x.0 x.1 ∙ ap (λ (n : ℕ). Some (record { shown = shown_in r n; hidden = x.0 })) at) ∙ e) in
-      subst (IsShownBy (turn_at v.turns i)) is (shown_lane i x.0 (omega (arith, within, long)) (ap (λ (y : Hidden). y.decided) (sym (x.2 x.0)) ∙ unset i x.0 within))
+      subst (IsShownBy (trace_at v.traces i)) is (shown_lane i x.0 (omega (arith, within, long)) (ap (λ (y : Hidden). y.decided) (sym (x.2 x.0)) ∙ unset i x.0 within))
 
 pub tables_shown : (N : Type 0) → TablesAreShown N
 tables_shown N s r h seat v there answered unset long = record {
@@ -92,16 +92,16 @@ state_of_code (granted g) = refl
 
 pub shown_is_one : (N : Type 0) → ShownIsOne N
 shown_is_one N s r r' i j k v w hv hw =
-    let here = own (length s.homes) r.lane r.turn r.owner r.desk r.dealt j i v (r.each_view j v hv.0) hv.1 in
-    let there = own (length s.homes) r'.lane r'.turn r'.owner r'.desk r'.dealt j i v (r'.each_view j v hv.0) hv.1 in
-    let turn = ruled (length s.homes) r.lane r.turn r.owner r.desk r.dealt k i w (r.each_view k w hw.0) hw.1 in
-    let turn' = ruled (length s.homes) r'.lane r'.turn r'.owner r'.desk r'.dealt k i w (r'.each_view k w hw.0) hw.1 in
-    let less : i < length s.homes = turn.2 in
+    let here = own (length s.homes) r.lane r.trace r.owner r.desk r.dealt j i v (r.each_view j v hv.0) hv.1 in
+    let there = own (length s.homes) r'.lane r'.trace r'.owner r'.desk r'.dealt j i v (r'.each_view j v hv.0) hv.1 in
+    let trace = ruled (length s.homes) r.lane r.trace r.owner r.desk r.dealt k i w (r.each_view k w hw.0) hw.1 in
+    let trace' = ruled (length s.homes) r'.lane r'.trace r'.owner r'.desk r'.dealt k i w (r'.each_view k w hw.0) hw.1 in
+    let less : i < length s.homes = trace.2 in
     let lanes : r'.lane i ≡ r.lane i = there.1 ∙ sym here.1 in
-    let turns : r'.turn i ≡ r.turn i = turn'.1 ∙ sym turn.1 in
+    let traces : r'.trace i ≡ r.trace i = trace'.1 ∙ sym trace.1 in
     let states : state_in (r'.phase i) ≡ state_in (r.phase i) =
     state_of_code (r'.phase i) ∙ ap state_by (sym (r'.each_lane i less).word_is ∙ (r.each_lane i less).word_is) ∙ sym (state_of_code (r.phase i)) in
-    λ q. shown (states q) (last_of (lanes q).asks) (turns q).posted (lanes q).taken
+    λ q. shown (states q) (last_of (lanes q).asks) (traces q).posted (lanes q).taken
 
 -- ---- the asks that are due
 
@@ -110,7 +110,7 @@ last_more [] a = refl
 last_more (b ∷ []) a = refl
 last_more (b ∷ c ∷ xs) a = last_more (c ∷ xs) a
 
-one_due : (given : Bool) (o : Option Ask) (t : TurnView) → length t.collected ≡ length t.posted → due_ask (tried_by given o t) ≡ o
+one_due : (given : Bool) (o : Option Ask) (t : TraceView) → length t.collected ≡ length t.posted → due_ask (tried_by given o t) ≡ o
 one_due true None t e = not_due (has_missed t) (omega (arith, e))
 one_due false None t e = not_due t (omega (arith, e))
 one_due given (Some a) t e = is_now_due (has_collected a t) (omega (arith, e, length-append t.collected (a ∷ []))) ∙ last_more t.collected a

@@ -25,10 +25,10 @@ use Rattle.world_terms.specs.Runs.{IsRun}
 use Rattle.world_terms.specs.Steps.{Refuses}
 use Rattle.world_terms.specs.declared.fault.StepFault.{StepFault}
 use Rattle.world_terms.specs.Steps as core
-use Rattle.desk_rule.specs.declared.view.TurnView.{TurnView}
+use Rattle.desk_rule.specs.declared.view.TraceView.{TraceView}
 use Rattle.lane_desk.specs.declared.refusal.RoundRefusal.{RoundRefusal}
 use Rattle.lane_desk.specs.declared.refusal.RoundRefusal.TheVariants as reason
-use Rattle.lane_desk.specs.Posted.{nothing_for, turn_at}
+use Rattle.lane_desk.specs.Posted.{nothing_for, trace_at}
 use Rattle.lane_desk.specs.Refusals.{IsRefused, PassesMost}
 use Rattle.lane_desk.specs.Rounded.{IsRefusedRoundOver, IsTurnedAway}
 use Rattle.lane_desk.specs.Tried.{asks_from}
@@ -38,7 +38,7 @@ use Rattle.round_events.specs.Refused.{HasBook, RefusedRoundIsEvents, fault_for,
 use Rattle.round_events.specs.Worlds.{AreFoundOn, AreShownBy, LeadsOn}
 use Rattle.round_events.proofs.Answered.{IsReadyFor, are_left, are_shown, found_within, waiting}
 use Rattle.round_events.proofs.Collects.{at, collected}
-use Rattle.share_world.specs.Turns.{HasAsk}
+use Rattle.share_world.specs.Performed.{HasAsk}
 use Rattle.round_events.proofs.Deciding.{Once, decided_is, decided_lanes}
 use Rattle.round_events.proofs.Found.{AreFound, are_found}
 use Rattle.round_events.proofs.Posts.{AreWaiting, posted, posts_run}
@@ -118,13 +118,13 @@ still_ready : (o : Option Ask) (l : Lane) → l.hidden.decided ≡ None → IsRe
 still_ready None l e = refl
 still_ready (Some a) l e = λ q. record { shown = (collected (Some a) l).shown; hidden = hidden l.hidden.moved l.hidden.back l.hidden.hand (e q) }
 
-told_on : (given : Bool) (t t' : TurnView) (o : Option Ask) (a : Ask) → o ≡ Some a → IsTurnedAway given o t t' → t'.posted ≡ t.posted ++ 0 ∷ []
-told_on given t t' o a e h = ap (λ (x : TurnView). x.posted) (subst (λ (p : Option Ask). IsTurnedAway given p t t') e h)
+reported_on : (given : Bool) (t t' : TraceView) (o : Option Ask) (a : Ask) → o ≡ Some a → IsTurnedAway given o t t' → t'.posted ≡ t.posted ++ 0 ∷ []
+reported_on given t t' o a e h = ap (λ (x : TraceView). x.posted) (subst (λ (p : Option Ask). IsTurnedAway given p t t') e h)
 
-untold_on : (given : Bool) (t t' : TurnView) (o : Option Ask) → o ≡ None → IsTurnedAway given o t t' → t'.posted ≡ t.posted
-untold_on given t t' o e h = ap (λ (x : TurnView). x.posted) (subst (λ (p : Option Ask). IsTurnedAway given p t t') e h) ∙ posted_same given None t
+unreported_on : (given : Bool) (t t' : TraceView) (o : Option Ask) → o ≡ None → IsTurnedAway given o t t' → t'.posted ≡ t.posted
+unreported_on given t t' o e h = ap (λ (x : TraceView). x.posted) (subst (λ (p : Option Ask). IsTurnedAway given p t t') e h) ∙ posted_same given None t
 
-module _ (A : Type 0) (given : ℕ → Bool) (rates : Rates) (moment : ℕ) (book : BookView) (old new : List TurnView) (marks : ℕ) (why : RoundRefusal) (w : World) (r : IsRefusedRoundOver A given rates (moment / 100) book old new marks why)
+module _ (A : Type 0) (given : ℕ → Bool) (rates : Rates) (moment : ℕ) (book : BookView) (old new : List TraceView) (marks : ℕ) (why : RoundRefusal) (w : World) (r : IsRefusedRoundOver A given rates (moment / 100) book old new marks why)
     (fit : AreFitRates rates) (few : length old ≤ MAX_LANES) (books : HasBook book w) (before : AreShownBy old w.lanes) (on : AreFoundOn given r.found w.lanes) where
   abbrev found : List (Option Ask)
   found = r.found
@@ -159,15 +159,15 @@ module _ (A : Type 0) (given : ℕ → Bool) (rates : Rates) (moment : ℕ) (boo
   waits : AreWaiting lanes zeros tried
   waits = waiting given found old new w.lanes tried lanes zeros (λ i. None) before on wide r.still are ready_lane long (length-got (find found) 0 w.lanes) (λ j less. zero_amounts asks j)
 
-  untold : (i : ℕ) → i < length old → get_or found i None ≡ None → (turn_at new i).posted ≡ (turn_at old i).posted
-  untold i less e = untold_on (given i) (turn_at old i) (turn_at new i) (get_or found i None) e (r.each i less)
+  unreported : (i : ℕ) → i < length old → get_or found i None ≡ None → (trace_at new i).posted ≡ (trace_at old i).posted
+  unreported i less e = unreported_on (given i) (trace_at old i) (trace_at new i) (get_or found i None) e (r.each i less)
 
-  told : (j : ℕ) → j < length lanes → (turn_at new (get_or lanes j 0)).posted ≡ (turn_at old (get_or lanes j 0)).posted ++ get_or zeros j 0 ∷ []
-  told j less =
+  reported : (j : ℕ) → j < length lanes → (trace_at new (get_or lanes j 0)).posted ≡ (trace_at old (get_or lanes j 0)).posted ++ get_or zeros j 0 ∷ []
+  reported j less =
       let i : ℕ = get_or lanes j 0 in
       let some = are.some j less in
-      told_on (given i) (turn_at old i) (turn_at new i) (get_or found i None) some.0 some.1 (r.each i (omega (arith, r.wide, found_within found i some.0 some.1)))
-      ∙ ap (λ (n : ℕ). (turn_at old i).posted ++ n ∷ []) (sym (zero_amounts asks j))
+      reported_on (given i) (trace_at old i) (trace_at new i) (get_or found i None) some.0 some.1 (r.each i (omega (arith, r.wide, found_within found i some.0 some.1)))
+      ∙ ap (λ (n : ℕ). (trace_at old i).posted ++ n ∷ []) (sym (zero_amounts asks j))
 
   asking : IsAsking asks tried
   asking = record {
@@ -187,8 +187,8 @@ module _ (A : Type 0) (given : ℕ → Bool) (rates : Rates) (moment : ℕ) (boo
     end = end;
     run = run_then rates w (at w.last_tick w.issued tried) end (collects (given_lanes given 0 (length old))) (event.Decide moment ∷ posts lanes)
         (try_replies found (given_lanes given 0 (length old))) (Err (refusal_for asks why) ∷ post_replies zeros) (tries rates given found old w before on r.only) decision;
-    left = are_left given found old new w.lanes tried lanes zeros (λ i. None) before on wide r.still are ready_lane long (length-got (find found) 0 w.lanes) (λ j less. zero_amounts asks j) untold told;
-    shown = are_shown given found old new w.lanes tried lanes zeros (λ i. None) before on wide r.still are ready_lane long (length-got (find found) 0 w.lanes) (λ j less. zero_amounts asks j) untold told;
+    left = are_left given found old new w.lanes tried lanes zeros (λ i. None) before on wide r.still are ready_lane long (length-got (find found) 0 w.lanes) (λ j less. zero_amounts asks j) unreported reported;
+    shown = are_shown given found old new w.lanes tried lanes zeros (λ i. None) before on wide r.still are ready_lane long (length-got (find found) 0 w.lanes) (λ j less. zero_amounts asks j) unreported reported;
     last_is = refl;
     issued_is = refl;
   }

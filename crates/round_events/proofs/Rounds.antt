@@ -17,8 +17,8 @@ use Rattle.world_terms.specs.declared.event.EventAnswer.TheVariants as answer
 use Rattle.world_terms.specs.Decisions.{AllPosted, IsPosted, has_large_want, in_round, wants_too_much}
 use Rattle.world_terms.specs.Lanes.{Lane, World}
 use Rattle.world_terms.specs.Runs.{IsRun}
-use Rattle.desk_rule.specs.declared.view.TurnView.{TurnView}
-use Rattle.lane_desk.specs.Posted.{turn_at}
+use Rattle.desk_rule.specs.declared.view.TraceView.{TraceView}
+use Rattle.lane_desk.specs.Posted.{trace_at}
 use Rattle.lane_desk.specs.Rounded.{IsAnswered}
 use Rattle.lane_desk.specs.Tried.{asks_from}
 use Rattle.lane_desk.proofs.TriedLemmas.{posted_same}
@@ -27,7 +27,7 @@ use Rattle.round_events.specs.Rounds.{IsDecided, PlansAreSmall, RoundIsEvents}
 use Rattle.round_events.specs.Worlds.{AreFoundOn, AreShownBy, IsFoundOn, LeadsOn}
 use Rattle.round_events.proofs.Answered.{IsReadyFor, are_left, are_shown, waiting}
 use Rattle.round_events.proofs.Collects.{EachFound, OfGiven, at, collected, got, posted_got, tries_run}
-use Rattle.share_world.specs.Turns.{HasAsk}
+use Rattle.share_world.specs.Performed.{HasAsk}
 use Rattle.round_events.proofs.Deciding.{amount_at, amount_on, decides, give, given_to, lanes_length, to_other}
 use Rattle.round_events.proofs.Found.{AreFound, are_found}
 use Rattle.round_events.proofs.Posts.{AreWaiting, posted, posts_run}
@@ -38,10 +38,10 @@ use Rattle.round_events.proofs.Tried.{IsIdle, asked_got, each_found, got_at, in_
 abbrev pub find : List (Option Ask) → ℕ → Option Ask
 find found i = get_or found i None
 
-pub all_settled : (old : List TurnView) (ls : List Lane) → AreShownBy old ls → AllPosted ls
+pub all_settled : (old : List TraceView) (ls : List Lane) → AreShownBy old ls → AllPosted ls
 all_settled old ls h k d less = (h.each k (get_or ls k d) (slice_get-get_or ls k d less)).settled
 
-pub all_idle : (old : List TurnView) (ls : List Lane) → AreShownBy old ls → All IsIdle ls
+pub all_idle : (old : List TraceView) (ls : List Lane) → AreShownBy old ls → All IsIdle ls
 all_idle old ls h k d less = (h.each k (get_or ls k d) (slice_get-get_or ls k d less)).idle
 
 pub found_each : (given : ℕ → Bool) (found : List (Option Ask)) (ls : List Lane) → AreFoundOn given found ls → EachFound given (find found) 0 ls
@@ -74,7 +74,7 @@ is_ready n (Some a) l idle = refl
 
 -- ---- the tries
 
-module _ (rates : Rates) (given : ℕ → Bool) (found : List (Option Ask)) (old : List TurnView) (w : World) (before : AreShownBy old w.lanes) (on : AreFoundOn given found w.lanes) (only : OfGiven given (find found)) where
+module _ (rates : Rates) (given : ℕ → Bool) (found : List (Option Ask)) (old : List TraceView) (w : World) (before : AreShownBy old w.lanes) (on : AreFoundOn given found w.lanes) (only : OfGiven given (find found)) where
   pub tries : IsRun rates w (collects (given_lanes given 0 (length old))) (try_replies found (given_lanes given 0 (length old))) (at w.last_tick w.issued (tried_lanes found w.lanes))
   tries = tries_run rates w.last_tick w.issued given (find found) only [] w.lanes 0 (length old) refl before.wide (found_each given found w.lanes on) (All-nil IsPosted) (all_settled old w.lanes before)
 
@@ -89,11 +89,11 @@ module _ (rates : Rates) (given : ℕ → Bool) (found : List (Option Ask)) (old
 
 -- ---- the whole
 
-untold_on : (given : Bool) (t t' : TurnView) (o : Option Ask) → o ≡ None → IsAnswered given o t t' → t'.posted ≡ t.posted
-untold_on given t t' o e h = ap (λ (x : TurnView). x.posted) (subst (λ (p : Option Ask). IsAnswered given p t t') e h) ∙ posted_same given None t
+unreported_on : (given : Bool) (t t' : TraceView) (o : Option Ask) → o ≡ None → IsAnswered given o t t' → t'.posted ≡ t.posted
+unreported_on given t t' o e h = ap (λ (x : TraceView). x.posted) (subst (λ (p : Option Ask). IsAnswered given p t t') e h) ∙ posted_same given None t
 
 -- a decided round, from what is known of its plan
-record IsKnown (given : ℕ → Bool) (found : List (Option Ask)) (rates : Rates) (moment : ℕ) (old new : List TurnView) (t : LimitTree) (lanes grants : List ℕ) (w : World) : Type 0 where
+record IsKnown (given : ℕ → Bool) (found : List (Option Ask)) (rates : Rates) (moment : ℕ) (old new : List TraceView) (t : LimitTree) (lanes grants : List ℕ) (w : World) : Type 0 where
   decided : IsDecided moment t grants w
   before : AreShownBy old w.lanes
   on : AreFoundOn given found w.lanes
@@ -103,10 +103,10 @@ record IsKnown (given : ℕ → Bool) (found : List (Option Ask)) (rates : Rates
   are : AreFound found lanes
   plan : IsPlan rates (moment / 100) (in_round (tried_lanes found w.lanes)) t lanes
   small : has_large_want (tried_lanes found w.lanes) ≡ false
-  untold : (i : ℕ) → i < length old → get_or found i None ≡ None → (turn_at new i).posted ≡ (turn_at old i).posted
-  told : (j : ℕ) → j < length lanes → (turn_at new (get_or lanes j 0)).posted ≡ (turn_at old (get_or lanes j 0)).posted ++ get_or grants j 0 ∷ []
+  unreported : (i : ℕ) → i < length old → get_or found i None ≡ None → (trace_at new i).posted ≡ (trace_at old i).posted
+  reported : (j : ℕ) → j < length lanes → (trace_at new (get_or lanes j 0)).posted ≡ (trace_at old (get_or lanes j 0)).posted ++ get_or grants j 0 ∷ []
 
-module _ (given : ℕ → Bool) (found : List (Option Ask)) (rates : Rates) (moment : ℕ) (old new : List TurnView) (t : LimitTree) (lanes grants : List ℕ) (w : World) (k : IsKnown given found rates moment old new t lanes grants w) where
+module _ (given : ℕ → Bool) (found : List (Option Ask)) (rates : Rates) (moment : ℕ) (old new : List TraceView) (t : LimitTree) (lanes grants : List ℕ) (w : World) (k : IsKnown given found rates moment old new t lanes grants w) where
   abbrev amounts : ℕ → ℕ
   amounts = amount_on lanes grants
 
@@ -142,8 +142,8 @@ module _ (given : ℕ → Bool) (found : List (Option Ask)) (rates : Rates) (mom
     end = at (Some (moment / 100)) (w.issued + sum grants) (posted lanes grants ready_lanes);
     run = run_then rates w (at w.last_tick w.issued tried) (at (Some (moment / 100)) (w.issued + sum grants) (posted lanes grants ready_lanes)) (collects (given_lanes given 0 (length old))) (event.Decide moment ∷ posts lanes)
         (try_replies found (given_lanes given 0 (length old))) (Ok (answer.Decided (moment / 100) (sum grants)) ∷ post_replies grants) (tries rates given found old w k.before k.on k.only) decision;
-    left = are_left given found old new w.lanes ready_lanes lanes grants (λ i. Some (amounts i)) k.before k.on k.wide k.still k.are ready long ready_length (λ j less. sym (amount_at lanes grants j k.are.once long less)) k.untold k.told;
-    shown = are_shown given found old new w.lanes ready_lanes lanes grants (λ i. Some (amounts i)) k.before k.on k.wide k.still k.are ready long ready_length (λ j less. sym (amount_at lanes grants j k.are.once long less)) k.untold k.told;
+    left = are_left given found old new w.lanes ready_lanes lanes grants (λ i. Some (amounts i)) k.before k.on k.wide k.still k.are ready long ready_length (λ j less. sym (amount_at lanes grants j k.are.once long less)) k.unreported k.reported;
+    shown = are_shown given found old new w.lanes ready_lanes lanes grants (λ i. Some (amounts i)) k.before k.on k.wide k.still k.are ready long ready_length (λ j less. sym (amount_at lanes grants j k.are.once long less)) k.unreported k.reported;
     last_is = refl;
     issued_is = refl;
   }
@@ -163,8 +163,8 @@ round_is_events given rates moment old new answered t lanes asks grants w r few 
       are = subst (AreFound found) (sym r.plan.lanes_are) (are_found found r.plan.order r.plan.all);
       plan = subst (λ (xs : List Asker). IsPlan rates (moment / 100) xs t lanes) (sym same) r.plan;
       small = ap (list_any wants_too_much) same ∙ few;
-      untold = λ i less e. untold_on (given i) (turn_at old i) (turn_at new i) (get_or found i None) e (r.each i less);
-      told = r.posted;
+      unreported = λ i less e. unreported_on (given i) (trace_at old i) (trace_at new i) (get_or found i None) e (r.each i less);
+      reported = r.posted;
     })
 
 pub plans_are_small : PlansAreSmall

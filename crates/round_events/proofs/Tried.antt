@@ -14,7 +14,7 @@ use Rattle.lane_desk.specs.Tried.{asks_from}
 use Rattle.round_events.specs.Worlds.{IsFoundOn}
 use Rattle.round_events.proofs.Collects.{EachFound, collected, got}
 use Rattle.round_events.proofs.Decided.{none_asks}
-use Rattle.share_world.specs.Turns.{HasAsk}
+use Rattle.share_world.specs.Performed.{HasAsk}
 
 abbrev pub IsIdle : Lane → Type 0
 IsIdle l = l.shown.state ≢ state.Round

@@ -26,9 +26,9 @@ use Rattle.desk_rule.specs.declared.view.LaneSlot.TheVariants.{Blank, WithAsk, W
 use Rattle.desk_rule.specs.declared.view.LaneView.{LaneView}
 use Rattle.desk_rule.specs.declared.view.RoundView.{RoundView}
 use Rattle.desk_rule.specs.declared.view.SeatState.TheVariants.{Free, Worker}
-use Rattle.desk_rule.specs.declared.view.TurnView.{TurnView}
-use Rattle.desk_rule.specs.Events.{HasLane, HasTurns, after, noted}
-use Rattle.desk_rule.specs.Lanes.{Kept, first_round, dealer_after, dealt_to, taken_in, lane_in, with_lane, turn_in, with_turn, posted_by, most, sat_down, has_asked, has_taken, has_looked, has_risen, has_missed, has_collected, has_posted}
+use Rattle.desk_rule.specs.declared.view.TraceView.{TraceView}
+use Rattle.desk_rule.specs.Events.{HasLane, HasTraces, after, noted}
+use Rattle.desk_rule.specs.Lanes.{Kept, first_round, dealer_after, dealt_to, taken_in, lane_in, with_lane, trace_in, with_trace, posted_by, most, sat_down, has_asked, has_taken, has_looked, has_risen, has_missed, has_collected, has_posted}
 use Rattle.desk_rule.specs.Shown.{last_of, shown_in}
 use Rattle.lane_desk.specs.Held.{is_due}
 use Rattle.lane_desk.specs.Posted.{AllAnswered}
@@ -59,7 +59,7 @@ abbrev pub NoneDecided : List Hidden → Type 0
 NoneDecided xs = All (λ x. x.decided ≡ None) xs
 
 -- the ask that the round has collected from a lane and not answered, by its view of the lane
-abbrev pub due_ask : TurnView → Option Ask
+abbrev pub due_ask : TraceView → Option Ask
 due_ask t = cond (is_due t) (last_of t.collected) None
 
 -- the grant of the first of these lanes with that number
@@ -76,14 +76,14 @@ decided_by f k (x ∷ xs) = hidden x.moved x.back x.hand (f k) ∷ decided_by f 
 
 -- A decision at a moment in milliseconds, by a round that knows these turns: best grants of a plan
 -- for the asks that it has collected and not answered, entered into the book.
-pub record HoldsDecision (rates : Rates) (turns : List TurnView) (moment tick total : ℕ)
+pub record HoldsDecision (rates : Rates) (traces : List TraceView) (moment tick total : ℕ)
     (h h' : Holdings) : Type 0 where
   pub tree : LimitTree
   pub lanes : List ℕ
   pub grants : List ℕ
-  pub plan : IsPlan rates (moment / 100) (asks_from 0 (map due_ask turns)) tree lanes
+  pub plan : IsPlan rates (moment / 100) (asks_from 0 (map due_ask traces)) tree lanes
   pub best : IsBest tree grants
-  pub small : AreSmall (asks_from 0 (map due_ask turns))
+  pub small : AreSmall (asks_from 0 (map due_ask traces))
   pub posted : NoneDecided h.lanes
   pub later : IsLater (moment / 100) h.last_tick
   pub tick_is : tick ≡ moment / 100
@@ -137,18 +137,18 @@ module _ {N : Type 0} where
       (id : ℕ) × (v : DeskView) × HasLane s id i v × ((lane_in i v).state ≡ Worker)
       × (s' ≡ after s i 2 (some (WithAsk a)) id (with_lane i (has_asked a (lane_in i v)) v))
   TableStep (event.Collect i) answer.Got s s' =
-      (id : ℕ) × (v : DeskView) × (a : Ask) × HasTurns s id i v × (slice_index s.words i ≡ 2)
+      (id : ℕ) × (v : DeskView) × (a : Ask) × HasTraces s id i v × (slice_index s.words i ≡ 2)
       × (get_elem? s.homes i ≡ some (some (WithAsk a)))
-      × (s' ≡ after s i 3 none id (with_turn i (has_collected a (turn_in i v)) v))
+      × (s' ≡ after s i 3 none id (with_trace i (has_collected a (trace_in i v)) v))
   TableStep (event.Collect i) answer.Missed s s' =
-      (id : ℕ) × (v : DeskView) × HasTurns s id i v × (slice_index s.words i ≢ 2)
-      × (s' ≡ noted s id (with_turn i (has_missed (turn_in i v)) v))
+      (id : ℕ) × (v : DeskView) × HasTraces s id i v × (slice_index s.words i ≢ 2)
+      × (s' ≡ noted s id (with_trace i (has_missed (trace_in i v)) v))
   TableStep (event.Post i) (answer.Posted n) s s' =
-      (id : ℕ) × (v : DeskView) × (g : GrantView) × HasTurns s id i v
-      × (length (turn_in i v).collected ≡ length (turn_in i v).posted + 1) × (g.lane ≡ i)
+      (id : ℕ) × (v : DeskView) × (g : GrantView) × HasTraces s id i v
+      × (length (trace_in i v).collected ≡ length (trace_in i v).posted + 1) × (g.lane ≡ i)
       × (posted_by v + g.octets ≤ most) × (g.octets ≡ n)
       × (s' ≡ after s i 4 (some (WithGrant g)) id
-      (with_turn i (has_posted g.octets (turn_in i v)) v))
+      (with_trace i (has_posted g.octets (trace_in i v)) v))
   TableStep (event.Taken i) (answer.Taken n) s s' =
       (id : ℕ) × (v : DeskView) × (g : GrantView) × HasLane s id i v × (slice_index s.words i ≡ 4)
       × (get_elem? s.homes i ≡ some (some (WithGrant g))) × (g.octets ≡ n)
@@ -168,7 +168,7 @@ module _ {N : Type 0} where
   abbrev pub DealStep : State (LaneSlot N) DeskView → State (LaneSlot N) DeskView → Type 0
   DealStep s s' =
       (id : ℕ) × (v : RoundView) × (get_elem? s.views id ≡ some (Round v))
-      × (v.dealt < length v.turns)
+      × (v.dealt < length v.traces)
       × (s' ≡ with_views s
       (slice_set s.views id (dealer_after (Round v)) ++ dealt_to (Round v) ∷ []))
 
@@ -190,7 +190,7 @@ module _ {N : Type 0} where
     pub seat : ℕ
     pub view : RoundView
     pub there : get_elem? x.table.views seat ≡ some (Round view)
-    pub holds : HoldsDecision rates view.turns moment tick total x.held y.held
+    pub holds : HoldsDecision rates view.traces moment tick total x.held y.held
     pub still : y.table ≡ x.table
 
   -- One step of the desk, by any of its threads. A round tries a lane only if all amounts decided
@@ -237,7 +237,7 @@ DeskRunsAreRuns N =
 abbrev pub ShownIsOne : Type 0 → Type 0
 ShownIsOne N =
     (s : State (LaneSlot N) DeskView) (r r' : Kept s) (i j k : ℕ) (v w : DeskView)
-    → HasLane s j i v → HasTurns s k i w → shown_in r' i ≡ shown_in r i
+    → HasLane s j i v → HasTraces s k i w → shown_in r' i ≡ shown_in r i
 
 -- nothing was moved, given back, taken or decided
 abbrev pub new_held : ℕ → Holdings
@@ -254,14 +254,14 @@ OpenedIsNew N =
 abbrev pub TablesAreShown : Type 0 → Type 0
 TablesAreShown N =
     (s : State (LaneSlot N) DeskView) (r : Kept s) (h : Holdings) (seat : ℕ) (v : RoundView)
-    → get_elem? s.views seat ≡ some (Round v) → AllAnswered v.turns → NoneDecided h.lanes
-    → length h.lanes ≡ length s.homes → AreShownBy v.turns (world_of r h).lanes
+    → get_elem? s.views seat ≡ some (Round v) → AllAnswered v.traces → NoneDecided h.lanes
+    → length h.lanes ≡ length s.homes → AreShownBy v.traces (world_of r h).lanes
 
 -- After the tries of a round that has answered all earlier asks, the asks that are due are those
 -- found.
 abbrev pub TriedAreDue : Type 0
 TriedAreDue =
-    (given : ℕ → Bool) (found : List (Option Ask)) (old : List TurnView)
+    (given : ℕ → Bool) (found : List (Option Ask)) (old : List TraceView)
     → length found ≡ length old → AllAnswered old → map due_ask (tried given found old) ≡ found
 
 -- the holdings after a decision of these grants for these lanes
@@ -277,7 +277,7 @@ after_decision tick lanes grants h =
 -- for the leaf's lane, which a Post of that lane replies.
 abbrev pub RoundDecides : Type 0
 RoundDecides =
-    (given : ℕ → Bool) (rates : Rates) (moment : ℕ) (old new : List TurnView) (answered : ℕ)
+    (given : ℕ → Bool) (rates : Rates) (moment : ℕ) (old new : List TraceView) (answered : ℕ)
     (t : LimitTree) (lanes : List ℕ) (asks : List Ask) (grants : List ℕ) (h : Holdings)
     (r : IsRoundOver given rates (moment / 100) old new answered t lanes asks grants)
     → AllAnswered old → AreSmall (asks_from 0 r.found) → IsBest t grants → NoneDecided h.lanes

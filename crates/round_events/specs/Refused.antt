@@ -11,7 +11,7 @@ use Rattle.world_terms.specs.Decisions.{wants_too_much}
 use Rattle.world_terms.specs.Lanes.{World}
 use Rattle.grant_ledger.specs.declared.ledger.TheConstants.{MAX_LANES}
 use Rattle.share_world.specs.Shares.{AreFitRates}
-use Rattle.desk_rule.specs.declared.view.TurnView.{TurnView}
+use Rattle.desk_rule.specs.declared.view.TraceView.{TraceView}
 use Rattle.lane_desk.specs.declared.refusal.RoundRefusal.{RoundRefusal}
 use Rattle.lane_desk.specs.declared.refusal.RoundRefusal.TheVariants as reason
 use Rattle.lane_desk.specs.Posted.{nothing_for}
@@ -48,7 +48,7 @@ pub record HasBook (book : BookView) (w : World) : Type 0 where
 abbrev pub RefusedRoundIsEvents : Type 0 → Type 0
 RefusedRoundIsEvents A =
     (given : ℕ → Bool) (rates : Rates) (moment : ℕ) (book : BookView)
-    (old new : List TurnView) (answered : ℕ) (why : RoundRefusal) (w : World)
+    (old new : List TraceView) (answered : ℕ) (why : RoundRefusal) (w : World)
     (r : IsRefusedRoundOver A given rates (moment / 100) book old new answered why)
     → AreFitRates rates → length old ≤ MAX_LANES → HasBook book w → AreShownBy old w.lanes
     → AreFoundOn given r.found w.lanes

@@ -12,7 +12,7 @@ use Rattle.line_rates.specs.TickTree.{Asker, IsPlan}
 use Rattle.world_terms.specs.declared.event.EventAnswer.TheVariants as answer
 use Rattle.world_terms.specs.Decisions.{IsLater, wants_too_much}
 use Rattle.world_terms.specs.Lanes.{World}
-use Rattle.desk_rule.specs.declared.view.TurnView.{TurnView}
+use Rattle.desk_rule.specs.declared.view.TraceView.{TraceView}
 use Rattle.lane_desk.specs.Rounded.{IsRoundOver}
 use Rattle.lane_desk.specs.Tried.{asks_from}
 use Rattle.round_events.specs.Events.{given_lanes, round_events, round_replies}
@@ -42,7 +42,7 @@ pub record IsDecided (moment : ℕ) (t : LimitTree) (grants : List ℕ) (w : Wor
 -- issued are more by the sum of the grants.
 abbrev pub RoundIsEvents : Type 0
 RoundIsEvents =
-    (given : ℕ → Bool) (rates : Rates) (moment : ℕ) (old new : List TurnView) (answered : ℕ)
+    (given : ℕ → Bool) (rates : Rates) (moment : ℕ) (old new : List TraceView) (answered : ℕ)
     (t : LimitTree) (lanes : List ℕ) (asks : List Ask) (grants : List ℕ) (w : World)
     (r : IsRoundOver given rates (moment / 100) old new answered t lanes asks grants)
     → AreSmall (asks_from 0 r.found) → IsDecided moment t grants w → AreShownBy old w.lanes

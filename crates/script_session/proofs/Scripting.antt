@@ -11,7 +11,7 @@ use Rattle.session_host.specs.Rows.{IsRow, Outcome}
 use Rattle.session_host.specs.Sessions.{new_session}
 use Rattle.session_host.specs.Sides.{Given, SideCall}
 use Rattle.session_host.specs.Silent.{StaysSilent}
-use Rattle.session_host.specs.Told.{IsTold}
+use Rattle.session_host.specs.Reported.{IsReported}
 use Rattle.session_table.specs.Steps.{Standing}
 use Rattle.session_table.specs.declared.settings.Settings.{Settings}
 use Rattle.script_session.specs.Scripts.{AnswersScript, IsScript, ReadsZero, as_known, home_address, script_parts, unasked}
@@ -23,51 +23,51 @@ known remaining contents host =
     record { store = host.store; promises = host.promises; clock = host.clock; side = host.side; reader = remaining host.reader; writer = contents host.writer; hooks = host.hooks }
 
 module _ {A S C D H Q K T R W : Type 0} (Row : Standing → Given K → ℕ → S → S → Promises → Outcome A Q K → Type 0)
-    (Gives : C → ℕ → C → Type 0) (Asks : D → SideCall A Q K → D → Type 0) (Told : H → Event → H → Type 0)
+    (Gives : C → ℕ → C → Type 0) (Asks : D → SideCall A Q K → D → Type 0) (Reported : H → Event → H → Type 0)
     (remaining : R → Option (List ℕ)) (contents : W → Option (List ℕ)) where
-  pub told_known : (result : Result T ControlFault) (session : Standing) (old new : Parts S C D R W H)
-      → IsTold Row Gives Asks Told remaining contents result session old new
-      → IsTold Row Gives Asks Told as_known as_known result session (known remaining contents old) (known remaining contents new)
-  told_known result session old new (inl (memory, same)) = inl (memory, ap (known remaining contents) same)
-  told_known result session old new (inr told) = inr (record {
-    read = told.read;
-    items = told.items;
-    written = told.written;
-    actions = told.actions;
-    side = told.side;
-    hooks = told.hooks;
-    lost = told.lost;
-    last = told.last;
-    row = told.row;
-    serves = told.serves;
-    said = told.said;
-    acts = told.acts;
-    closed = told.closed;
-    answered = told.answered;
-    paid = told.paid;
-    kept = told.kept;
-    store_is = told.store_is;
-    promises_are = told.promises_are;
-    side_is = told.side_is;
-    hooks_are = told.hooks_are;
-    consumed = told.consumed;
-    heard = told.heard;
-    cut = told.cut;
-    over = told.over;
-    appended = told.appended;
-    whole = told.whole;
-    part = told.part;
+  pub reported_known : (result : Result T ControlFault) (session : Standing) (old new : Parts S C D R W H)
+      → IsReported Row Gives Asks Reported remaining contents result session old new
+      → IsReported Row Gives Asks Reported as_known as_known result session (known remaining contents old) (known remaining contents new)
+  reported_known result session old new (inl (memory, same)) = inl (memory, ap (known remaining contents) same)
+  reported_known result session old new (inr reported) = inr (record {
+    read = reported.read;
+    items = reported.items;
+    written = reported.written;
+    actions = reported.actions;
+    side = reported.side;
+    hooks = reported.hooks;
+    lost = reported.lost;
+    last = reported.last;
+    row = reported.row;
+    serves = reported.serves;
+    said = reported.said;
+    acts = reported.acts;
+    closed = reported.closed;
+    answered = reported.answered;
+    paid = reported.paid;
+    kept = reported.kept;
+    store_is = reported.store_is;
+    promises_are = reported.promises_are;
+    side_is = reported.side_is;
+    hooks_are = reported.hooks_are;
+    consumed = reported.consumed;
+    heard = reported.heard;
+    cut = reported.cut;
+    over = reported.over;
+    appended = reported.appended;
+    whole = reported.whole;
+    part = reported.part;
   })
 
 module _ {T R W : Type 0} (users : Users) (settings : Settings Global) (port : ℕ) (remaining : R → Option (List ℕ)) (contents : W → Option (List ℕ)) (result : Result T ControlFault)
     (store store' : Memory) (promises promises' : Promises) (side : ScriptSide Upload) (reader reader' : R) (writer writer' : W) where
-  pub script_told : promises' ≡ promises
-      → IsTold (IsRow {A = Global} {R = List ℕ} InMemory users) ReadsZero AnswersScript StaysSilent remaining contents result (new_session settings home_address)
+  pub script_reported : promises' ≡ promises
+      → IsReported (IsRow {A = Global} {R = List ℕ} InMemory users) ReadsZero AnswersScript StaysSilent remaining contents result (new_session settings home_address)
       (script_parts store promises (unasked port) reader writer) (script_parts store' promises' side reader' writer')
       → IsScript users settings port promises store store' (remaining reader) (remaining reader') (contents writer) (contents writer') result
-  script_told same told = record {
+  script_reported same reported = record {
     side = side;
-    told = subst (λ (x : Promises). IsTold (IsRow {A = Global} {R = List ℕ} InMemory users) ReadsZero AnswersScript StaysSilent as_known as_known result (new_session settings home_address)
+    reported = subst (λ (x : Promises). IsReported (IsRow {A = Global} {R = List ℕ} InMemory users) ReadsZero AnswersScript StaysSilent as_known as_known result (new_session settings home_address)
         (script_parts store promises (unasked port) (remaining reader) (contents writer)) (script_parts store' x side (remaining reader') (contents writer')))
-        same (told_known _ ReadsZero AnswersScript StaysSilent remaining contents _ _ _ _ told);
+        same (reported_known _ ReadsZero AnswersScript StaysSilent remaining contents _ _ _ _ reported);
   }

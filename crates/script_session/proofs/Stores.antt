@@ -29,18 +29,18 @@ module _ (users : Users) (rates : Rates) (store store' : Memory) (settings : Set
   broken_by (Err fault) script = inl (by_result (Err fault) script)
 
 -- what holds of a session that was served, where that is told
-pub on_told : {X Y : Type 0} (answer : Result (Unit {0}) ControlFault) (told : Result (Unit {0}) SessionFault) → OnOk told (answer ≡ Ok tt) → OnOk answer X → (X → Y) → OnOk told Y
-on_told {X} answer (Ok done) same is more = more (subst (λ (a : Result (Unit {0}) ControlFault). OnOk a X) same is)
-on_told answer (Err fault) same is more = tt
+pub on_reported : {X Y : Type 0} (answer : Result (Unit {0}) ControlFault) (reported : Result (Unit {0}) SessionFault) → OnOk reported (answer ≡ Ok tt) → OnOk answer X → (X → Y) → OnOk reported Y
+on_reported {X} answer (Ok done) same is more = more (subst (λ (a : Result (Unit {0}) ControlFault). OnOk a X) same is)
+on_reported answer (Err fault) same is more = tt
 
 -- what holds of a session that broke off, where that is told
-pub on_broken : (X : ControlFault → Type 0) (Y : SessionFault → Type 0) (answer : Result (Unit {0}) ControlFault) (told : Result (Unit {0}) SessionFault)
-    → IfErr told (λ fault. (why : ControlFault) × (fault ≡ Control why) × (answer ≡ Err why)) → IfErr answer X → ((why : ControlFault) → X why → Y (Control why)) → IfErr told Y
+pub on_broken : (X : ControlFault → Type 0) (Y : SessionFault → Type 0) (answer : Result (Unit {0}) ControlFault) (reported : Result (Unit {0}) SessionFault)
+    → IfErr reported (λ fault. (why : ControlFault) × (fault ≡ Control why) × (answer ≡ Err why)) → IfErr answer X → ((why : ControlFault) → X why → Y (Control why)) → IfErr reported Y
 on_broken X Y answer (Ok done) same is more = tt
 on_broken X Y answer (Err fault) same is more = subst Y (sym same.1) (more same.0 (subst (λ (a : Result (Unit {0}) ControlFault). IfErr a X) same.2 is))
 
 -- what is told of a session is no folder
-pub no_folder : (X : Type 0) (answer : Result (Unit {0}) ControlFault) (told : Result (Unit {0}) SessionFault)
-    → IfErr told (λ fault. (why : ControlFault) × (fault ≡ Control why) × (answer ≡ Err why)) → IfErr told (λ fault. fault ≡ Folder → X)
+pub no_folder : (X : Type 0) (answer : Result (Unit {0}) ControlFault) (reported : Result (Unit {0}) SessionFault)
+    → IfErr reported (λ fault. (why : ControlFault) × (fault ≡ Control why) × (answer ≡ Err why)) → IfErr reported (λ fault. fault ≡ Folder → X)
 no_folder X answer (Ok done) same = tt
 no_folder X answer (Err fault) same = λ is. let no : Folder ≡ Control same.0 = sym is ∙ same.1 in cc

@@ -13,7 +13,7 @@ use Rattle.session_host.specs.Sessions.{new_session}
 use Rattle.session_host.specs.Sides.{SideCall}
 use Rattle.session_host.specs.Sides.SideCall.{Opens, Connects, Drops, Starts, Aborts, Looks, Settles}
 use Rattle.session_host.specs.Silent.{StaysSilent}
-use Rattle.session_host.specs.Told.{IsTold}
+use Rattle.session_host.specs.Reported.{IsReported}
 use Rattle.session_host.specs.declared.silent.Silent.{Silent}
 use Rattle.session_table.specs.declared.actions.Job.{Job}
 use Rattle.session_table.specs.declared.actions.Job.TheVariants.{Text, SendFile, TakeFile}
@@ -88,7 +88,7 @@ pub record IsScript {T : Type 0} (users : Users) (settings : Settings Global) (p
     (promises : Promises) (store store' : Memory) (left left' out out' : Option (List ℕ))
     (result : Result T ControlFault) : Type 0 where
   pub side : ScriptSide Upload
-  pub told : IsTold {A = Global} {Q = List ℕ} (IsRow InMemory users) ReadsZero AnswersScript
+  pub reported : IsReported {A = Global} {Q = List ℕ} (IsRow InMemory users) ReadsZero AnswersScript
       StaysSilent as_known as_known
       result (new_session settings home_address)
       (script_parts store promises (unasked port) left out)

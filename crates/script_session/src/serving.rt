@@ -53,7 +53,7 @@ fn serve_memory<R: TextReader, W: TextWriter>(
     )
 }
 
-fn told(served: Result<(), ControlFault>) -> Result<(), SessionFault>
+fn reported(served: Result<(), ControlFault>) -> Result<(), SessionFault>
     ensures served { OnOk result (served ≡ Ok tt) }
     ensures broken { IfErr result (λ fault. (why : ControlFault)
         × (fault ≡ SessionFault.Control why) × (served ≡ Err why)) }
@@ -102,7 +102,7 @@ pub fn serve_config<R: TextReader, W: TextWriter>(
             let served = serve_memory(
                 alloc, &users, &limits, store, settings, port, reader, writer,
             );
-            told(served)
+            reported(served)
         }
     }
 }

@@ -9,7 +9,7 @@ use Rattle.server_config.specs.Groups.{AreApart, AreGrouped, IsFault, IsProblem}
 use Rattle.server_config.specs.declared.group_problem.GroupProblem.{GroupProblem}
 use Rattle.server_config.specs.Store.{IsStoreProblem}
 use Rattle.server_config.specs.declared.store_problem.StoreProblem.{StoreProblem}
-use Rattle.config_file.specs.Refused.{IsFirstFault, Tells as Tells_table}
+use Rattle.config_file.specs.Refused.{IsFirstFault, Reports as Reports_table}
 use Rattle.config_file.specs.declared.fault.Fault.{Fault}
 use Rattle.config_file.specs.declared.fault.KeyFault.{KeyFault}
 use Rattle.config_file.specs.Lists.{FaultIs, Place}
@@ -21,7 +21,7 @@ use Rattle.config_file.specs.declared.stated.OverrideTable.{OverrideTable}
 use Rattle.config_file.specs.declared.stated.UserTable.{UserTable}
 use Rattle.config_file.specs.declared.tables.Tables.{Tables}
 use Rattle.server_config.specs.Users.{AddsUsers, IsFirstRefusal}
-use Rattle.server_config.specs.Refused.{IsAt, IsFaultOf, IsFaultOfTables, IsFaultOfText, TellsGroup, TellsKey, TellsStore, TellsUser, owned_place}
+use Rattle.server_config.specs.Refused.{IsAt, IsFaultOf, IsFaultOfTables, IsFaultOfText, ReportsGroup, ReportsKey, ReportsStore, ReportsUser, owned_place}
 use Rattle.server_config.specs.declared.config.Config.{Config}
 use Rattle.server_config.specs.declared.fault.ConfigFault.{ConfigFault}
 use Rattle.server_config.specs.declared.fault.OwnedHeader.{OwnedHeader}
@@ -34,59 +34,59 @@ at_place Is fault header problem is at = subst (λ place. Is place problem) (sym
 
 -- groups are refused
 pub groups_refused : (tables : Tables) (gs : List GroupTable) (us : List UserTable) (fault : Fault GroupProblem) (answer : ConfigFault)
-    → gs ≡ tables.groups.items → us ≡ tables.users.items → IsFault gs us fault → TellsGroup fault answer → IsFaultOfTables tables answer
-groups_refused tables gs us fault (BadGroup header problem) same_groups same_users refused told =
+    → gs ≡ tables.groups.items → us ≡ tables.users.items → IsFault gs us fault → ReportsGroup fault answer → IsFaultOfTables tables answer
+groups_refused tables gs us fault (BadGroup header problem) same_groups same_users refused reported =
     moved (λ (g : List GroupTable) (u : List UserTable). IsProblem g u (owned_place header) problem) gs tables.groups.items us tables.users.items
-    same_groups same_users (at_place (IsProblem gs us) fault header problem refused told)
-groups_refused tables gs us fault (NotToml line error) same_groups same_users refused told = absurd told
-groups_refused tables gs us fault (Key header key problem) same_groups same_users refused told = absurd told
-groups_refused tables gs us fault (BadUser header problem) same_groups same_users refused told = absurd told
-groups_refused tables gs us fault (BadStore header problem) same_groups same_users refused told = absurd told
-groups_refused tables gs us fault BadDate same_groups same_users refused told = absurd told
-groups_refused tables gs us fault TooDeep same_groups same_users refused told = absurd told
-groups_refused tables gs us fault TooLong same_groups same_users refused told = absurd told
-groups_refused tables gs us fault Memory same_groups same_users refused told = tt
+    same_groups same_users (at_place (IsProblem gs us) fault header problem refused reported)
+groups_refused tables gs us fault (NotToml line error) same_groups same_users refused reported = absurd reported
+groups_refused tables gs us fault (Key header key problem) same_groups same_users refused reported = absurd reported
+groups_refused tables gs us fault (BadUser header problem) same_groups same_users refused reported = absurd reported
+groups_refused tables gs us fault (BadStore header problem) same_groups same_users refused reported = absurd reported
+groups_refused tables gs us fault BadDate same_groups same_users refused reported = absurd reported
+groups_refused tables gs us fault TooDeep same_groups same_users refused reported = absurd reported
+groups_refused tables gs us fault TooLong same_groups same_users refused reported = absurd reported
+groups_refused tables gs us fault Memory same_groups same_users refused reported = tt
 
 -- a user is refused, and groups are not
 pub users_refused : (tables : Tables) (gs : List GroupTable) (us : List UserTable) (os : List (Vec OverrideTable Global)) (fault : Fault UserProblem) (answer : ConfigFault)
     → gs ≡ tables.groups.items → us ≡ tables.users.items → os ≡ tables.overrides.items → AreApart gs → AreGrouped gs us
-    → FaultIs (IsFirstRefusal gs us os) fault → TellsUser fault answer → IsFaultOfTables tables answer
-users_refused tables gs us os fault (BadUser header problem) same_groups same_users same_rules apart grouped refused told = (
+    → FaultIs (IsFirstRefusal gs us os) fault → ReportsUser fault answer → IsFaultOfTables tables answer
+users_refused tables gs us os fault (BadUser header problem) same_groups same_users same_rules apart grouped refused reported = (
   subst (λ (g : List GroupTable). AreApart g) same_groups apart,
   moved (λ (g : List GroupTable) (u : List UserTable). AreGrouped g u) gs tables.groups.items us tables.users.items same_groups same_users grouped,
   moved_all (λ (g : List GroupTable) (u : List UserTable) (o : List (Vec OverrideTable Global)). IsFirstRefusal g u o (owned_place header) problem)
       gs tables.groups.items us tables.users.items os tables.overrides.items same_groups same_users same_rules
-      (at_place (IsFirstRefusal gs us os) fault header problem refused told),
+      (at_place (IsFirstRefusal gs us os) fault header problem refused reported),
 )
-users_refused tables gs us os fault (NotToml line error) same_groups same_users same_rules apart grouped refused told = absurd told
-users_refused tables gs us os fault (Key header key problem) same_groups same_users same_rules apart grouped refused told = absurd told
-users_refused tables gs us os fault (BadGroup header problem) same_groups same_users same_rules apart grouped refused told = absurd told
-users_refused tables gs us os fault (BadStore header problem) same_groups same_users same_rules apart grouped refused told = absurd told
-users_refused tables gs us os fault BadDate same_groups same_users same_rules apart grouped refused told = absurd told
-users_refused tables gs us os fault TooDeep same_groups same_users same_rules apart grouped refused told = absurd told
-users_refused tables gs us os fault TooLong same_groups same_users same_rules apart grouped refused told = absurd told
-users_refused tables gs us os fault Memory same_groups same_users same_rules apart grouped refused told = tt
+users_refused tables gs us os fault (NotToml line error) same_groups same_users same_rules apart grouped refused reported = absurd reported
+users_refused tables gs us os fault (Key header key problem) same_groups same_users same_rules apart grouped refused reported = absurd reported
+users_refused tables gs us os fault (BadGroup header problem) same_groups same_users same_rules apart grouped refused reported = absurd reported
+users_refused tables gs us os fault (BadStore header problem) same_groups same_users same_rules apart grouped refused reported = absurd reported
+users_refused tables gs us os fault BadDate same_groups same_users same_rules apart grouped refused reported = absurd reported
+users_refused tables gs us os fault TooDeep same_groups same_users same_rules apart grouped refused reported = absurd reported
+users_refused tables gs us os fault TooLong same_groups same_users same_rules apart grouped refused reported = absurd reported
+users_refused tables gs us os fault Memory same_groups same_users same_rules apart grouped refused reported = tt
 
 -- what is served is refused, and groups and users are not
 pub store_refused : (tables : Tables) (ds : List DirTable) (fs : List FileTable) (users : Accounts) (fault : Fault StoreProblem) (answer : ConfigFault)
     → ds ≡ tables.dirs.items → fs ≡ tables.files.items → AreApart tables.groups.items → AreGrouped tables.groups.items tables.users.items
     → AddsUsers tables.groups.items tables.users.items tables.overrides.items no_users users
-    → FaultIs (IsStoreProblem tables.server ds fs) fault → TellsStore fault answer → IsFaultOfTables tables answer
-store_refused tables ds fs users fault (BadStore header problem) same_dirs same_files apart grouped adds refused told = (
+    → FaultIs (IsStoreProblem tables.server ds fs) fault → ReportsStore fault answer → IsFaultOfTables tables answer
+store_refused tables ds fs users fault (BadStore header problem) same_dirs same_files apart grouped adds refused reported = (
   apart,
   grouped,
   (users, adds),
   moved (λ (d : List DirTable) (f : List FileTable). IsStoreProblem tables.server d f (owned_place header) problem) ds tables.dirs.items fs tables.files.items
-      same_dirs same_files (at_place (IsStoreProblem tables.server ds fs) fault header problem refused told),
+      same_dirs same_files (at_place (IsStoreProblem tables.server ds fs) fault header problem refused reported),
 )
-store_refused tables ds fs users fault (NotToml line error) same_dirs same_files apart grouped adds refused told = absurd told
-store_refused tables ds fs users fault (Key header key problem) same_dirs same_files apart grouped adds refused told = absurd told
-store_refused tables ds fs users fault (BadGroup header problem) same_dirs same_files apart grouped adds refused told = absurd told
-store_refused tables ds fs users fault (BadUser header problem) same_dirs same_files apart grouped adds refused told = absurd told
-store_refused tables ds fs users fault BadDate same_dirs same_files apart grouped adds refused told = absurd told
-store_refused tables ds fs users fault TooDeep same_dirs same_files apart grouped adds refused told = absurd told
-store_refused tables ds fs users fault TooLong same_dirs same_files apart grouped adds refused told = absurd told
-store_refused tables ds fs users fault Memory same_dirs same_files apart grouped adds refused told = tt
+store_refused tables ds fs users fault (NotToml line error) same_dirs same_files apart grouped adds refused reported = absurd reported
+store_refused tables ds fs users fault (Key header key problem) same_dirs same_files apart grouped adds refused reported = absurd reported
+store_refused tables ds fs users fault (BadGroup header problem) same_dirs same_files apart grouped adds refused reported = absurd reported
+store_refused tables ds fs users fault (BadUser header problem) same_dirs same_files apart grouped adds refused reported = absurd reported
+store_refused tables ds fs users fault BadDate same_dirs same_files apart grouped adds refused reported = absurd reported
+store_refused tables ds fs users fault TooDeep same_dirs same_files apart grouped adds refused reported = absurd reported
+store_refused tables ds fs users fault TooLong same_dirs same_files apart grouped adds refused reported = absurd reported
+store_refused tables ds fs users fault Memory same_dirs same_files apart grouped adds refused reported = tt
 
 -- tables that a document states, and of which nothing can be made
 pub tables_refused : (document : Members) (tables : Tables) (answer : Result Config ConfigFault) → IsTables document tables
@@ -120,15 +120,15 @@ text_refused octets document (Ok config) parsed is = tt
 text_refused octets document (Err fault) parsed is = document_refused octets document fault parsed is
 
 -- the first fault of a document is told
-pub key_refused : (document : Members) (fault : Fault KeyFault) (answer : ConfigFault) → Tells_table (IsFirstFault document) fault → TellsKey fault answer → IsFaultOf document answer
-key_refused document fault (Key header key problem) first told =
-    let here = subst (Tells_table (IsFirstFault document)) told.2 first in
-    rw (told.3.0, told.3.1, told.3.2) here
-key_refused document fault (NotToml line error) first told = absurd told
-key_refused document fault (BadGroup header problem) first told = absurd told
-key_refused document fault (BadUser header problem) first told = absurd told
-key_refused document fault (BadStore header problem) first told = absurd told
-key_refused document fault BadDate first told = absurd told
-key_refused document fault TooDeep first told = absurd told
-key_refused document fault TooLong first told = absurd told
-key_refused document fault Memory first told = inl refl
+pub key_refused : (document : Members) (fault : Fault KeyFault) (answer : ConfigFault) → Reports_table (IsFirstFault document) fault → ReportsKey fault answer → IsFaultOf document answer
+key_refused document fault (Key header key problem) first reported =
+    let here = subst (Reports_table (IsFirstFault document)) reported.2 first in
+    rw (reported.3.0, reported.3.1, reported.3.2) here
+key_refused document fault (NotToml line error) first reported = absurd reported
+key_refused document fault (BadGroup header problem) first reported = absurd reported
+key_refused document fault (BadUser header problem) first reported = absurd reported
+key_refused document fault (BadStore header problem) first reported = absurd reported
+key_refused document fault BadDate first reported = absurd reported
+key_refused document fault TooDeep first reported = absurd reported
+key_refused document fault TooLong first reported = absurd reported
+key_refused document fault Memory first reported = inl refl

@@ -15,18 +15,18 @@ use Rattle.config_file.specs.declared.fault.TableName.{TableName}
 use Rattle.config_file.specs.Lists.{FaultIs, Place, place_of, row_at}
 use Rattle.server_config.specs.declared.store_problem.StoreProblem.{StoreProblem}
 
-pub told_more : (First Second : Place → StoreProblem → Type 0) → ((place : Place) (told : StoreProblem) → First place told → Second place told)
+pub reported_more : (First Second : Place → StoreProblem → Type 0) → ((place : Place) (reported : StoreProblem) → First place reported → Second place reported)
     → (answer : Fault StoreProblem) → FaultIs First answer → FaultIs Second answer
-told_more First Second more (fault.At header told) is = more (place_of header) told is
-told_more First Second more fault.Memory is = tt
+reported_more First Second more (fault.At header reported) is = more (place_of header) reported is
+reported_more First Second more fault.Memory is = tt
 
 pub row_refused : {R : Type 0} (table : TableName) (path : R → List ℕ) (Makes : R → Memory → Memory → Type 0) (Refuses : R → Memory → StoreProblem → Type 0) (rows : List R) (i : ℕ) (row other : R)
     (old mid : Memory) (problem : StoreProblem) (answer : Fault StoreProblem) → i < length rows → row ≡ get_or rows i other → MakesAll Makes (take i rows) old mid
-    → Refuses row mid problem → FaultIs (λ place told. (place ≡ row_at table i (Some (path row))) × (told ≡ problem)) answer
+    → Refuses row mid problem → FaultIs (λ place reported. (place ≡ row_at table i (Some (path row))) × (reported ≡ problem)) answer
     → FaultIs (IsRefusedRow table path Makes Refuses rows old) answer
 row_refused table path Makes Refuses rows i row other old mid problem answer within at before is =
-    told_more (λ place told. (place ≡ row_at table i (Some (path row))) × (told ≡ problem)) (IsRefusedRow table path Makes Refuses rows old)
-    (λ place told same. record {
+    reported_more (λ place reported. (place ≡ row_at table i (Some (path row))) × (reported ≡ problem)) (IsRefusedRow table path Makes Refuses rows old)
+    (λ place reported same. record {
       index = i;
       row = row;
       mid = mid;

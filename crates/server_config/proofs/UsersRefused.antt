@@ -10,7 +10,7 @@ use Rattle.config_file.specs.declared.stated.GroupTable.{GroupTable}
 use Rattle.config_file.specs.declared.stated.UserTable.{UserTable}
 use Rattle.config_file.specs.declared.stated.OverrideTable.{OverrideTable}
 use Rattle.server_config.proofs.UsersAdded.{GroupIsSet}
-use Rattle.server_config.specs.UserProblems.{IsToldAs}
+use Rattle.server_config.specs.UserProblems.{IsReportedAs}
 use Rattle.server_config.specs.declared.user_problem.UserProblem.{UserProblem}
 use Rattle.server_config.specs.Users.{AddsAccount, AddsUsers, IsRefusedRule, IsRefusedAccount, IsRefusedUser, IsFirstRefusal}
 use Rattle.server_config.proofs.GroupsRefused.{stands_at}
@@ -21,17 +21,17 @@ use Rattle.config_file.specs.declared.fault.TableName.{TableName}
 use Rattle.config_file.specs.declared.fault.TableName.TheVariants as TableName
 
 -- what the authorizer refuses, in its place and with its problem
-pub told_as : (Refuses : Place → UserProblem → Type 0) (table : TableName) (index : ℕ) (name letters : List ℕ) (fault : AuthorizerFault) (answer : Fault UserProblem)
-    → FaultIs (λ at told. (at ≡ row_at table index (Some name)) × IsToldAs letters fault told × (fault ≢ AuthorizerFault.Memory)) answer
-    → ((problem : UserProblem) → fault ≢ AuthorizerFault.Memory → IsToldAs letters fault problem → Refuses (row_at table index (Some name)) problem) → FaultIs Refuses answer
-told_as Refuses table index name letters fault (At header told) is refuses =
-    subst (λ at. Refuses at told) (sym is.0) (refuses told is.2 is.1)
-told_as Refuses table index name letters fault Memory is refuses = tt
+pub reported_as : (Refuses : Place → UserProblem → Type 0) (table : TableName) (index : ℕ) (name letters : List ℕ) (fault : AuthorizerFault) (answer : Fault UserProblem)
+    → FaultIs (λ at reported. (at ≡ row_at table index (Some name)) × IsReportedAs letters fault reported × (fault ≢ AuthorizerFault.Memory)) answer
+    → ((problem : UserProblem) → fault ≢ AuthorizerFault.Memory → IsReportedAs letters fault problem → Refuses (row_at table index (Some name)) problem) → FaultIs Refuses answer
+reported_as Refuses table index name letters fault (At header reported) is refuses =
+    subst (λ at. Refuses at reported) (sym is.0) (refuses reported is.2 is.1)
+reported_as Refuses table index name letters fault Memory is refuses = tt
 
-told_more : (First Second : Place → UserProblem → Type 0) → ((place : Place) (problem : UserProblem) → First place problem → Second place problem)
+reported_more : (First Second : Place → UserProblem → Type 0) → ((place : Place) (problem : UserProblem) → First place problem → Second place problem)
     → (answer : Fault UserProblem) → FaultIs First answer → FaultIs Second answer
-told_more First Second more (At header fault) is = more (place_of header) fault is
-told_more First Second more Memory is = tt
+reported_more First Second more (At header fault) is = more (place_of header) fault is
+reported_more First Second more Memory is = tt
 
 pub group_refused : (group : Option ℕ) (user : UserTable) (old named greeted new : Accounts) (answer : Result (Unit {0}) AuthorizerFault)
     → added old user.name.now user.password.now user.home.now user.perms.now ≡ Ok named → with_messages named user.name.now user.msg_login.now user.msg_quit.now ≡ Ok greeted
@@ -43,14 +43,14 @@ pub rules_refused : (index : ℕ) (group : Option ℕ) (user : UserTable) (rules
     → AddsAccount group user old mid → IfErr answer (FaultIs (IsRefusedRule user.name.now rules mid)) → IfErr answer (FaultIs (IsRefusedUser index group user rules old))
 rules_refused index group user rules old mid (Ok done) adds is = tt
 rules_refused index group user rules old mid (Err fault) adds is =
-    told_more (IsRefusedRule user.name.now rules mid) (IsRefusedUser index group user rules old) (λ p f refused. inr (mid, adds, refused)) fault is
+    reported_more (IsRefusedRule user.name.now rules mid) (IsRefusedUser index group user rules old) (λ p f refused. inr (mid, adds, refused)) fault is
 
 pub user_refused : (groups : List GroupTable) (users : List UserTable) (overrides : List (Vec OverrideTable Global)) (i : ℕ) (user : UserTable) (rules : Vec OverrideTable Global)
     (items : List OverrideTable) (group : Option ℕ) (mid : Accounts) (answer : Fault UserProblem)
     → i < length users → i < length overrides → user ≡ get_or users i user → rules ≡ get_or overrides i rules → items ≡ rules.items → group ≡ group_in groups user.group
     → AddsUsers groups (take i users) (take i overrides) no_users mid → FaultIs (IsRefusedUser i group user items mid) answer → FaultIs (IsFirstRefusal groups users overrides) answer
 user_refused groups users overrides i user rules items group mid answer within inside at has are in_group before is =
-    told_more (IsRefusedUser i group user items mid) (IsFirstRefusal groups users overrides)
+    reported_more (IsRefusedUser i group user items mid) (IsFirstRefusal groups users overrides)
     (λ place fault refused. record {
       index = i;
       user = user;

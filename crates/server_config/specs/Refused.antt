@@ -71,16 +71,16 @@ IsFaultOfText octets fault =
 
 -- the fault of this key
 abbrev pub IsKeyFault : Place → List ℕ → Problem → ConfigFault → Type 0
-IsKeyFault place name told (Key header key problem) =
-    (owned_place header ≡ place) × (string_bytes key.name ≡ name) × (problem ≡ told)
-IsKeyFault place name told _ = ⊥
+IsKeyFault place name reported (Key header key problem) =
+    (owned_place header ≡ place) × (string_bytes key.name ≡ name) × (problem ≡ reported)
+IsKeyFault place name reported _ = ⊥
 
-abbrev pub TellsKey : Fault KeyFault → ConfigFault → Type 0
-TellsKey fault (Key header key problem) =
-    (place : Header) × (told : KeyFault) × (fault ≡ At place told)
-    × IsKeyFault (place_of place) told.key.now told.problem (Key header key problem)
-TellsKey fault Memory = Unit {0}
-TellsKey fault _ = ⊥
+abbrev pub ReportsKey : Fault KeyFault → ConfigFault → Type 0
+ReportsKey fault (Key header key problem) =
+    (place : Header) × (reported : KeyFault) × (fault ≡ At place reported)
+    × IsKeyFault (place_of place) reported.key.now reported.problem (Key header key problem)
+ReportsKey fault Memory = Unit {0}
+ReportsKey fault _ = ⊥
 
 -- the fault is this problem of this table
 pub record IsAt {P : Type 0} (fault : Fault P) (header : OwnedHeader) (problem : P) : Type 0 where
@@ -88,22 +88,22 @@ pub record IsAt {P : Type 0} (fault : Fault P) (header : OwnedHeader) (problem :
   pub is : fault ≡ At place problem
   pub same : owned_place header ≡ place_of place
 
-abbrev pub TellsGroup : Fault GroupProblem → ConfigFault → Type 0
-TellsGroup fault (BadGroup header problem) = IsAt fault header problem
-TellsGroup fault Memory = Unit {0}
-TellsGroup fault _ = ⊥
+abbrev pub ReportsGroup : Fault GroupProblem → ConfigFault → Type 0
+ReportsGroup fault (BadGroup header problem) = IsAt fault header problem
+ReportsGroup fault Memory = Unit {0}
+ReportsGroup fault _ = ⊥
 
-abbrev pub TellsUser : Fault UserProblem → ConfigFault → Type 0
-TellsUser fault (BadUser header problem) = IsAt fault header problem
-TellsUser fault Memory = Unit {0}
-TellsUser fault _ = ⊥
+abbrev pub ReportsUser : Fault UserProblem → ConfigFault → Type 0
+ReportsUser fault (BadUser header problem) = IsAt fault header problem
+ReportsUser fault Memory = Unit {0}
+ReportsUser fault _ = ⊥
 
-abbrev pub TellsStore : Fault StoreProblem → ConfigFault → Type 0
-TellsStore fault (BadStore header problem) = IsAt fault header problem
-TellsStore fault Memory = Unit {0}
-TellsStore fault _ = ⊥
+abbrev pub ReportsStore : Fault StoreProblem → ConfigFault → Type 0
+ReportsStore fault (BadStore header problem) = IsAt fault header problem
+ReportsStore fault Memory = Unit {0}
+ReportsStore fault _ = ⊥
 
-abbrev pub TellsText : Error → ConfigFault → Type 0
-TellsText error (NotToml line told) = IsMemory error → ⊥
-TellsText error Memory = Unit {0}
-TellsText error _ = ⊥
+abbrev pub ReportsText : Error → ConfigFault → Type 0
+ReportsText error (NotToml line reported) = IsMemory error → ⊥
+ReportsText error Memory = Unit {0}
+ReportsText error _ = ⊥

@@ -9,9 +9,9 @@ use Rattle.session_table.specs.declared.settings.Settings.{Settings}
 use Rattle.server_config.specs.declared.settings.ServerNumbers.{ServerNumbers}
 
 -- the address announced to clients: the stated one, or otherwise that of the server
-abbrev pub told_address : Option Ipv4Addr → Ipv4Addr → Ipv4Addr
-told_address None own = own
-told_address (Some stated) own = stated
+abbrev pub reported_address : Option Ipv4Addr → Ipv4Addr → Ipv4Addr
+reported_address None own = own
+reported_address (Some stated) own = stated
 
 pub record AreSettings (server : ServerTable) (settings : Settings Global) : Type 0 where
   pub banner : text_of settings.banner ≡ server.banner.now
@@ -19,7 +19,7 @@ pub record AreSettings (server : ServerTable) (settings : Settings Global) : Typ
   pub foreign : settings.permits_foreign_addresses ≡ server.permit_foreign_addresses
   pub privileged : settings.permits_privileged_ports ≡ server.permit_privileged_ports
   pub address : settings.address
-      ≡ ipv4_octets (told_address server.masquerade_address server.address)
+      ≡ ipv4_octets (reported_address server.masquerade_address server.address)
 
 pub record AreNumbers (server : ServerTable) (numbers : ServerNumbers) : Type 0 where
   pub address : numbers.address ≡ ipv4_octets server.address

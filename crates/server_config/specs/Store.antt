@@ -109,25 +109,25 @@ pub record IsRefusedRow {R : Type 0} (table : TableName) (path : R → List ℕ)
   pub place : at ≡ row_at table index (Some (path row))
 
 abbrev pub IsRefusedDir : List DirTable → Memory → Place → StoreProblem → Type 0
-IsRefusedDir dirs old place told =
-    IsRefusedRow TableName.Dir (λ dir. dir.path.now) MakesDir IsDirProblem dirs old place told
+IsRefusedDir dirs old place reported =
+    IsRefusedRow TableName.Dir (λ dir. dir.path.now) MakesDir IsDirProblem dirs old place reported
 
 abbrev pub IsRefusedFile : List FileTable → Memory → Place → StoreProblem → Type 0
-IsRefusedFile files old place told =
-    IsRefusedRow TableName.File (λ file. file.path.now) MakesFile IsFileProblem files old place told
+IsRefusedFile files old place reported =
+    IsRefusedRow TableName.File (λ file. file.path.now) MakesFile IsFileProblem files old place reported
 
 -- a directory is refused, or otherwise a file
 abbrev pub IsNotMade : ServerTable → List DirTable → List FileTable → Place → StoreProblem → Type 0
-IsNotMade server dirs files place told =
-    IsRefusedDir dirs (empty_store server.capacity) place told
+IsNotMade server dirs files place reported =
+    IsRefusedDir dirs (empty_store server.capacity) place reported
     ⊎ ((made : Memory) × MakesAll MakesDir dirs (empty_store server.capacity) made
-    × IsRefusedFile files made place told)
+    × IsRefusedFile files made place reported)
 
 -- the range of ports is empty; or otherwise a store in memory is not made
 abbrev pub IsStoreProblem : ServerTable → List DirTable → List FileTable → Place → StoreProblem
     → Type 0
-IsStoreProblem server dirs files place told =
-    ((place ≡ whole TableName.Server) × (told ≡ problem.EmptyRange)
+IsStoreProblem server dirs files place reported =
+    ((place ≡ whole TableName.Server) × (reported ≡ problem.EmptyRange)
     × (server.passive_last < server.passive_first))
     ⊎ ((server.passive_first ≤ server.passive_last) × (server.root.now ≡ codes "memory")
-    × IsNotMade server dirs files place told)
+    × IsNotMade server dirs files place reported)

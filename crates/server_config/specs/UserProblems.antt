@@ -15,7 +15,7 @@ pub record IsStrayLetter (text : List ℕ) (character : ℕ) : Type 0 where
   pub stray : letters_of (encode_utf8 character) ≡ None
 
 -- the problem is the stray letter if the letters are at fault, and otherwise the fault itself
-abbrev pub IsToldAs : List ℕ → AuthorizerFault → UserProblem → Type 0
-IsToldAs letters fault (BadLetter character) =
+abbrev pub IsReportedAs : List ℕ → AuthorizerFault → UserProblem → Type 0
+IsReportedAs letters fault (BadLetter character) =
     (fault ≡ AuthorizerFault.BadLetter) × IsStrayLetter letters character
-IsToldAs letters fault (Refused told) = (told ≡ fault) × (fault ≢ AuthorizerFault.BadLetter)
+IsReportedAs letters fault (Refused reported) = (reported ≡ fault) × (fault ≢ AuthorizerFault.BadLetter)

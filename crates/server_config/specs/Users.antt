@@ -11,7 +11,7 @@ use Rattle.config_file.specs.declared.stated.UserTable.{UserTable}
 use Rattle.config_file.specs.declared.stated.OverrideTable.{OverrideTable}
 use Rattle.config_file.specs.declared.fault.TableName.TheVariants as TableName
 use Rattle.config_file.specs.Lists.{Place, row_at}
-use Rattle.server_config.specs.UserProblems.{IsToldAs}
+use Rattle.server_config.specs.UserProblems.{IsReportedAs}
 use Rattle.server_config.specs.declared.user_problem.UserProblem.{UserProblem}
 
 -- an override of a user
@@ -60,7 +60,7 @@ pub record IsRefusedRule (name : List ℕ) (rules : List OverrideTable) (old : A
   pub before : AddsRules name (take index rules) old mid
   pub fault : AuthorizerFault
   pub refused : overridden mid name rule.path.now rule.perms.now rule.recursive ≡ Err fault
-  pub told : IsToldAs rule.perms.now fault problem
+  pub reported : IsReportedAs rule.perms.now fault problem
   pub place : at ≡ row_at TableName.Override index (Some name)
 
 -- a user is refused; or otherwise the messages; or otherwise the group
@@ -80,7 +80,7 @@ abbrev pub IsRefusedUser : ℕ → Option ℕ → UserTable → List OverrideTab
 IsRefusedUser index group user rules old place problem =
     ((place ≡ row_at TableName.User index (Some user.name.now))
     × ((fault : AuthorizerFault) × IsRefusedAccount group user old fault
-    × IsToldAs user.perms.now fault problem))
+    × IsReportedAs user.perms.now fault problem))
     ⊎ ((next : Accounts) × AddsAccount group user old next
     × IsRefusedRule user.name.now rules next place problem)
 

@@ -2,7 +2,7 @@
 
 ghost use Rattle.std.specs.Prelude.{◌≡◌, IfErr, IfOk};
 ghost use Rattle.config_file.specs.Lists.{place_of};
-ghost use Rattle.server_config.specs.Refused.{IsAt, IsKeyFault, owned_place, TellsGroup, TellsKey, TellsStore, TellsText, TellsUser};
+ghost use Rattle.server_config.specs.Refused.{IsAt, IsKeyFault, owned_place, ReportsGroup, ReportsKey, ReportsStore, ReportsText, ReportsUser};
 ghost use Rattle.server_config.specs.Faults.{name_of};
 ghost use Rattle.server_config.specs.declared.fault.ConfigFault.TheVariants.{Memory};
 
@@ -185,7 +185,7 @@ fn owned(alloc: Global, header: Header) -> Result<OwnedHeader, AllocError>
 
 /// The fault of text that is no TOML.
 pub(crate) fn not_toml(octets: &[u8], error: toml::de::Error) -> ConfigFault
-    ensures told { TellsText error result }
+    ensures reported { ReportsText error result }
 {
     let Some(range) = error.span() else {
         return ConfigFault::Memory;
@@ -216,7 +216,7 @@ fn key_fault(
     key: &str,
     problem: Problem,
 ) -> Result<ConfigFault, AllocError>
-    ensures told { IfOk result (IsKeyFault (place_of header.entry) key.now problem) }
+    ensures reported { IfOk result (IsKeyFault (place_of header.entry) key.now problem) }
 {
     let similar = match problem {
         Problem::Unknown => similar_to(alloc, header.table, key)?,
@@ -245,7 +245,7 @@ fn located<P: Drop>(alloc: Global, fault: Fault<P>) -> Result<(OwnedHeader, P), 
 
 /// The fault of a table's key.
 pub(crate) fn of_key(alloc: Global, fault: Fault<KeyFault>) -> ConfigFault
-    ensures told { TellsKey fault.entry result }
+    ensures reported { ReportsKey fault.entry result }
 {
     match fault {
         Fault::At { header, problem } => {
@@ -260,7 +260,7 @@ pub(crate) fn of_key(alloc: Global, fault: Fault<KeyFault>) -> ConfigFault
 
 /// The fault of groups.
 pub(crate) fn of_groups(alloc: Global, fault: Fault<GroupProblem>) -> ConfigFault
-    ensures told { TellsGroup fault.entry result }
+    ensures reported { ReportsGroup fault.entry result }
 {
     match located(alloc, fault) {
         Ok((header, problem)) => ConfigFault::BadGroup { header, problem },
@@ -270,7 +270,7 @@ pub(crate) fn of_groups(alloc: Global, fault: Fault<GroupProblem>) -> ConfigFaul
 
 /// The fault of users.
 pub(crate) fn of_users(alloc: Global, fault: Fault<UserProblem>) -> ConfigFault
-    ensures told { TellsUser fault.entry result }
+    ensures reported { ReportsUser fault.entry result }
 {
     match located(alloc, fault) {
         Ok((header, problem)) => ConfigFault::BadUser { header, problem },
@@ -280,7 +280,7 @@ pub(crate) fn of_users(alloc: Global, fault: Fault<UserProblem>) -> ConfigFault
 
 /// The fault of a store.
 pub(crate) fn of_store(alloc: Global, fault: Fault<StoreProblem>) -> ConfigFault
-    ensures told { TellsStore fault.entry result }
+    ensures reported { ReportsStore fault.entry result }
 {
     match located(alloc, fault) {
         Ok((header, problem)) => ConfigFault::BadStore { header, problem },

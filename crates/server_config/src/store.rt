@@ -77,8 +77,8 @@ fn refused<'a>(
     problem: StoreProblem,
 ) -> Fault<'a, StoreProblem>
     requires within { index < 2 ^ 63 }
-    ensures told { FaultIs (λ place told. (place ≡ row_at table index (Some path.now))
-        × (told ≡ problem)) result }
+    ensures reported { FaultIs (λ place reported. (place ≡ row_at table index (Some path.now))
+        × (reported ≡ problem)) result }
 {
     match problem {
         StoreProblem::Path(PathFault::Memory) | StoreProblem::Store(StoreFault::Memory) => {

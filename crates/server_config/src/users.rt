@@ -7,7 +7,7 @@ ghost use Rattle.server_config.specs.RateRows.{user_rows};
 ghost use Rattle.config_file.specs.declared.stated.GroupTable.{GroupTable};
 ghost use Rattle.server_config.specs.Users.{AddsRule, AddsRules, AddsAccount, AddsUser, AddsUsers};
 ghost use Rattle.authorizer.specs.declared.fault.AuthorizerFault.TheVariants as AuthorizerFault;
-ghost use Rattle.server_config.specs.UserProblems.{IsToldAs};
+ghost use Rattle.server_config.specs.UserProblems.{IsReportedAs};
 ghost use Rattle.server_config.specs.Users.{IsRefusedRule, IsRefusedAccount, IsRefusedUser, IsFirstRefusal};
 ghost use Rattle.config_file.specs.Lists.{FaultIs, row_at};
 ghost use Rattle.authorizer.specs.Changes.{overridden};
@@ -29,8 +29,8 @@ fn refused<'a>(
 ) -> Fault<'a, UserProblem>
     requires within { index < 2 ^ 63 }
     requires stray { fault ≡ AuthorizerFault.BadLetter → letters_of letters.now ≡ None }
-    ensures told { FaultIs (λ place told. (place ≡ row_at table index (Some name.now))
-        × IsToldAs letters.now fault told × (fault ≢ AuthorizerFault.Memory)) result }
+    ensures reported { FaultIs (λ place reported. (place ≡ row_at table index (Some name.now))
+        × IsReportedAs letters.now fault reported × (fault ≢ AuthorizerFault.Memory)) result }
 {
     let problem = match fault {
         AuthorizerFault::Memory => return Fault::Memory,

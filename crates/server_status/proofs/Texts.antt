@@ -44,11 +44,11 @@ no_json s octets line written is not =
 
 pub unread : (s : Status) (octets line : List ℕ) (fault : StatusFault) → IsStatusText s octets → line ≡ without_feed octets
     → (fault ≡ Memory) ⊎ ((fault ≡ NotJson) × HasNoJson line) → fault ≡ Memory
-unread s octets line fault written is told = elim told [ inl memory ↦ memory | inr not ↦ absurd (no_json s octets line written is not.1) ]
+unread s octets line fault written is reported = elim reported [ inl memory ↦ memory | inr not ↦ absurd (no_json s octets line written is not.1) ]
 
 pub unlike : (s : Status) (octets line : List ℕ) (d : Data) (fault : StatusFault) → HavePeers s → IsStatusText s octets → line ≡ without_feed octets → read line ≡ Some d
     → (fault ≡ Memory) ⊎ IsFaultOf d fault → fault ≡ Memory
-unlike s octets line d fault peers written is reads told = elim told [
+unlike s octets line d fault peers written is reads reported = elim reported [
   | inl memory ↦ memory
   | inr fails ↦ absurd (no_fault (status_data s) fault (fine s peers) (subst (λ (e : Data). IsFaultOf e fault) (sym (data_is s octets line d written is reads)) fails))
 ]
@@ -64,7 +64,7 @@ read_as s octets line d (Err fault) peers written is reads has fails = unlike s 
 
 -- the fault of the value of a text is that of the text
 pub fault_read : (octets line : List ℕ) (d : Data) (fault : StatusFault) → line ≡ without_feed octets → read line ≡ Some d → (fault ≡ Memory) ⊎ IsFaultOf d fault → IsReadFault octets fault
-fault_read octets line d fault is reads told = elim told [ inl memory ↦ inl memory | inr fails ↦ inr (inr (d, ap read (sym is) ∙ reads, fails)) ]
+fault_read octets line d fault is reads reported = elim reported [ inl memory ↦ inl memory | inr fails ↦ inr (inr (d, ap read (sym is) ∙ reads, fails)) ]
 
 -- the JSON of a status and a line feed
 pub written : (s : Status) (json line text : List ℕ) (d : Data) → line ≡ json → text ≡ line ++ 10 ∷ [] → IsUtf8 line → (depth d ≤ 127 → read json ≡ Some d) → d ≡ status_data s → IsStatusText s text

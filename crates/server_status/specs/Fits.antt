@@ -53,14 +53,14 @@ Fits kind.List d = IsTrue (is_some (as_array d))
 -- A member of a record: its name in a fault, the name of the object within the record that has it,
 -- if it is not the record itself, its name there, and the kind of its value.
 pub record MemberRow : Type 0 where
-  pub told : List ℕ
+  pub reported : List ℕ
   pub within : Option (List ℕ)
   pub name : List ℕ
   pub kind : Kind
 
 abbrev pub row_of : Member → MemberRow
 row_of m =
-    record { told = m.0.now; within = option_map (λ s. s.now) m.1; name = m.2.now; kind = m.3 }
+    record { reported = m.0.now; within = option_map (λ s. s.now) m.1; name = m.2.now; kind = m.3 }
 
 abbrev pub rows_of : List Member → List MemberRow
 rows_of ms = map row_of ms
@@ -100,8 +100,8 @@ IsOtherKind of (Some d) = ¬ Fits of d
 
 -- the record has not the member; or its value is of another kind
 abbrev pub IsMemberFault : MemberRow → Data → StatusFault → Type 0
-IsMemberFault m d (Missing name) = (name.now ≡ m.told) × (found m d ≡ None)
-IsMemberFault m d (OtherKind name) = (name.now ≡ m.told) × IsOtherKind m.kind (found m d)
+IsMemberFault m d (Missing name) = (name.now ≡ m.reported) × (found m d ≡ None)
+IsMemberFault m d (OtherKind name) = (name.now ≡ m.reported) × IsOtherKind m.kind (found m d)
 IsMemberFault m d (Version n) = ⊥
 IsMemberFault m d NotJson = ⊥
 IsMemberFault m d Memory = ⊥

@@ -6,11 +6,11 @@ use Rattle.server_status.specs.Fits.{MemberRow}
 
 -- a member of the record itself
 abbrev pub own : List ℕ → List ℕ → Kind → MemberRow
-own told name kind = record { told = told; within = None; name = name; kind = kind }
+own reported name kind = record { reported = reported; within = None; name = name; kind = kind }
 
 -- a member of an object within it
 abbrev pub inner : List ℕ → List ℕ → List ℕ → Kind → MemberRow
-inner told within name kind = record { told = told; within = Some within; name = name; kind = kind }
+inner reported within name kind = record { reported = reported; within = Some within; name = name; kind = kind }
 
 -- the version, which is judged before all others
 abbrev pub version_rows : List MemberRow

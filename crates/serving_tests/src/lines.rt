@@ -37,8 +37,8 @@ fn counts_are_reported(rt: HostRuntime) {
     }
     queue.report(rt.alloc(), "[WARN ] ").expect(&rt, "memory");
     holds(&rt, queue.dropped() == 0);
-    let told = queue.next_octets();
-    holds(&rt, told == b"[WARN ] lines dropped: 2\n".as_slice());
+    let reported = queue.next_octets();
+    holds(&rt, reported == b"[WARN ] lines dropped: 2\n".as_slice());
     queue.written(3);
     holds(&rt, queue.has_begun());
 }
@@ -83,9 +83,9 @@ fn lines_of_transfers(rt: HostRuntime) {
         user: "ann",
         is_whole: true,
     };
-    let told = transfer_line(rt.alloc(), &transfer).expect(&rt, "memory");
+    let reported = transfer_line(rt.alloc(), &transfer).expect(&rt, "memory");
     let wanted = "Thu Nov 26 15:04:45 2026 2 127.0.0.1 6 /a_b.txt b _ o r ann ftp 0 * c\n";
-    holds(&rt, told.as_str() == wanted);
+    holds(&rt, reported.as_str() == wanted);
 }
 
 #[test]

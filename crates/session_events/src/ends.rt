@@ -4,7 +4,7 @@ ghost use Rattle.std.specs.Prelude.{◌≡◌, ◌≤◌, ◌<◌, ◌+◌, ◌+
 ghost use Rattle.session_table.specs.Plans.{RanByStore};
 ghost use Rattle.session_table.specs.Plans.Plan.{Then};
 ghost use Rattle.session_table.specs.StateRows.{farewell};
-ghost use Rattle.session_table.specs.Table.{and_quits, end_hook, end_reply, end_row, end_told, ended_row, ended_with};
+ghost use Rattle.session_table.specs.Table.{and_quits, end_hook, end_reply, end_row, end_reported, ended_row, ended_with};
 ghost use Rattle.session_table.specs.Views.{is_closed};
 ghost use Rattle.authorizer.specs.Users.{Users};
 ghost use Rattle.session_table.specs.declared.inputs.End.{End};
@@ -19,8 +19,8 @@ use virtual_path::VPath;
 use virtual_tree::{Store, StoreFault};
 
 /// The reply to the end of a transfer, with the result of `finish`.
-fn end_told<A: Allocator>(end: End, finished: Result<(), StoreFault>) -> Answer<A>
-    ensures reply { result ≡ end_told end finished }
+fn end_reported<A: Allocator>(end: End, finished: Result<(), StoreFault>) -> Answer<A>
+    ensures reply { result ≡ end_reported end finished }
 {
     match end {
         End::Done => match finished {
@@ -114,7 +114,7 @@ struct Ending<A: Allocator> {
 }
 
 /// Appends the replies and events of the end of a transfer.
-fn tell_end<A: Allocator + Clone, R: Drop, K: Drop>(
+fn report_end<A: Allocator + Clone, R: Drop, K: Drop>(
     state: &mut State<A>,
     users: &Authorizer<A>,
     ending: Ending<A>,
@@ -132,7 +132,7 @@ fn tell_end<A: Allocator + Clone, R: Drop, K: Drop>(
     if state.stage() == Stage::Closed {
         return;
     }
-    let reply = end_told(ending.end, finished);
+    let reply = end_reported(ending.end, finished);
     push_reply(actions, state.control(), ending.was_aborted, reply);
     push_hook(actions, ending.errand, ending.end);
     quit_if_waiting(state, users, ending.parting, actions);
@@ -160,9 +160,9 @@ fn end_errand<A: Allocator + Clone, S: Store<A>>(
     match sink {
         Some(sink) => {
             let finished = store.finish(sink, moment);
-            tell_end(state, users, ending, finished, actions);
+            report_end(state, users, ending, finished, actions);
         }
-        None => tell_end(state, users, ending, Ok(()), actions),
+        None => report_end(state, users, ending, Ok(()), actions),
     }
 }
 

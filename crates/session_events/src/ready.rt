@@ -3,7 +3,7 @@
 ghost use Rattle.std.specs.Prelude.{◌≡◌, ◌≤◌, [], ◌∷◌, IfOk, None, OnErr, Some, vec_len, vec_capacity};
 ghost use Rattle.session_table.specs.Plans.Plan.{Then};
 ghost use Rattle.session_table.specs.declared.actions.Action.TheVariants.{Say};
-ghost use Rattle.session_table.specs.Table.{port_told, ready_as, ready_row};
+ghost use Rattle.session_table.specs.Table.{port_reported, ready_as, ready_row};
 
 use crate::ends::quit_if_waiting;
 use authorizer::Authorizer;
@@ -14,12 +14,12 @@ use session_table::{Action, Answer, Passive, Refusal};
 use std::alloc::{AllocError, Allocator};
 
 /// The reply with the port.
-fn port_told<A: Allocator + Clone>(
+fn port_reported<A: Allocator + Clone>(
     state: &State<A>,
     passive: Passive,
     port: u16,
 ) -> Result<Answer<A>, AllocError>
-    ensures reply { IfOk result (λ reply. reply ≡ port_told state.now passive port) }
+    ensures reply { IfOk result (λ reply. reply ≡ port_reported state.now passive port) }
 {
     match passive {
         Passive::Plain => {
@@ -51,19 +51,19 @@ fn say_port<A: Allocator + Clone, R: Drop, K: Drop>(
     passive: Passive,
     port: u16,
 ) -> Result<Vec<Action<A, R, K>, A>, AllocError>
-    ensures told { IfOk result (λ actions.
-        actions.items ≡ Say (port_told state.now passive port) ∷ []) }
+    ensures reported { IfOk result (λ actions.
+        actions.items ≡ Say (port_reported state.now passive port) ∷ []) }
     ensures len { IfOk result (λ actions. vec_len actions ≡ 1) }
     ensures room { IfOk result (λ actions. 5 ≤ vec_capacity actions) }
 {
     let mut actions = room_for(state, 5)?;
-    let told = port_told(state, passive, port)?;
-    push_reserved(&mut actions, Action::Say(told));
+    let reported = port_reported(state, passive, port)?;
+    push_reserved(&mut actions, Action::Say(reported));
     Ok(actions)
 }
 
 /// A port is open.
-fn tell_port<A: Allocator + Clone, R: Drop, K: Drop>(
+fn report_port<A: Allocator + Clone, R: Drop, K: Drop>(
     state: &mut State<A>,
     users: &Authorizer<A>,
     passive: Passive,
@@ -82,7 +82,7 @@ fn tell_port<A: Allocator + Clone, R: Drop, K: Drop>(
 }
 
 /// No port is free.
-fn tell_none<A: Allocator + Clone, R: Drop, K: Drop>(
+fn report_none<A: Allocator + Clone, R: Drop, K: Drop>(
     state: &mut State<A>,
     users: &Authorizer<A>,
     passive: Passive,
@@ -113,8 +113,8 @@ pub fn take_port<A: Allocator + Clone, R: Drop, K: Drop>(
     match state.awaited() {
         None => room_for(state, 0),
         Some(passive) => match port {
-            Some(port) => tell_port(state, users, passive, port),
-            None => tell_none(state, users, passive),
+            Some(port) => report_port(state, users, passive, port),
+            None => report_none(state, users, passive),
         },
     }
 }

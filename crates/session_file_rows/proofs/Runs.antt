@@ -8,7 +8,7 @@ use Rattle.ftp_terms.specs.declared.entries.EntryKind.{EntryKind}
 use Rattle.ftp_terms.specs.declared.entries.EntryKind.TheVariants as kind
 use Rattle.ftp_terms.specs.declared.entries.Meta.{Meta}
 use Rattle.session_file_rows.specs.declared.way.Way.{Way}
-use Rattle.session_file_rows.specs.Listed.{IsListed, told_by}
+use Rattle.session_file_rows.specs.Listed.{IsListed, reported_by}
 use Rattle.session_table.specs.declared.actions.Action.{Action}
 use Rattle.session_table.specs.declared.rules.Style.{Style}
 use Rattle.session_table.specs.FileRows.{by_kind, unless_fault}
@@ -20,9 +20,9 @@ use Rattle.session_table.specs.TransferRows.{lists_directory}
 use Rattle.session_table.specs.Views.{View}
 
 -- what follows from the last answer was told
-pub told : {S A R K : Type 0} (Step : S → Exchange R K → S → Type 0) (plan : Plan A R K) (store : S) (view' : View) (actions : List (Action A R K))
+pub reported : {S A R K : Type 0} (Step : S → Exchange R K → S → Type 0) (plan : Plan A R K) (store : S) (view' : View) (actions : List (Action A R K))
     → Then view' actions ≡ plan → RanByStore Step plan store store view' actions
-told Step plan store view' actions is promises =
+reported Step plan store view' actions is promises =
     subst (λ (p : Plan _ _ _). Ran Step p store store promises promises view' actions) is (refl, refl, refl, refl)
 
 -- the entries of a directory were asked for, and told
@@ -30,14 +30,14 @@ pub directory_runs : {S A R K : Type 0} (Step : S → Exchange R K → S → Typ
     → stored ≡ location.stored → above ≡ location.path → others ≡ entries
     → Step old (Listing stored (Ok entries)) new
     → IsListed users view style way above others view' actions
-    → RanByStore Step (lists_directory users view style location (told_by way view)) old new view' actions
+    → RanByStore Step (lists_directory users view style location (reported_by way view)) old new view' actions
 directory_runs Step users view style way location stored above entries others old new view' actions stored_is above_is others_is step listed promises =
     let there : Step old (Listing location.stored (Ok entries)) new =
     subst (λ path. Step old (Listing path (Ok entries)) new) stored_is step in
     let shown : IsListed users view style way location.path entries view' actions =
     subst (λ path. IsListed users view style way path entries view' actions) above_is
     (subst (λ found. IsListed users view style way above found view' actions) others_is listed) in
-    (Ok entries, new, there, (shown.0, shown.1, told Step _ new view' actions shown.2 promises))
+    (Ok entries, new, there, (shown.0, shown.1, reported Step _ new view' actions shown.2 promises))
 
 -- a directory was looked at, and then its entries were asked for
 pub directory_looked : {S A R K : Type 0} (Step : S → Exchange R K → S → Type 0) (view : View) (location : Location) (of_directory : Plan A R K) (of_file : Meta → Plan A R K)

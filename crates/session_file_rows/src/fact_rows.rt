@@ -4,8 +4,8 @@ ghost use Rattle.std.specs.Prelude.{◌≡◌, ◌++◌, ◌∷◌, [], ℕ, Lis
 ghost use Rattle.ftp_reply.specs.Replies.{SeveralLines};
 ghost use Rattle.ftp_terms.specs.LineText.{text_of};
 ghost use Rattle.session_table.specs.Plans.{RanByStore, Stops};
-ghost use Rattle.session_table.specs.Texts.{IsTold};
-ghost use Rattle.session_table.specs.Texts.Told.{FactLine};
+ghost use Rattle.session_table.specs.Texts.{IsReported};
+ghost use Rattle.session_table.specs.Texts.Reported.{FactLine};
 ghost use Rattle.session_table.specs.TransferRows.{letters_held, mlst_row};
 ghost use Rattle.session_table.specs.declared.answers.Answer.TheVariants.{Made};
 ghost use Rattle.virtual_path.specs.Path.{path_text};
@@ -26,8 +26,8 @@ fn entry_text<A: Allocator + Clone>(
     path: &VPath<A>,
     meta: &Meta,
 ) -> Result<LineText<A>, AllocError>
-    ensures told { IfOk result (λ entry.
-        IsTold (FactLine meta.now state.now.facts
+    ensures reported { IfOk result (λ entry.
+        IsReported (FactLine meta.now state.now.facts
         (letters_held users.now.users state.now.name path.now) (path_text path.now))
         (text_of entry)) }
 {
@@ -59,8 +59,8 @@ fn entry_answer<A: Allocator + Clone>(
     path: &VPath<A>,
     meta: &Meta,
 ) -> Result<Answer<A>, AllocError>
-    ensures told { IfOk result (λ answer. (line : List ℕ)
-        × IsTold (FactLine meta.now state.now.facts
+    ensures reported { IfOk result (λ answer. (line : List ℕ)
+        × IsReported (FactLine meta.now state.now.facts
         (letters_held users.now.users state.now.name path.now) (path_text path.now)) line
         × (answer
         ≡ Made (SeveralLines 250 (codes "Listing") ((codes " " ++ line) ∷ []) (codes "End")))) }

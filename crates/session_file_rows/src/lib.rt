@@ -17,7 +17,7 @@ mod lines;
 mod listing_rows;
 mod outcomes;
 mod paths;
-mod told;
+mod reported;
 mod way;
 
 pub use changes::{dele_row, mkd_row, rmd_row, rnfr_row, rnto_row};

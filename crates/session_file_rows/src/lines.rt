@@ -4,8 +4,8 @@ ghost use Rattle.std.specs.Prelude.{◌≡◌, ◌++◌, ◌∷◌, [], IfOk, On
 ghost use Rattle.ftp_terms.specs.LineText.{text_of};
 ghost use Rattle.ftp_terms.specs.Lines.{IsLine};
 ghost use Rattle.session_file_rows.specs.Listed.{AreEnded};
-ghost use Rattle.session_table.specs.Texts.{AreTold, IsTold};
-ghost use Rattle.session_table.specs.TransferRows.{entry_told, last_name, letters_by, letters_held};
+ghost use Rattle.session_table.specs.Texts.{AreReported, IsReported};
+ghost use Rattle.session_table.specs.TransferRows.{entry_reported, last_name, letters_by, letters_held};
 ghost use Rattle.virtual_path.specs.Path.{child_of};
 ghost use Rattle.virtual_tree.specs.Calls.{entry_of};
 
@@ -69,8 +69,8 @@ fn entry_line<A: Allocator + Clone>(
     meta: &Meta,
 ) -> Result<LineText<A>, AllocError>
     requires line { IsLine name.now }
-    ensures told { IfOk result (λ line. IsTold
-        (entry_told users.now.users state.now above.now style (name.now, meta.now))
+    ensures reported { IfOk result (λ line. IsReported
+        (entry_reported users.now.users state.now above.now style (name.now, meta.now))
         (text_of line)) }
 {
     match style {
@@ -91,8 +91,8 @@ pub(crate) fn lines_of<A: Allocator + Clone>(
     style: Style,
     entries: &[ListedEntry<A>],
 ) -> Result<Vec<LineText<A>, A>, AllocError>
-    ensures told { IfOk result (λ lines. AreTold
-        (map (entry_told users.now.users state.now above.now style)
+    ensures reported { IfOk result (λ lines. AreReported
+        (map (entry_reported users.now.users state.now above.now style)
         (map entry_of entries.now))
         (map text_of lines.items)) }
 {
@@ -113,8 +113,8 @@ pub(crate) fn octets_of<A: Allocator + Clone>(
     style: Style,
     entries: &[ListedEntry<A>],
 ) -> Result<Octets<A>, AllocError>
-    ensures told { IfOk result (λ octets. AreEnded
-        (map (entry_told users.now.users state.now above.now style) (map entry_of entries.now))
+    ensures reported { IfOk result (λ octets. AreEnded
+        (map (entry_reported users.now.users state.now above.now style) (map entry_of entries.now))
         octets) }
 {
     let mut octets = Vec::new(state.alloc()?);
@@ -141,8 +141,8 @@ pub(crate) fn line_of_file<A: Allocator + Clone>(
     style: Style,
     meta: &Meta,
 ) -> Result<LineText<A>, AllocError>
-    ensures told { IfOk result (λ line. IsTold
-        (entry_told users.now.users state.now path.now style (last_name path.now, meta.now))
+    ensures reported { IfOk result (λ line. IsReported
+        (entry_reported users.now.users state.now path.now style (last_name path.now, meta.now))
         (text_of line)) }
 {
     let name = last_name(path);

@@ -3,11 +3,11 @@
 //! If memory runs out the session is unchanged, and the store is as the looks left it.
 
 ghost use Rattle.std.specs.Prelude.{◌≡◌, IfOk, OnErr};
-ghost use Rattle.session_file_rows.specs.Listed.{told_by};
+ghost use Rattle.session_file_rows.specs.Listed.{reported_by};
 ghost use Rattle.session_table.specs.Plans.{RanByStore, Stops};
 ghost use Rattle.session_table.specs.TransferRows.{list_row, lists_directory, lists_location, mlsd_row, stat_row};
 
-use crate::told::{tell_entries, tell_file};
+use crate::reported::{report_entries, report_file};
 use crate::way::Way;
 use authorizer::Authorizer;
 use ftp_terms::EntryKind;
@@ -26,16 +26,16 @@ fn list_directory<A: Allocator + Clone, S: Store<A>>(
     way: Way,
 ) -> Result<Vec<Action<A, S::Source, S::Sink>, A>, AllocError>
     ensures row { IfOk result (λ actions. RanByStore S.Step
-        (lists_directory users.now.users state.old style location.now (told_by way state.old))
+        (lists_directory users.now.users state.old style location.now (reported_by way state.old))
         store.old store.new state.new actions.items) }
     ensures unchanged { OnErr result (state.new ≡ state.old) }
     ensures stops { OnErr result (Stops {A = A} {R = S.Source} {K = S.Sink} S.Step
-        (lists_directory users.now.users state.old style location.now (told_by way state.old))
+        (lists_directory users.now.users state.old style location.now (reported_by way state.old))
         store.old store.new) }
 {
     match store.list(location.stored()) {
         Err(fault) => state.refuse(Refusal::Store(fault)),
-        Ok(entries) => tell_entries(
+        Ok(entries) => report_entries(
             state,
             users,
             location.path(),
@@ -56,17 +56,17 @@ fn list_location<A: Allocator + Clone, S: Store<A>>(
     way: Way,
 ) -> Result<Vec<Action<A, S::Source, S::Sink>, A>, AllocError>
     ensures row { IfOk result (λ actions. RanByStore S.Step
-        (lists_location users.now.users state.old style location.now (told_by way state.old))
+        (lists_location users.now.users state.old style location.now (reported_by way state.old))
         store.old store.new state.new actions.items) }
     ensures unchanged { OnErr result (state.new ≡ state.old) }
     ensures stops { OnErr result (Stops {A = A} {R = S.Source} {K = S.Sink} S.Step
-        (lists_location users.now.users state.old style location.now (told_by way state.old))
+        (lists_location users.now.users state.old style location.now (reported_by way state.old))
         store.old store.new) }
 {
     match store.stat(location.stored()) {
         Err(fault) => state.refuse(Refusal::Store(fault)),
         Ok(meta) => match meta.kind {
-            EntryKind::File => tell_file(state, users, location.path(), style, way, &meta),
+            EntryKind::File => report_file(state, users, location.path(), style, way, &meta),
             EntryKind::Directory => list_directory(state, users, store, location, style, way),
         },
     }

@@ -3,7 +3,7 @@
 ghost use Rattle.std.specs.Prelude.{◌≡◌, ◌≤◌, ◌+◌, [], vec_len, vec_capacity};
 ghost use Rattle.session_table.specs.FileRows.{unless_fault};
 ghost use Rattle.session_table.specs.Plans.Plan.{Then};
-ghost use Rattle.session_table.specs.StateRows.{refuses, tells};
+ghost use Rattle.session_table.specs.StateRows.{refuses, reports};
 ghost use Rattle.session_table.specs.TransferRows.{starts};
 ghost use Rattle.session_table.specs.declared.refusals.Refusal.TheVariants.{Store};
 
@@ -37,7 +37,7 @@ pub(crate) fn push_changed<A: Allocator + Clone, R: Drop, K: Drop>(
     requires empty { actions.old.items ≡ [] }
     requires room { vec_len actions.old + 1 ≤ vec_capacity actions.old }
     ensures row { Then state.new actions.new.items
-        ≡ unless_fault state.old (λ done. tells state.old reply) changed }
+        ≡ unless_fault state.old (λ done. reports state.old reply) changed }
 {
     match changed {
         Err(fault) => push_refusal(state, fault, actions),

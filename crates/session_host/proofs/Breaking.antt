@@ -26,7 +26,7 @@ use Rattle.control_session.specs.declared.fault.ControlFault.{ControlFault}
 use Rattle.control_session.specs.declared.fault.ControlFault.TheVariants.{ReadFault, WriteFault, Memory as NoMemory}
 use Rattle.control_session.specs.declared.turn_fault.TurnFault.{TurnFault}
 use Rattle.control_session.specs.declared.turn_fault.TurnFault.TheVariants.{Write, Memory}
-use Rattle.session_host.proofs.Telling.{appends_more, appends_none, consumes_more, consumes_none}
+use Rattle.session_host.proofs.Reporting.{appends_more, appends_none, consumes_more, consumes_none}
 use Rattle.session_host.specs.Alone.{AloneDoes, Parts}
 use Rattle.session_host.specs.Breaks.{IsBreak, MayBreakReading, MayBreakWriting}
 
@@ -48,10 +48,10 @@ module _ {W : Type 0} (contents : W → Option (List ℕ)) (may_refuse : W → L
   refused_later a b taken first (later, more, text, appended, refuses) =
       (later, taken ++ more, text, appends_more (contents a) (contents b) (contents later) taken more first appended, refuses)
 
-module _ {A S C D R W H Q K : Type 0} (users : Users) (Gives : C → ℕ → C → Type 0) (Asks' : D → SideCall A Q K → D → Type 0) (Told : H → Event → H → Type 0)
+module _ {A S C D R W H Q K : Type 0} (users : Users) (Gives : C → ℕ → C → Type 0) (Asks' : D → SideCall A Q K → D → Type 0) (Reported : H → Event → H → Type 0)
     (remaining : R → Option (List ℕ)) (may_fail : R → Bool) (contents : W → Option (List ℕ)) (may_refuse : W → List ℕ → Type 0) where
   abbrev Does : Parts S C D R W H → HostCall A S Q K → Parts S C D R W H → Type 0
-  Does = AloneDoes users Gives Asks' Told remaining may_fail contents may_refuse
+  Does = AloneDoes users Gives Asks' Reported remaining may_fail contents may_refuse
 
   only : (old new : Parts S C D R W H) (calls : List (HostCall A S Q K)) (call : HostCall A S Q K) → calls ≡ call ∷ [] → Chain Does old calls new → Does old call new
   only old new calls call is chain =
@@ -119,7 +119,7 @@ module _ {A S C D R W H Q K : Type 0} (users : Users) (Gives : C → ℕ → C �
   carried_beside (Say reply) None after calls old new said chain = said_beside (reply_text (answer_form reply)) None after calls old new said chain
   carried_beside (Say reply) (Some fault) after calls old new (none, same) chain = none_beside (Some fault) after calls old new none same chain
   carried_beside (Hook hook) before after calls old new (is, same) chain =
-      let (told, rest) = only old new calls (Noted (event_of hook)) is chain in
+      let (reported, rest) = only old new calls (Noted (event_of hook)) is chain in
       (beside_as old new _ rest refl refl, kept old before after same)
   carried_beside OpenPassive before after calls old new (is, same) chain = asked_beside Opens before after calls old new is same chain
   carried_beside (ConnectTo to) before after calls old new (is, same) chain = asked_beside (Connects to) before after calls old new is same chain
@@ -215,9 +215,9 @@ module _ {A S C D R W H Q K : Type 0} (users : Users) (Gives : C → ℕ → C �
         let (host, one, two) = chain_split Does mid new (release_calls turn.paid) turn.carried more in
         let lent = beside_as old mid _ did.rest refl refl in
         let freed = beside_then old mid host lent (released_beside turn.paid mid host one) in
-        let (told, lost) = carries_beside turn.actions before.lost after.lost turn.carried host new turn.carries two in
+        let (reported, lost) = carries_beside turn.actions before.lost after.lost turn.carried host new turn.carries two in
         let (asked, heard) = behind_as turn.given before.heard in
-        beside_stands first old new before after asked (beside_then old host new freed told) (turn.heard ∙ heard)
+        beside_stands first old new before after asked (beside_then old host new freed reported) (turn.heard ∙ heard)
         (lost_then old host before.lost before.lost after.lost freed (kept old before.lost before.lost refl) lost) stands
     move_stands before after calls old new (Tries given moment lent store store' promises came taken next row same trace) chain stands =
         let did = only old new calls (Tried before.session moment lent store store' promises) trace chain in

@@ -25,10 +25,10 @@ module _ {F S C D R W H : Type 0} where
     hooks = second.hooks ∙ first.hooks;
   }
 
-module _ {A S C D R W H Q K : Type 0} (users : Users) (Gives : C → ℕ → C → Type 0) (Asks : D → SideCall A Q K → D → Type 0) (Told : H → Event → H → Type 0)
+module _ {A S C D R W H Q K : Type 0} (users : Users) (Gives : C → ℕ → C → Type 0) (Asks : D → SideCall A Q K → D → Type 0) (Reported : H → Event → H → Type 0)
     (remaining : R → Option (List ℕ)) (may_fail : R → Bool) (contents : W → Option (List ℕ)) (may_refuse : W → List ℕ → Type 0) where
   -- the floors change by what is lent and by releases
-  pub alone_floors : (old new : Parts S C D R W H) (call : HostCall A S Q K) → AloneDoes users Gives Asks Told remaining may_fail contents may_refuse old call new
+  pub alone_floors : (old new : Parts S C D R W H) (call : HostCall A S Q K) → AloneDoes users Gives Asks Reported remaining may_fail contents may_refuse old call new
       → FloorsBy (λ (host : Parts S C D R W H). host.promises) old call new
   alone_floors old new (Lent session moment lent store store' promises promises') did = (did.promises_lent, ap (λ (host : Parts S C D R W H). host.promises) did.rest)
   alone_floors old new (Tried session moment lent store store' promises) did = ap (λ (host : Parts S C D R W H). host.promises) did.rest ∙ did.promises_lent
@@ -41,28 +41,28 @@ module _ {A S C D R W H Q K : Type 0} (users : Users) (Gives : C → ℕ → C �
   alone_floors old new ReadFailed did = ap (λ (host : Parts S C D R W H). host.promises) did.0.rest
   alone_floors old new (Asked call) did = ap (λ (host : Parts S C D R W H). host.promises) did.1
 
-module _ {A S C D R W H Q K F : Type 0} (Gives : C → ℕ → C → Type 0) (Asks : D → SideCall A Q K → D → Type 0) (Told : H → Event → H → Type 0)
+module _ {A S C D R W H Q K F : Type 0} (Gives : C → ℕ → C → Type 0) (Asks : D → SideCall A Q K → D → Type 0) (Reported : H → Event → H → Type 0)
     (remaining : R → Option (List ℕ)) (may_fail : R → Bool) (contents : W → Option (List ℕ)) (may_refuse : W → List ℕ → Type 0) where
   -- the users that a host lends are those that it has, from call to call
-  pub sole_seen : (users : Users) (old new : SoleHost S F C D R W H) (call : HostCall A S Q K) → old.users.now.users ≡ users → SoleDoes Gives Asks Told remaining may_fail contents may_refuse old call new
-      → AloneDoes users Gives Asks Told remaining may_fail contents may_refuse (parts old) call (parts new) × (new.users.now.users ≡ users)
+  pub sole_seen : (users : Users) (old new : SoleHost S F C D R W H) (call : HostCall A S Q K) → old.users.now.users ≡ users → SoleDoes Gives Asks Reported remaining may_fail contents may_refuse old call new
+      → AloneDoes users Gives Asks Reported remaining may_fail contents may_refuse (parts old) call (parts new) × (new.users.now.users ≡ users)
   sole_seen users old new call has did = (
-    subst (λ (u : Users). AloneDoes u Gives Asks Told remaining may_fail contents may_refuse (parts old) call (parts new)) has did.1,
+    subst (λ (u : Users). AloneDoes u Gives Asks Reported remaining may_fail contents may_refuse (parts old) call (parts new)) has did.1,
     ap (λ x. x.now.users) did.0.users ∙ has,
   )
 
-  pub sole_lent : (old new : SoleHost S F C D R W H) (call : HostCall A S Q K) → SoleDoes Gives Asks Told remaining may_fail contents may_refuse old call new → SameLent old new
+  pub sole_lent : (old new : SoleHost S F C D R W H) (call : HostCall A S Q K) → SoleDoes Gives Asks Reported remaining may_fail contents may_refuse old call new → SameLent old new
   sole_lent old new call did = did.0
 
-  pub sole_floors : (old new : SoleHost S F C D R W H) (call : HostCall A S Q K) → SoleDoes Gives Asks Told remaining may_fail contents may_refuse old call new
+  pub sole_floors : (old new : SoleHost S F C D R W H) (call : HostCall A S Q K) → SoleDoes Gives Asks Reported remaining may_fail contents may_refuse old call new
       → FloorsBy (λ (host : SoleHost S F C D R W H). host.floors.now) old call new
-  sole_floors old new (Lent session moment lent store store' promises promises') did = alone_floors old.users.now.users Gives Asks Told remaining may_fail contents may_refuse (parts old) (parts new) (Lent session moment lent store store' promises promises') did.1
-  sole_floors old new (Tried session moment lent store store' promises) did = alone_floors old.users.now.users Gives Asks Told remaining may_fail contents may_refuse (parts old) (parts new) (Tried session moment lent store store' promises) did.1
-  sole_floors old new (Released user) did = alone_floors old.users.now.users Gives Asks Told remaining may_fail contents may_refuse (parts old) (parts new) (Released user) did.1
-  sole_floors old new (Noted event) did = alone_floors old.users.now.users Gives Asks Told remaining may_fail contents may_refuse (parts old) (parts new) (Noted event) did.1
-  sole_floors old new (Wrote text) did = alone_floors old.users.now.users Gives Asks Told remaining may_fail contents may_refuse (parts old) (parts new) (Wrote text) did.1
-  sole_floors old new (Broke text) did = alone_floors old.users.now.users Gives Asks Told remaining may_fail contents may_refuse (parts old) (parts new) (Broke text) did.1
-  sole_floors old new (Read octets) did = alone_floors old.users.now.users Gives Asks Told remaining may_fail contents may_refuse (parts old) (parts new) (Read octets) did.1
-  sole_floors old new ReadEnd did = alone_floors old.users.now.users Gives Asks Told remaining may_fail contents may_refuse (parts old) (parts new) ReadEnd did.1
-  sole_floors old new ReadFailed did = alone_floors old.users.now.users Gives Asks Told remaining may_fail contents may_refuse (parts old) (parts new) ReadFailed did.1
-  sole_floors old new (Asked call) did = alone_floors old.users.now.users Gives Asks Told remaining may_fail contents may_refuse (parts old) (parts new) (Asked call) did.1
+  sole_floors old new (Lent session moment lent store store' promises promises') did = alone_floors old.users.now.users Gives Asks Reported remaining may_fail contents may_refuse (parts old) (parts new) (Lent session moment lent store store' promises promises') did.1
+  sole_floors old new (Tried session moment lent store store' promises) did = alone_floors old.users.now.users Gives Asks Reported remaining may_fail contents may_refuse (parts old) (parts new) (Tried session moment lent store store' promises) did.1
+  sole_floors old new (Released user) did = alone_floors old.users.now.users Gives Asks Reported remaining may_fail contents may_refuse (parts old) (parts new) (Released user) did.1
+  sole_floors old new (Noted event) did = alone_floors old.users.now.users Gives Asks Reported remaining may_fail contents may_refuse (parts old) (parts new) (Noted event) did.1
+  sole_floors old new (Wrote text) did = alone_floors old.users.now.users Gives Asks Reported remaining may_fail contents may_refuse (parts old) (parts new) (Wrote text) did.1
+  sole_floors old new (Broke text) did = alone_floors old.users.now.users Gives Asks Reported remaining may_fail contents may_refuse (parts old) (parts new) (Broke text) did.1
+  sole_floors old new (Read octets) did = alone_floors old.users.now.users Gives Asks Reported remaining may_fail contents may_refuse (parts old) (parts new) (Read octets) did.1
+  sole_floors old new ReadEnd did = alone_floors old.users.now.users Gives Asks Reported remaining may_fail contents may_refuse (parts old) (parts new) ReadEnd did.1
+  sole_floors old new ReadFailed did = alone_floors old.users.now.users Gives Asks Reported remaining may_fail contents may_refuse (parts old) (parts new) ReadFailed did.1
+  sole_floors old new (Asked call) did = alone_floors old.users.now.users Gives Asks Reported remaining may_fail contents may_refuse (parts old) (parts new) (Asked call) did.1

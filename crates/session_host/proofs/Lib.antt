@@ -1,4 +1,4 @@
 pub mod Lending
 pub mod Seeing
-pub mod Telling
+pub mod Reporting
 pub mod Breaking

@@ -52,7 +52,7 @@ module _ {S F C D R W H : Type 0} where
 -- the effect of a call on the handler; the octets left to read, and those written, are known or
 -- not.
 module _ {A S C D R W H Q K : Type 0} (users : Users) (Gives : C → ℕ → C → Type 0)
-    (Asks : D → SideCall A Q K → D → Type 0) (Told : H → Event → H → Type 0)
+    (Asks : D → SideCall A Q K → D → Type 0) (Reported : H → Event → H → Type 0)
     (remaining : R → Option (List ℕ)) (may_fail : R → Bool) (contents : W → Option (List ℕ))
     (may_refuse : W → List ℕ → Type 0) where
   -- the users of the host, store and floors are lent at a moment of the clock; all other parts are
@@ -80,7 +80,7 @@ module _ {A S C D R W H Q K : Type 0} (users : Users) (Gives : C → ℕ → C �
   AloneDoes old (Released user) new =
       new ≡ record old { promises = after_release old.promises user }
   AloneDoes old (Noted event) new =
-      Told old.hooks event new.hooks × (new ≡ record old { hooks = new.hooks })
+      Reported old.hooks event new.hooks × (new ≡ record old { hooks = new.hooks })
   AloneDoes old (Wrote text) new =
       Appends (contents old.writer) (contents new.writer) text
       × (new ≡ record old { writer = new.writer })
@@ -94,7 +94,7 @@ module _ {A S C D R W H Q K : Type 0} (users : Users) (Gives : C → ℕ → C �
       Asks old.side call new.side × (new ≡ record old { side = new.side })
 
 module _ {A S C D R W H Q K : Type 0} (Gives : C → ℕ → C → Type 0)
-    (Asks : D → SideCall A Q K → D → Type 0) (Told : H → Event → H → Type 0)
+    (Asks : D → SideCall A Q K → D → Type 0) (Reported : H → Event → H → Type 0)
     (remaining : R → Option (List ℕ)) (may_fail : R → Bool) (contents : W → Option (List ℕ))
     (may_refuse : W → List ℕ → Type 0) where
   -- the host that borrows them
@@ -102,5 +102,5 @@ module _ {A S C D R W H Q K : Type 0} (Gives : C → ℕ → C → Type 0)
       → SoleHost S F C D R W H → Type 0
   SoleDoes old call new =
       SameLent old new
-      × AloneDoes old.users.now.users Gives Asks Told remaining may_fail contents may_refuse
+      × AloneDoes old.users.now.users Gives Asks Reported remaining may_fail contents may_refuse
       (parts old) call (parts new)

@@ -1,6 +1,6 @@
 pub mod Alone
 pub mod Silent
-pub mod Told
+pub mod Reported
 pub use Rattle.control_session.specs.Calls
 pub use Rattle.control_session.specs.Floors
 pub use Rattle.control_session.specs.Logins

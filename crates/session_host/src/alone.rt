@@ -8,7 +8,7 @@ ghost use Rattle.control_session.specs.Sessions.{IsServed, new_session};
 ghost use Rattle.rate_floors.specs.Promises.{Promises};
 ghost use Rattle.session_host.specs.Breaks.{IsBreak, MayBreakReading, MayBreakWriting};
 ghost use Rattle.session_host.specs.Alone.{AloneDoes, SameLent, parts};
-ghost use Rattle.session_host.specs.Told.{IsTold};
+ghost use Rattle.session_host.specs.Reported.{IsReported};
 
 use crate::given::GivesSettings;
 use crate::host::SoleHost;
@@ -62,11 +62,11 @@ pub fn run_alone<
     turns: u32,
 ) -> Result<(), ControlFault>
     ensures whole { IsServed (IsRow S.Step)
-        (AloneDoes host.old.users.now.users C.Gives D.Asks H.Told R.remaining R.may_fail W.contents
+        (AloneDoes host.old.users.now.users C.Gives D.Asks H.Reported R.remaining R.may_fail W.contents
         W.may_refuse)
         turns result (new_session (T.given settings) peer) (parts host.old) (parts host.new) }
-    ensures told { IsTold (IsRow S.Step host.old.users.now.users)
-        C.Gives D.Asks H.Told R.remaining W.contents
+    ensures reported { IsReported (IsRow S.Step host.old.users.now.users)
+        C.Gives D.Asks H.Reported R.remaining W.contents
         result (new_session (T.given settings) peer) (parts host.old) (parts host.new) }
     ensures breaks { IfErr result (IsBreak
         (MayBreakReading turns (R.may_fail host.old.reader.now) (R.remaining host.old.reader.now))

@@ -7,7 +7,7 @@ use control_session::{
     DataEvent, DataSide, Host, Leaving, Moments, Piece, Session, close_by, end_by, step_by,
 };
 use ftp_wire::HostPort;
-use handler_hooks::{Hooks, tell};
+use handler_hooks::{Hooks, report};
 use rate_floors::Floors;
 use session_table::{Action, HookCall, Input, Job, Text};
 use std::alloc::{Allocator, Global};
@@ -70,7 +70,7 @@ impl<
 
     ghost Step = { S.Step };
 
-    ghost Does = { SoleDoes C.Gives D.Asks H.Told R.remaining R.may_fail W.contents W.may_refuse };
+    ghost Does = { SoleDoes C.Gives D.Asks H.Reported R.remaining R.may_fail W.contents W.may_refuse };
 
     fn step(
         &mut self,
@@ -105,7 +105,7 @@ impl<
     }
 
     fn note(&mut self, call: &HookCall<Global>) {
-        tell(self.hooks, call);
+        report(self.hooks, call);
     }
 
     fn write(&mut self, reply: &[u8]) -> io::Result<()> {

@@ -9,7 +9,7 @@ pub struct Silent;
 impl Hooks for Silent {
     ghost use Rattle.session_host.specs.Silent.{StaysSilent};
 
-    ghost Told = { StaysSilent };
+    ghost Reported = { StaysSilent };
 
     fn on_connect(&mut self) {}
 

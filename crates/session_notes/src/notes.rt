@@ -74,7 +74,7 @@ impl<L: Log + Clock, T: TransferLog> Notes<L, T> {
 impl<L: Log + Clock + Drop, T: TransferLog + Drop> Hooks for Notes<L, T> {
     ghost use Rattle.std.specs.Prelude.{⊤};
 
-    ghost Told = { λ _ _ _. ⊤ };
+    ghost Reported = { λ _ _ _. ⊤ };
 
     fn on_connect(&mut self) {
         self.note(Noted::Connect, None);

@@ -4,7 +4,7 @@
 ghost use Rattle.memory_store.specs.InMemory.{InMemory};
 ghost use Rattle.session_shortage_tests.specs.Unsaid.{AnyCall};
 
-use crate::told::{Sink, Source};
+use crate::reported::{Sink, Source};
 use authorizer::Authorizer;
 use control_session::{
     DataEvent, DataSide, Host, Leaving, Piece, Session, close_by, end_by, step_by,

@@ -9,6 +9,8 @@ mod host;
 #[cfg(test)]
 mod reader;
 #[cfg(test)]
+mod reported;
+#[cfg(test)]
 mod room;
 #[cfg(test)]
 mod rows;
@@ -20,5 +22,3 @@ mod shortages;
 mod steps;
 #[cfg(test)]
 mod talks;
-#[cfg(test)]
-mod told;

@@ -1,7 +1,7 @@
 //! A session step by step, on a server in a heap of its own.
 
+use crate::reported::{Doings, Sink, put_doing};
 use crate::server::{PEER, Server, make_server, settings};
-use crate::told::{Doings, Sink, put_doing};
 use ftp_wire::LineReader;
 use linked_list_allocator::LocalHeap;
 use session_core::Session;
@@ -42,7 +42,7 @@ fn read_line<'h>(
 }
 
 /// Returns the words of the actions; a sink is kept.
-fn told<'h>(
+fn reported<'h>(
     rt: &(impl Abort + AllocGlobal),
     kept: &mut Option<Sink<'h>>,
     actions: Doings<'h>,
@@ -118,7 +118,7 @@ impl<'h> Room<'h> {
         let answer = self.step(heap, input);
         drop(rest);
         match answer {
-            Ok(actions) => told(rt, &mut self.sink, actions),
+            Ok(actions) => reported(rt, &mut self.sink, actions),
             Err(_) => Vec::from_slice(rt.alloc(), NO_MEMORY.as_bytes()).expect(rt, "memory"),
         }
     }

@@ -30,10 +30,10 @@ fn was_refused<'h>(
     rt: &(impl Abort + AllocGlobal),
     heap: &'h LocalHeap,
     room: &mut Room<'h>,
-    told: &[u8],
+    reported: &[u8],
     rows: &[Row<'_>],
 ) -> bool {
-    if REFUSALS.iter().any(|it| it.as_bytes() == told) {
+    if REFUSALS.iter().any(|it| it.as_bytes() == reported) {
         follow(rt, heap, room, rows);
         return true;
     }
@@ -41,10 +41,10 @@ fn was_refused<'h>(
         return false;
     };
     follow(rt, heap, room, others);
-    if told == LOST.as_bytes() {
+    if reported == LOST.as_bytes() {
         return true;
     }
-    same(rt, told, reply);
+    same(rt, reported, reply);
     false
 }
 
@@ -62,8 +62,8 @@ fn try_row<'h>(
     let Some((line, _)) = others.first() else {
         return false;
     };
-    let told = room.give(rt, heap, line, Some(hole));
-    was_refused(rt, heap, room, &told, others)
+    let reported = room.give(rt, heap, line, Some(hole));
+    was_refused(rt, heap, room, &reported, others)
 }
 
 /// The same in a room of its own.

@@ -26,7 +26,7 @@ pub(crate) struct Talk<'a> {
 
 /// The output of a session, its result, and the server after it.
 #[derive(Drop)]
-struct Told<'h> {
+struct Reported<'h> {
     output: Vec<u8>,
     ended: Result<(), ControlFault>,
     server: Server<'h>,
@@ -61,7 +61,7 @@ fn serve<'h, R: TextReader + Drop>(
     server: Server<'h>,
     reader: R,
     output: Vec<u8>,
-) -> Told<'h> {
+) -> Reported<'h> {
     let Server {
         users,
         store,
@@ -93,7 +93,7 @@ fn serve<'h, R: TextReader + Drop>(
         store,
         floors,
     };
-    Told {
+    Reported {
         output,
         ended,
         server,
@@ -108,7 +108,7 @@ fn serve_rows<'h>(
     rows: &'h [Reply<'h>],
     scarce: usize,
     hole: usize,
-) -> Told<'h> {
+) -> Reported<'h> {
     let output = Vec::new(rt.alloc());
     let taken = if scarce == 0 {
         leave_hole(rt, heap, hole).expect(rt, "a hole")
@@ -137,7 +137,7 @@ fn behind<'o>(output: &'o [u8], rows: &[Reply<'_>]) -> Option<&'o [u8]> {
 }
 
 /// Returns whether an output is the replies to some rows.
-fn is_told(output: &[u8], rows: &[Reply<'_>]) -> bool {
+fn is_reported(output: &[u8], rows: &[Reply<'_>]) -> bool {
     behind(output, rows) == Some(b"".as_slice())
 }
 
@@ -161,21 +161,21 @@ const END: Reply<'static> = ("", "", "");
 
 /// Returns whether a session was refused memory at a row: it broke off there with a part of the row's replies, or its
 /// reply reports the refusal.
-fn was_refused(rt: &impl Abort, told: &Told<'_>, rows: &[Reply<'_>], index: usize) -> bool {
+fn was_refused(rt: &impl Abort, reported: &Reported<'_>, rows: &[Reply<'_>], index: usize) -> bool {
     let (before, others) = rows.split_at(index.min(rows.len()));
-    let Some(rest) = behind(&told.output, before) else {
+    let Some(rest) = behind(&reported.output, before) else {
         panic!(rt; "the rows before");
     };
     let (_, reply, then) = others.first().unwrap_or(&END);
-    if told.ended.is_err() {
-        holds(rt, told.ended == Err(ControlFault::Memory), "memory");
+    if reported.ended.is_err() {
+        holds(rt, reported.ended == Err(ControlFault::Memory), "memory");
         holds(rt, reply.as_bytes().starts_with(rest), "no row behind");
         return true;
     }
     if is_refusal(rest, then) {
         return true;
     }
-    holds(rt, is_told(rest, others), "all replies");
+    holds(rt, is_reported(rest, others), "all replies");
     false
 }
 
@@ -187,11 +187,15 @@ fn serve_later<'h>(
     talk: Talk<'h>,
     is_unchanged: bool,
 ) {
-    let told = serve_rows(rt, heap, server, talk.rows, usize::MAX, 0);
-    let Told { output, ended, .. } = told;
+    let reported = serve_rows(rt, heap, server, talk.rows, usize::MAX, 0);
+    let Reported { output, ended, .. } = reported;
     holds(rt, ended.is_ok(), "a later session");
     let is_again = !is_unchanged && output.as_slice() == talk.again.as_bytes();
-    holds(rt, is_again || is_told(&output, talk.rows), "what stands");
+    holds(
+        rt,
+        is_again || is_reported(&output, talk.rows),
+        "what stands",
+    );
 }
 
 /// Returns whether a session with one hole of `hole` octets at a row is refused. Checks that a session after it, with
@@ -204,10 +208,10 @@ fn try_row<'h>(
     index: usize,
     hole: usize,
 ) -> bool {
-    let told = serve_rows(rt, heap, server, talk.rows, index, hole);
-    let is_unchanged = told.ended.is_err() && index < talk.change;
-    let is_refused = was_refused(rt, &told, talk.rows, index);
-    serve_later(rt, heap, told.server, talk, is_unchanged);
+    let reported = serve_rows(rt, heap, server, talk.rows, index, hole);
+    let is_unchanged = reported.ended.is_err() && index < talk.change;
+    let is_refused = was_refused(rt, &reported, talk.rows, index);
+    serve_later(rt, heap, reported.server, talk, is_unchanged);
     is_refused
 }
 

@@ -12,9 +12,9 @@ mod answers;
 mod changes;
 mod leaving;
 mod location;
+mod reported;
 mod room;
 mod state;
-mod told;
 
 pub use answers::{copied, made, path_answer};
 pub use leaving::{Farewell, push_abort, push_farewell, push_logout};

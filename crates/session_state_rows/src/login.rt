@@ -121,7 +121,7 @@ fn lose_attempt<A: Allocator + Clone, R: Drop, K: Drop>(
     state: &mut State<A>,
     actions: &mut Vec<Action<A, R, K>, A>,
 )
-    requires told { actions.old.items ≡ Hook (LoginFailed state.old.name) ∷ [] }
+    requires reported { actions.old.items ≡ Hook (LoginFailed state.old.name) ∷ [] }
     requires room { vec_len actions.old + 2 ≤ vec_capacity actions.old }
     ensures row { Then state.new actions.new.items ≡ turned_away state.old }
 {

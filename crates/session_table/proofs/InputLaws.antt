@@ -34,7 +34,7 @@ use Rattle.session_table.specs.declared.stages.Work.TheVariants.{Idle}
 use Rattle.session_table.specs.Plans.{Plan}
 use Rattle.session_table.specs.Plans.Plan.{Then}
 use Rattle.session_table.specs.Steps.{in_its_turn, is_pass, is_pass_turn}
-use Rattle.session_table.specs.Table.{Taken, aborts, and_quits, beside, closed_row, end_hook, end_reply, end_row, end_told, ended_by, ended_row, ended_with, held_row, holds, idle, in_turn, meanwhile, most_held, ready_as, ready_by, ready_row, served, table}
+use Rattle.session_table.specs.Table.{Taken, aborts, and_quits, beside, closed_row, end_hook, end_reply, end_row, end_reported, ended_by, ended_row, ended_with, held_row, holds, idle, in_turn, meanwhile, most_held, ready_as, ready_by, ready_row, served, table}
 use Rattle.session_table.specs.Calls.{Call}
 use Rattle.session_table.specs.Views.{View, awaited, awaits_ports, counts_lines, is_aborted, is_busy, is_closed, is_inside, running, runs, serves_lines}
 use Rattle.virtual_path.specs.Path.{Path}
@@ -125,7 +125,7 @@ module _ (A R K : Type 0) where
 
     end_fine : (errand : Errand Path) (aborted : Bool) (end : End) (finished : Result (Unit {0}) StoreFault) → Always C U E [] (end_row users view errand aborted end finished)
     end_fine errand aborted end finished = always_cond C U E (is_closed view.stage) _ _ (stays A R K view _ 0 [] none refl)
-        (quits Idle view.prepared _ view.control (quiet_then A R K (end_reply view.control aborted (end_told end finished)) (end_hook errand end) (replying view.control aborted _) (hooking errand end)))
+        (quits Idle view.prepared _ view.control (quiet_then A R K (end_reply view.control aborted (end_reported end finished)) (end_hook errand end) (replying view.control aborted _) (hooking errand end)))
 
   abbrev over : End → Option K → Input A K
   over end sink = input.TransferEnded end sink
@@ -175,7 +175,7 @@ module _ (A R K : Type 0) where
     meanwhile_fine U held item = holds_fine (CallFor A R K users view moment item) U held item
 
     abbrev Rightful : List Item → Input A K → Call K → Type 0
-    Rightful held told = IsRightful users view held moment told
+    Rightful held reported = IsRightful users view held moment reported
 
     -- what is said of a line that is served holds of the input that it came with
     comes : (U V : ℕ → Type 0) (held : List Item) (item : LineItem A) (plan : Plan A R K) → ((number : ℕ) → U number → V number)
@@ -183,12 +183,12 @@ module _ (A R K : Type 0) where
     comes U V held item plan user = always_to (CallFor A R K users view moment (item_of item)) (Rightful held (input.Line item)) U V Ends Ends (λ call allowed. inr allowed) user (λ admitted after actions end. end) [] plan
 
     abbrev Admission : List Item → Input A K → ℕ → Type 0
-    Admission held told = IsRightfulAdmission users view held told
+    Admission held reported = IsRightfulAdmission users view held reported
 
     -- a user who may be admitted by the line whose turn it is
-    admission : (held : List Item) (told : Input A K) (item : Item) → serves_lines view ≡ true → in_its_turn told held ≡ Some item
-        → (number : ℕ) → UserFor A R K users view item number → Admission held told number
-    admission held told item serves turn number (text, is, named, right, whose) = record {
+    admission : (held : List Item) (reported : Input A K) (item : Item) → serves_lines view ≡ true → in_its_turn reported held ≡ Some item
+        → (number : ℕ) → UserFor A R K users view item number → Admission held reported number
+    admission held reported item serves turn number (text, is, named, right, whose) = record {
       text = text;
       serves = serves;
       turn = turn ∙ ap Some is;
@@ -220,15 +220,15 @@ module _ (A R K : Type 0) where
 
   module _ (users : Users) (view : View) (held : List Item) (moment : ℕ) where
     abbrev pub EndAt : Input A K → List ℕ → View → List (Action A R K) → Type 0
-    EndAt told = Fine A R K view (most_asked told)
+    EndAt reported = Fine A R K view (most_asked reported)
 
     abbrev pub CallAt : Input A K → Call K → Type 0
-    CallAt told = IsRightful users view held moment told
+    CallAt reported = IsRightful users view held moment reported
 
     abbrev pub UserAt : Input A K → ℕ → Type 0
-    UserAt told = IsRightfulAdmission users view held told
+    UserAt reported = IsRightfulAdmission users view held reported
 
-    pub input_fine : (told : Input A K) → Always (CallAt told) (UserAt told) (EndAt told) [] (table {A = A} {R = R} {K = K} users view held moment told).plan
+    pub input_fine : (reported : Input A K) → Always (CallAt reported) (UserAt reported) (EndAt reported) [] (table {A = A} {R = R} {K = K} users view held moment reported).plan
     input_fine (input.Line item) = line_fine users view moment item held (counts_lines view) (is_busy view.work) refl
     input_fine input.Held = held_fine users view moment held (serves_lines view) refl
     input_fine (input.TransferEnded end sink) = ended_fine (UserAt (input.TransferEnded end sink)) users view held moment end sink
@@ -255,10 +255,10 @@ row_inside users view (row.Login what) call is = absurd is
 row_inside users view (row.State what) call is = absurd is
 row_inside users view (row.At place) call is = allowed_inside users view place.letter place.text call is
 
-pub outside : {A K : Type 0} (users : Users) (view : View) (held : List Item) (moment : ℕ) (told : Input A K) (call : Call K)
-    → is_inside view.stage ≡ false → IsRightful users view held moment told call → IsReturned told moment call
-outside users view held moment told call not (inl returned) = returned
-outside users view held moment told call not (inr allowed) = absurd (false≢true (sym not ∙ row_inside users view _ call allowed.2))
+pub outside : {A K : Type 0} (users : Users) (view : View) (held : List Item) (moment : ℕ) (reported : Input A K) (call : Call K)
+    → is_inside view.stage ≡ false → IsRightful users view held moment reported call → IsReturned reported moment call
+outside users view held moment reported call not (inl returned) = returned
+outside users view held moment reported call not (inr allowed) = absurd (false≢true (sym not ∙ row_inside users view _ call allowed.2))
 
 -- ---- held lines
 
@@ -295,7 +295,7 @@ module _ (A R K : Type 0) where
     few_held [] few = few
     few_held (first ∷ others) few = omega (arith, few)
 
-    pub few_table : (held : List Item) (told : Input A K) → Few held → Few (table {A = A} {R = R} {K = K} users view held moment told).held
+    pub few_table : (held : List Item) (reported : Input A K) → Few held → Few (table {A = A} {R = R} {K = K} users view held moment reported).held
     few_table held (input.Line item) few =
         few_cond (counts_lines view) _ _ (few_cond (is_busy view.work) _ _ (few_meanwhile held (item_of item) few) (few_in_turn held (item_of item) few)) few
     few_table held input.Held few = few_cond (serves_lines view) _ _ (few_held held few) few
@@ -305,51 +305,51 @@ module _ (A R K : Type 0) where
 
 -- ---- the laws
 
-module _ (A R K : Type 0) (users : Users) (view : View) (held : List Item) (moment : ℕ) (told : Input A K) where
+module _ (A R K : Type 0) (users : Users) (view : View) (held : List Item) (moment : ℕ) (reported : Input A K) where
   -- what is weaker than what is said of each input
   weaker : (D : Call K → Type 0) (V : ℕ → Type 0) (F : List ℕ → View → List (Action A R K) → Type 0)
-      → ((call : Call K) → CallAt A R K users view held moment told call → D call) → ((number : ℕ) → UserAt A R K users view held moment told number → V number)
-      → ((admitted : List ℕ) (after : View) (actions : List (Action A R K)) → EndAt A R K users view held moment told admitted after actions → F admitted after actions)
-      → Always D V F [] (table {A = A} {R = R} {K = K} users view held moment told).plan
+      → ((call : Call K) → CallAt A R K users view held moment reported call → D call) → ((number : ℕ) → UserAt A R K users view held moment reported number → V number)
+      → ((admitted : List ℕ) (after : View) (actions : List (Action A R K)) → EndAt A R K users view held moment reported admitted after actions → F admitted after actions)
+      → Always D V F [] (table {A = A} {R = R} {K = K} users view held moment reported).plan
   weaker D V F call user end =
-      always_to (CallAt A R K users view held moment told) D (UserAt A R K users view held moment told) V (EndAt A R K users view held moment told) F call user end [] _ (input_fine A R K users view held moment told)
+      always_to (CallAt A R K users view held moment reported) D (UserAt A R K users view held moment reported) V (EndAt A R K users view held moment reported) F call user end [] _ (input_fine A R K users view held moment reported)
 
 pub calls_are_rightful : (A R K : Type 0) → CallsAreRightful A R K
 unfolding CallsAreRightful
-calls_are_rightful A R K = λ users view held moment told.
-    weaker A R K users view held moment told (CallAt A R K users view held moment told) (λ number. Unit {0}) (λ admitted after actions. Unit {0}) (λ call allowed. allowed) (λ number user. tt) (λ admitted after actions end. tt)
+calls_are_rightful A R K = λ users view held moment reported.
+    weaker A R K users view held moment reported (CallAt A R K users view held moment reported) (λ number. Unit {0}) (λ admitted after actions. Unit {0}) (λ call allowed. allowed) (λ number user. tt) (λ admitted after actions end. tt)
 
 pub no_calls_outside : (A R K : Type 0) → NoCallsOutside A R K
 unfolding NoCallsOutside
-no_calls_outside A R K = λ users view held moment told not.
-    weaker A R K users view held moment told (IsReturned told moment) (λ number. Unit {0}) (λ admitted after actions. Unit {0}) (λ call allowed. outside users view held moment told call not allowed) (λ number user. tt) (λ admitted after actions end. tt)
+no_calls_outside A R K = λ users view held moment reported not.
+    weaker A R K users view held moment reported (IsReturned reported moment) (λ number. Unit {0}) (λ admitted after actions. Unit {0}) (λ call allowed. outside users view held moment reported call not allowed) (λ number user. tt) (λ admitted after actions end. tt)
 
 pub no_transfer_unprepared : (A R K : Type 0) → NoTransferUnprepared A R K
 unfolding NoTransferUnprepared
-no_transfer_unprepared A R K = λ users view held moment told not.
-    weaker A R K users view held moment told (λ call. Unit {0}) (λ number. Unit {0}) (λ admitted after actions. starting actions ≡ 0) (λ call allowed. tt) (λ number user. tt) (λ admitted after actions end. end.unprepared not)
+no_transfer_unprepared A R K = λ users view held moment reported not.
+    weaker A R K users view held moment reported (λ call. Unit {0}) (λ number. Unit {0}) (λ admitted after actions. starting actions ≡ 0) (λ call allowed. tt) (λ number user. tt) (λ admitted after actions end. end.unprepared not)
 
 pub one_thing_is_asked : (A R K : Type 0) → OneThingIsAsked A R K
 unfolding OneThingIsAsked
-one_thing_is_asked A R K = λ users view held moment told.
-    weaker A R K users view held moment told (λ call. Unit {0}) (λ number. Unit {0}) (λ admitted after actions. asking actions ≤ most_asked told) (λ call allowed. tt) (λ number user. tt) (λ admitted after actions end. end.asks)
+one_thing_is_asked A R K = λ users view held moment reported.
+    weaker A R K users view held moment reported (λ call. Unit {0}) (λ number. Unit {0}) (λ admitted after actions. asking actions ≤ most_asked reported) (λ call allowed. tt) (λ number user. tt) (λ admitted after actions end. end.asks)
 
 pub floors_are_released_once : (A R K : Type 0) → FloorsAreReleasedOnce A R K
 unfolding FloorsAreReleasedOnce
-floors_are_released_once A R K = λ users view held moment told.
-    weaker A R K users view held moment told (λ call. Unit {0}) (λ number. Unit {0}) (λ admitted after actions. Releases admitted (logged_in view) (releases actions) (logged_in after)) (λ call allowed. tt) (λ number user. tt) (λ admitted after actions end. end.floors)
+floors_are_released_once A R K = λ users view held moment reported.
+    weaker A R K users view held moment reported (λ call. Unit {0}) (λ number. Unit {0}) (λ admitted after actions. Releases admitted (logged_in view) (releases actions) (logged_in after)) (λ call allowed. tt) (λ number user. tt) (λ admitted after actions end. end.floors)
 
 pub admissions_are_rightful : (A R K : Type 0) → AdmissionsAreRightful A R K
 unfolding AdmissionsAreRightful
-admissions_are_rightful A R K = λ users view held moment told.
-    weaker A R K users view held moment told (λ call. Unit {0}) (UserAt A R K users view held moment told) (λ admitted after actions. Unit {0}) (λ call allowed. tt) (λ number user. user) (λ admitted after actions end. tt)
+admissions_are_rightful A R K = λ users view held moment reported.
+    weaker A R K users view held moment reported (λ call. Unit {0}) (UserAt A R K users view held moment reported) (λ admitted after actions. Unit {0}) (λ call allowed. tt) (λ number user. user) (λ admitted after actions end. tt)
 
 pub others_ask_no_floors : (A R K : Type 0) → OthersAskNoFloors A R K
 unfolding OthersAskNoFloors
-others_ask_no_floors A R K = λ users view held moment told quiet.
-    weaker A R K users view held moment told (λ call. Unit {0}) (λ number. ⊥) (λ admitted after actions. Unit {0}) (λ call allowed. tt) (λ number user. absurd (false≢true (sym quiet ∙ ap is_pass_turn user.turn))) (λ admitted after actions end. tt)
+others_ask_no_floors A R K = λ users view held moment reported quiet.
+    weaker A R K users view held moment reported (λ call. Unit {0}) (λ number. ⊥) (λ admitted after actions. Unit {0}) (λ call allowed. tt) (λ number user. absurd (false≢true (sym quiet ∙ ap is_pass_turn user.turn))) (λ admitted after actions end. tt)
 
 pub few_lines_are_held : (A R K : Type 0) → FewLinesAreHeld A R K
 unfolding FewLinesAreHeld
-few_lines_are_held A R K = λ users view held moment told few.
-    few_table A R K users view moment held told few
+few_lines_are_held A R K = λ users view held moment reported few.
+    few_table A R K users view moment held reported few

@@ -15,8 +15,8 @@ module _ {A R K : Type 0} where
       → ((admitted : List ℕ) (view : View) (actions : List (Action A R K)) → E admitted view actions → F admitted view actions)
       → (admitted : List ℕ) (plan : Plan A R K) → Always C U E admitted plan → Always D V F admitted plan
   always_to C D U V E F call user end admitted (Then view actions) is = end admitted view actions is
-  always_to C D U V E F call user end admitted (WithLine told next) is = λ line. always_to C D U V E F call user end admitted (next line) (is line)
-  always_to C D U V E F call user end admitted (WithLines told next) is = λ lines. always_to C D U V E F call user end admitted (next lines) (is lines)
+  always_to C D U V E F call user end admitted (WithLine reported next) is = λ line. always_to C D U V E F call user end admitted (next line) (is line)
+  always_to C D U V E F call user end admitted (WithLines reported next) is = λ lines. always_to C D U V E F call user end admitted (next lines) (is lines)
   always_to C D U V E F call user end admitted (Ask asked next) is =
       (call asked is.0, λ answer. always_to C D U V E F call user end admitted (next answer) (is.1 answer))
   always_to C D U V E F call user end admitted (AskAdmit number next) is = (
@@ -29,8 +29,8 @@ module _ {A R K : Type 0} where
   pub always_left : (C : Call K → Type 0) (U : ℕ → Type 0) (E : List ℕ → View → List (Action A R K) → Type 0) (change : View → View)
       → (admitted : List ℕ) (plan : Plan A R K) → Always C U (λ users view actions. E users (change view) actions) admitted plan → Always C U E admitted (then_left change plan)
   always_left C U E change admitted (Then view actions) is = is
-  always_left C U E change admitted (WithLine told next) is = λ line. always_left C U E change admitted (next line) (is line)
-  always_left C U E change admitted (WithLines told next) is = λ lines. always_left C U E change admitted (next lines) (is lines)
+  always_left C U E change admitted (WithLine reported next) is = λ line. always_left C U E change admitted (next line) (is line)
+  always_left C U E change admitted (WithLines reported next) is = λ lines. always_left C U E change admitted (next lines) (is lines)
   always_left C U E change admitted (Ask asked next) is = (is.0, λ answer. always_left C U E change admitted (next answer) (is.1 answer))
   always_left C U E change admitted (AskAdmit number next) is = (
     is.0,
@@ -53,7 +53,7 @@ module _ {A R K : Type 0} where
   pub ends_all : (E : List ℕ → View → List (Action A R K) → Type 0) → ((users : List ℕ) (view : View) (actions : List (Action A R K)) → E users view actions)
       → (admitted : List ℕ) (plan : Plan A R K) → Always (λ call. Unit {0}) (λ user. Unit {0}) E admitted plan
   ends_all E all admitted (Then view actions) = all admitted view actions
-  ends_all E all admitted (WithLine told next) = λ line. ends_all E all admitted (next line)
-  ends_all E all admitted (WithLines told next) = λ lines. ends_all E all admitted (next lines)
+  ends_all E all admitted (WithLine reported next) = λ line. ends_all E all admitted (next line)
+  ends_all E all admitted (WithLines reported next) = λ lines. ends_all E all admitted (next lines)
   ends_all E all admitted (Ask asked next) = (tt, λ answer. ends_all E all admitted (next answer))
   ends_all E all admitted (AskAdmit number next) = (tt, ends_all E all (number ∷ admitted) (next true), ends_all E all admitted (next false))

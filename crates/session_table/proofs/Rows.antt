@@ -147,8 +147,8 @@ module _ (A R K : Type 0) where
     pub floors : Releases admitted (logged_in view) (releases actions) (logged_in after)
 
   -- one reply, and whoever is there stays
-  told : (view after : View) (reply : Answer A) → logged_in after ≡ logged_in view → Fine view 1 [] after (action.Say reply ∷ [])
-  told view after reply same = record { unprepared = λ _. refl; asks = omega arith; floors = inl (refl, same) }
+  reported : (view after : View) (reply : Answer A) → logged_in after ≡ logged_in view → Fine view 1 [] after (action.Say reply ∷ [])
+  reported view after reply same = record { unprepared = λ _. refl; asks = omega arith; floors = inl (refl, same) }
 
   -- who leaves, what is told, and what is dropped
   abbrev leaving : View → Bool → Bool → Answer A → List (Action A R K)
@@ -253,33 +253,33 @@ module _ (A R K : Type 0) where
     E = Fine view 1
 
     rest_fine : (offset : ℕ) → Always C U E [] (rest_row view offset)
-    rest_fine offset = always_cond C U E (needs_image view offset) _ _ (told _ _ _ refl) (told _ _ _ refl)
+    rest_fine offset = always_cond C U E (needs_image view offset) _ _ (reported _ _ _ refl) (reported _ _ _ refl)
 
     opts_fine : (wanted : FeatureOption) → Always C U E [] (opts_row view wanted)
-    opts_fine option.Utf8On = told _ _ _ refl
-    opts_fine (option.Mlst facts) = told _ _ _ refl
+    opts_fine option.Utf8On = reported _ _ _ refl
+    opts_fine (option.Mlst facts) = reported _ _ _ refl
 
     connecting : (to : HostPort) → Fine view 1 [] (record view { prepared = true }) (action.Say (answer.Notice notice.Fine) ∷ action.ConnectTo to ∷ [])
     connecting to = record { unprepared = λ _. refl; asks = omega arith; floors = inl (refl, refl) }
 
     port_fine : (to : HostPort) (why : Option Refusal) → Always C U E [] (port_by view to why)
-    port_fine to (Some why) = told _ _ _ refl
+    port_fine to (Some why) = reported _ _ _ refl
     port_fine to None = connecting to
 
     eprt_fine : (to : ExtendedPort) → Always C U E [] (eprt_row view to)
     eprt_fine (port.Ipv4 to) = port_fine to (port_refusal view to)
-    eprt_fine (port.Unsupported protocol) = told _ _ _ refl
+    eprt_fine (port.Unsupported protocol) = reported _ _ _ refl
 
     opens_fine : (passive : Passive) → Always C U E [] (opens view passive)
     opens_fine passive = record { unprepared = λ _. refl; asks = omega arith; floors = inl (refl, refl) }
 
     epsv_fine : (wanted : ExtendedPassive) → Always C U E [] (epsv_row view wanted)
     epsv_fine extended.Same = opens_fine Extended
-    epsv_fine extended.All = told _ _ _ refl
-    epsv_fine (extended.Protocol protocol) = always_cond C U E (protocol == 1) _ _ (opens_fine Extended) (told _ _ _ refl)
+    epsv_fine extended.All = reported _ _ _ refl
+    epsv_fine (extended.Protocol protocol) = always_cond C U E (protocol == 1) _ _ (opens_fine Extended) (reported _ _ _ refl)
 
     abor_fine : Always C U E [] (abor_row view)
-    abor_fine = always_cond C U E (has_transfer view.work) _ _ (record { unprepared = λ _. refl; asks = omega arith; floors = inl (refl, refl) }) (told _ _ _ refl)
+    abor_fine = always_cond C U E (has_transfer view.work) _ _ (record { unprepared = λ _. refl; asks = omega arith; floors = inl (refl, refl) }) (reported _ _ _ refl)
 
     quit_fine : (users : Users) → Always C U E [] (quit_row users view)
     quit_fine users = parting view _ 1 (farewell users view) [] quiet_none refl
@@ -305,15 +305,15 @@ module _ (A R K : Type 0) where
     pass_fine : (users : Users) (password : List ℕ) (at : Stage) → view.stage ≡ at
         → (view.stage ≡ stage.Named → is_password users view.name password ≡ true → U (number_of users view.name))
         → Always C U E [] (pass_by users view password at)
-    pass_fine users password stage.Greeted is asks = told _ _ _ refl
+    pass_fine users password stage.Greeted is asks = reported _ _ _ refl
     pass_fine users password stage.Named is asks = by (is_password users view.name password) refl
       where
         by : (right : Bool) → is_password users view.name password ≡ right
             → Always C U E [] (cond right (AskAdmit (number_of users view.name) (enters users view)) (turned_away view))
         by true right = entering users is (asks is right)
         by false right = away_fine is
-    pass_fine users password stage.Inside is asks = told _ _ _ refl
-    pass_fine users password stage.Closed is asks = told _ _ _ refl
+    pass_fine users password stage.Inside is asks = reported _ _ _ refl
+    pass_fine users password stage.Closed is asks = reported _ _ _ refl
 
   -- ---- rows that ask the store
 
@@ -325,7 +325,7 @@ module _ (A R K : Type 0) where
     Ends = Fine view 1
 
     refused : (why : Refusal) → Always Calls U Ends [] (refuses view why)
-    refused why = told _ _ _ refl
+    refused why = reported _ _ _ refl
 
     -- what a call of the store comes to, by what comes of each answer
     answered : {X : Type 0} (next : X → Plan A R K) → ((x : X) → Always Calls U Ends [] (next x))
@@ -338,33 +338,33 @@ module _ (A R K : Type 0) where
     of_kind p q is also kind.File = also
 
     cwd_fine : Always Calls U Ends [] (cwd_row view location)
-    cwd_fine = (allowed, answered _ (λ meta. of_kind _ _ (told _ _ _ refl) (refused _) meta.kind))
+    cwd_fine = (allowed, answered _ (λ meta. of_kind _ _ (reported _ _ _ refl) (refused _) meta.kind))
 
     mkd_fine : Always Calls U Ends [] (mkd_row view location)
-    mkd_fine = (allowed, answered _ (λ done. told _ _ _ refl))
+    mkd_fine = (allowed, answered _ (λ done. reported _ _ _ refl))
 
     rmd_fine : Always Calls U Ends [] (rmd_row view location)
-    rmd_fine = always_cond Calls U Ends (is_root location.path) _ _ (refused _) ((allowed, answered _ (λ done. told _ _ _ refl)))
+    rmd_fine = always_cond Calls U Ends (is_root location.path) _ _ (refused _) ((allowed, answered _ (λ done. reported _ _ _ refl)))
 
     dele_fine : Always Calls U Ends [] (dele_row view location)
-    dele_fine = (allowed, answered _ (λ done. told _ _ _ refl))
+    dele_fine = (allowed, answered _ (λ done. reported _ _ _ refl))
 
     rnfr_fine : Always Calls U Ends [] (rnfr_row view location)
-    rnfr_fine = always_cond Calls U Ends (is_root location.path) _ _ (refused _) ((allowed, answered _ (λ meta. told _ _ _ refl)))
+    rnfr_fine = always_cond Calls U Ends (is_root location.path) _ _ (refused _) ((allowed, answered _ (λ meta. reported _ _ _ refl)))
 
     rnto_fine : (source : Option Path) → view.source ≡ source → Always Calls U Ends [] (rnto_from view location.stored source)
     rnto_fine None is = refused _
-    rnto_fine (Some source) is = ((is, allowed), answered _ (λ done. told _ _ _ refl))
+    rnto_fine (Some source) is = ((is, allowed), answered _ (λ done. reported _ _ _ refl))
 
     size_fine : Always Calls U Ends [] (size_row view location)
     size_fine = always_cond Calls U Ends (is_ascii view.data_type) _ _ (refused _)
-        ((allowed, answered _ (λ meta. of_kind _ _ (refused _) (told _ _ _ refl) meta.kind)))
+        ((allowed, answered _ (λ meta. of_kind _ _ (refused _) (reported _ _ _ refl) meta.kind)))
 
     mdtm_fine : Always Calls U Ends [] (mdtm_row view location)
-    mdtm_fine = (allowed, answered _ (λ meta. of_kind _ _ (refused _) (λ line. told _ _ _ refl) meta.kind))
+    mdtm_fine = (allowed, answered _ (λ meta. of_kind _ _ (refused _) (λ line. reported _ _ _ refl) meta.kind))
 
     mlst_fine : Always Calls U Ends [] (mlst_row users view location)
-    mlst_fine = (allowed, answered _ (λ meta line. told _ _ _ refl))
+    mlst_fine = (allowed, answered _ (λ meta line. reported _ _ _ refl))
 
     -- the entries of a directory
     listed : (style : Style) (next : List (List ℕ) → Plan A R K) → ((lines : List (List ℕ)) → Always Calls U Ends [] (next lines))
@@ -372,7 +372,7 @@ module _ (A R K : Type 0) where
     listed style next each = (allowed, answered _ (λ entries. each))
 
     stat_fine : Always Calls U Ends [] (stat_row users view location)
-    stat_fine = (allowed, answered _ (λ meta. of_kind _ _ (listed LongLines (status_lines view) (λ lines. told _ _ _ refl)) (λ lines. told _ _ _ refl) meta.kind))
+    stat_fine = (allowed, answered _ (λ meta. of_kind _ _ (listed LongLines (status_lines view) (λ lines. reported _ _ _ refl)) (λ lines. reported _ _ _ refl) meta.kind))
 
     -- ---- transfers
 
@@ -434,7 +434,7 @@ module _ (A R K : Type 0) where
     row_fine (command.Rnto text) = (refl, λ location is prepared. rnto_fine (By (command.Rnto text)) users view _ _ location is view.source refl)
     row_fine (command.Size text) = (refl, λ location is prepared. size_fine (By (command.Size text)) users view _ _ location is)
     row_fine (command.Mdtm text) = (refl, λ location is prepared. mdtm_fine (By (command.Mdtm text)) users view _ _ location is)
-    row_fine (command.Stat None) = told _ _ _ refl
+    row_fine (command.Stat None) = reported _ _ _ refl
     row_fine (command.Stat (Some text)) = (refl, λ location is prepared. stat_fine (By (command.Stat (Some text))) users view _ _ location is)
     row_fine (command.Mlst text) = (refl, λ location is prepared. mlst_fine (By (command.Mlst text)) users view _ _ location is)
     row_fine (command.List text) = (refl, λ location is prepared. list_fine (By (command.List text)) users view _ _ location is (prepared refl) LongLines)
@@ -444,7 +444,7 @@ module _ (A R K : Type 0) where
     row_fine (command.Stor text) = (refl, λ location is prepared. stor_fine (By (command.Stor text)) users view _ _ location is (prepared refl) moment)
     row_fine (command.Appe text) = (refl, λ location is prepared. appe_fine (By (command.Appe text)) users view _ _ location is (prepared refl) moment)
     -- a row that only replies
-    row_fine _ = told _ _ _ refl
+    row_fine _ = reported _ _ _ refl
 
 -- ---- a line that is served
 

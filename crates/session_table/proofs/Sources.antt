@@ -159,9 +159,9 @@ module _ (A R K : Type 0) (users : Users) (view : View) where
 
   module _ (held : List Item) (moment : ℕ) where
     abbrev Taking : Input A K → Type 0
-    Taking told = Within (cond (serves_lines view) (in_its_turn told held) None) (table {A = A} {R = R} {K = K} users view held moment told).plan
+    Taking reported = Within (cond (serves_lines view) (in_its_turn reported held) None) (table {A = A} {R = R} {K = K} users view held moment reported).plan
 
-    named : (told : Input A K) → Taking told
+    named : (reported : Input A K) → Taking reported
     named (input.Line item) = line_named moment item held (counts_lines view) (is_busy view.work)
     named input.Held = due_named moment held (serves_lines view)
     named (input.TransferEnded end sink) = ended_named (serves_lines view) moment end sink
@@ -170,4 +170,4 @@ module _ (A R K : Type 0) (users : Users) (view : View) where
 
 pub sources_are_named : (A R K : Type 0) → SourcesAreNamed A R K
 unfolding SourcesAreNamed
-sources_are_named A R K = λ users view held moment told. named A R K users view held moment told
+sources_are_named A R K = λ users view held moment reported. named A R K users view held moment reported

@@ -14,9 +14,9 @@ module _ {A R K : Type 0} where
       → (List ℕ → View → List (Action A R K) → Type 0)
       → List ℕ → Plan A R K → Type 0
   Always Calls Users Ends admitted (Then view actions) = Ends admitted view actions
-  Always Calls Users Ends admitted (WithLine told next) =
+  Always Calls Users Ends admitted (WithLine reported next) =
       (line : List ℕ) → Always Calls Users Ends admitted (next line)
-  Always Calls Users Ends admitted (WithLines told next) =
+  Always Calls Users Ends admitted (WithLines reported next) =
       (lines : List (List ℕ)) → Always Calls Users Ends admitted (next lines)
   Always Calls Users Ends admitted (Ask call next) =
       Calls call × ((answer : AnswerOf R call) → Always Calls Users Ends admitted (next answer))

@@ -15,8 +15,8 @@ use Rattle.session_table.specs.Calls.Call.{MakeDir, RemoveDir, RemoveFile, Renam
 use Rattle.session_table.specs.Judged.{Location}
 use Rattle.session_table.specs.Plans.{Plan}
 use Rattle.session_table.specs.Plans.Plan.{Ask, WithLine}
-use Rattle.session_table.specs.StateRows.{is_ascii, notes, refuses, tells}
-use Rattle.session_table.specs.Texts.Told.{Moment}
+use Rattle.session_table.specs.StateRows.{is_ascii, notes, refuses, reports}
+use Rattle.session_table.specs.Texts.Reported.{Moment}
 use Rattle.session_table.specs.Views.{View}
 
 abbrev pub is_root : Path → Bool
@@ -42,7 +42,7 @@ module _ {A R K : Type 0} where
 
   abbrev pub mkd_row : View → Location → Plan A R K
   mkd_row view location = Ask (MakeDir location.stored) (unless_fault view (λ done.
-      tells view (answer.Made (OneLine 257 (quoted (path_text location.path))))))
+      reports view (answer.Made (OneLine 257 (quoted (path_text location.path))))))
 
   abbrev pub rmd_row : View → Location → Plan A R K
   rmd_row view location = cond (is_root location.path) (refuses view refusal.NotPermitted)
@@ -70,10 +70,10 @@ module _ {A R K : Type 0} where
   size_row view location = cond (is_ascii view.data_type) (refuses view refusal.SizeNeedsImage)
       (Ask (Stat location.stored) (unless_fault view (λ meta. by_kind
       (refuses view (refusal.Store fault.IsDir))
-      (tells view (answer.Made (OneLine 213 (decimal meta.size)))) meta.kind)))
+      (reports view (answer.Made (OneLine 213 (decimal meta.size)))) meta.kind)))
 
   abbrev pub mdtm_row : View → Location → Plan A R K
   mdtm_row view location = Ask (Stat location.stored) (unless_fault view (λ meta. by_kind
       (refuses view (refusal.Store fault.IsDir))
-      (WithLine (Moment meta.modified) (λ line. tells view (answer.Made (OneLine 213 line))))
+      (WithLine (Moment meta.modified) (λ line. reports view (answer.Made (OneLine 213 line))))
       meta.kind))

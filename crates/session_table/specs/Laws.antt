@@ -29,8 +29,8 @@ use Rattle.session_table.specs.Views.{View, is_inside, serves_lines}
 abbrev pub InEachStep : (A R K : Type 0)
     → (Users → View → List Item → ℕ → Input A K → Plan A R K → Type 0) → Type 0
 InEachStep A R K Holds =
-    (users : Users) (view : View) (held : List Item) (moment : ℕ) (told : Input A K)
-    → Holds users view held moment told (table users view held moment told).plan
+    (users : Users) (view : View) (held : List Item) (moment : ℕ) (reported : Input A K)
+    → Holds users view held moment reported (table users view held moment reported).plan
 
 -- ---- calls of the store
 
@@ -74,16 +74,16 @@ IsReturned (input.TransferEnded end (Some sink)) moment (Call.Finish other later
 IsReturned _ moment _ = ⊥
 
 abbrev pub IsRightful : {A K : Type 0} → Users → View → List Item → ℕ → Input A K → Call K → Type 0
-IsRightful users view held moment told call = IsReturned told moment call
-    ⊎ ((line : Line) × MayServe told held line × IsAllowedFor users view (rule line).row call)
+IsRightful users view held moment reported call = IsReturned reported moment call
+    ⊎ ((line : Line) × MayServe reported held line × IsAllowedFor users view (rule line).row call)
 
 unfoldable pub CallsAreRightful : (A R K : Type 0) → Type 0
-CallsAreRightful A R K = InEachStep A R K (λ users view held moment told.
-    EachCall (IsRightful users view held moment told))
+CallsAreRightful A R K = InEachStep A R K (λ users view held moment reported.
+    EachCall (IsRightful users view held moment reported))
 
 unfoldable pub NoCallsOutside : (A R K : Type 0) → Type 0
-NoCallsOutside A R K = InEachStep A R K (λ users view held moment told plan.
-    is_inside view.stage ≡ false → EachCall (IsReturned told moment) plan)
+NoCallsOutside A R K = InEachStep A R K (λ users view held moment reported plan.
+    is_inside view.stage ≡ false → EachCall (IsReturned reported moment) plan)
 
 -- ---- actions
 
@@ -116,7 +116,7 @@ module _ {A R K : Type 0} where
   releases (action ∷ actions) = release_by action ++ releases actions
 
 unfoldable pub NoTransferUnprepared : (A R K : Type 0) → Type 0
-NoTransferUnprepared A R K = InEachStep A R K (λ users view held moment told plan.
+NoTransferUnprepared A R K = InEachStep A R K (λ users view held moment reported plan.
     view.prepared ≡ false → EachEnd (λ admitted after actions. starting actions ≡ 0) plan)
 
 -- only a line asks for something
@@ -126,16 +126,16 @@ most_asked input.Held = 1
 most_asked _ = 0
 
 unfoldable pub OneThingIsAsked : (A R K : Type 0) → Type 0
-OneThingIsAsked A R K = InEachStep A R K (λ users view held moment told.
-    EachEnd (λ admitted after actions. asking actions ≤ most_asked told))
+OneThingIsAsked A R K = InEachStep A R K (λ users view held moment reported.
+    EachEnd (λ admitted after actions. asking actions ≤ most_asked reported))
 
 -- ---- held lines
 
 unfoldable pub FewLinesAreHeld : (A R K : Type 0) → Type 0
 FewLinesAreHeld A R K =
-    (users : Users) (view : View) (held : List Item) (moment : ℕ) (told : Input A K)
+    (users : Users) (view : View) (held : List Item) (moment : ℕ) (reported : Input A K)
     → length held ≤ most_held
-    → length (table {A = A} {R = R} {K = K} users view held moment told).held ≤ most_held
+    → length (table {A = A} {R = R} {K = K} users view held moment reported).held ≤ most_held
 
 -- ---- floors
 
@@ -155,28 +155,28 @@ Releases (number ∷ []) before released after =
 Releases (number ∷ other ∷ others) before released after = ⊥
 
 unfoldable pub FloorsAreReleasedOnce : (A R K : Type 0) → Type 0
-FloorsAreReleasedOnce A R K = InEachStep A R K (λ users view held moment told.
+FloorsAreReleasedOnce A R K = InEachStep A R K (λ users view held moment reported.
     EachEnd (λ admitted after actions.
     Releases admitted (logged_in view) (releases actions) (logged_in after)))
 
 -- admission is asked for the user who was named, by PASS in its turn with that user's password
 pub record IsRightfulAdmission {A K : Type 0} (users : Users) (view : View) (held : List Item)
-    (told : Input A K) (number : ℕ) : Type 0 where
+    (reported : Input A K) (number : ℕ) : Type 0 where
   pub text : Option (List ℕ)
   pub serves : serves_lines view ≡ true
-  pub turn : in_its_turn told held ≡ Some (Ok (command.Pass text))
+  pub turn : in_its_turn reported held ≡ Some (Ok (command.Pass text))
   pub named : view.stage ≡ Named
   pub right : is_password users view.name (unwrap_or text []) ≡ true
   pub whose : number ≡ number_of users view.name
 
 unfoldable pub AdmissionsAreRightful : (A R K : Type 0) → Type 0
-AdmissionsAreRightful A R K = InEachStep A R K (λ users view held moment told.
-    EachAdmission (IsRightfulAdmission users view held told))
+AdmissionsAreRightful A R K = InEachStep A R K (λ users view held moment reported.
+    EachAdmission (IsRightfulAdmission users view held reported))
 
 -- a step that does not serve PASS asks for no admission
 unfoldable pub OthersAskNoFloors : (A R K : Type 0) → Type 0
-OthersAskNoFloors A R K = InEachStep A R K (λ users view held moment told plan.
-    asks_floors held told ≡ false → EachAdmission (λ number. ⊥) plan)
+OthersAskNoFloors A R K = InEachStep A R K (λ users view held moment reported plan.
+    asks_floors held reported ≡ false → EachAdmission (λ number. ⊥) plan)
 
 -- ---- what RNFR named
 
@@ -190,6 +190,6 @@ IsNamed users view (Some (Ok (command.Rnfr text))) (Some path) =
 IsNamed users view (Some _) (Some path) = ⊥
 
 unfoldable pub SourcesAreNamed : (A R K : Type 0) → Type 0
-SourcesAreNamed A R K = InEachStep A R K (λ users view held moment told.
+SourcesAreNamed A R K = InEachStep A R K (λ users view held moment reported.
     EachEnd (λ admitted after actions. IsNamed users view
-    (cond (serves_lines view) (in_its_turn told held) None) after.source))
+    (cond (serves_lines view) (in_its_turn reported held) None) after.source))

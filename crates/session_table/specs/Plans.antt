@@ -5,7 +5,7 @@ use Rattle.rate_floors.specs.Promises.{Promises, admits, after_admit}
 use Rattle.virtual_tree.specs.Calls.{Exchange}
 use Rattle.session_table.specs.declared.actions.Action.{Action}
 use Rattle.session_table.specs.Calls.{AnswerOf, Call, answered, is_look}
-use Rattle.session_table.specs.Texts.{Told, AreTold, IsTold}
+use Rattle.session_table.specs.Texts.{Reported, AreReported, IsReported}
 use Rattle.session_table.specs.Views.{View}
 
 -- A plan ends with the state of the session and the actions, or asks first. R is the type of the
@@ -13,9 +13,9 @@ use Rattle.session_table.specs.Views.{View}
 pub data Plan (A R K : Type 0) : Type 0 where
   Then : View → List (Action A R K) → Plan A R K
   -- a line with this content, such as the time of a file
-  WithLine : Told → (List ℕ → Plan A R K) → Plan A R K
+  WithLine : Reported → (List ℕ → Plan A R K) → Plan A R K
   -- lines with these contents, such as those of a listing
-  WithLines : List Told → (List (List ℕ) → Plan A R K) → Plan A R K
+  WithLines : List Reported → (List (List ℕ) → Plan A R K) → Plan A R K
   -- a call of the store
   Ask : (call : Call K) → (AnswerOf R call → Plan A R K) → Plan A R K
   -- asks for admission of one more session of the user with this number; if it is admitted, it is
@@ -27,11 +27,11 @@ abbrev pub Ran : {S A R K : Type 0} → (S → Exchange R K → S → Type 0) �
     → S → S → Promises → Promises → View → List (Action A R K) → Type 0
 Ran Step (Then view actions) old new promises promises' view' actions' =
     (new ≡ old) × (promises' ≡ promises) × (view' ≡ view) × (actions' ≡ actions)
-Ran Step (WithLine told next) old new promises promises' view' actions' =
-    (line : List ℕ) × IsTold told line
+Ran Step (WithLine reported next) old new promises promises' view' actions' =
+    (line : List ℕ) × IsReported reported line
     × Ran Step (next line) old new promises promises' view' actions'
-Ran Step (WithLines told next) old new promises promises' view' actions' =
-    (lines : List (List ℕ)) × AreTold told lines
+Ran Step (WithLines reported next) old new promises promises' view' actions' =
+    (lines : List (List ℕ)) × AreReported reported lines
     × Ran Step (next lines) old new promises promises' view' actions'
 Ran {S} {A} {R} Step (Ask call next) old new promises promises' view' actions' =
     (answer : AnswerOf R call) × (mid : S) × Step old (answered call answer) mid

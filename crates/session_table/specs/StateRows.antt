@@ -95,15 +95,15 @@ module _ {A : Type 0} where
 
 module _ {A R K : Type 0} where
   -- one reply
-  abbrev pub tells : View → Answer A → Plan A R K
-  tells view reply = Then view (action.Say reply ∷ [])
+  abbrev pub reports : View → Answer A → Plan A R K
+  reports view reply = Then view (action.Say reply ∷ [])
 
   abbrev pub notes : View → Notice → Plan A R K
-  notes view what = tells view (answer.Notice what)
+  notes view what = reports view (answer.Notice what)
 
   -- a refused command; the path that RNFR named is forgotten
   abbrev pub refuses : View → Refusal → Plan A R K
-  refuses view why = tells (record view { source = None }) (answer.Refusal why)
+  refuses view why = reports (record view { source = None }) (answer.Refusal why)
 
   -- the user who is logged in, if any, leaves
   abbrev pub leaves : View → List (Action A R K)
@@ -176,11 +176,11 @@ module _ {A R K : Type 0} where
 
   abbrev pub rest_row : View → ℕ → Plan A R K
   rest_row view offset = cond (needs_image view offset) (refuses view refusal.OffsetNeedsImage)
-      (tells (record view { offset = offset })
+      (reports (record view { offset = offset })
       (answer.Made (OneLine 350 (codes "Restart at " ++ decimal offset))))
 
   abbrev pub facts_row : View → Facts → Plan A R K
-  facts_row view facts = tells (record view { facts = facts }) (facts_answer facts)
+  facts_row view facts = reports (record view { facts = facts }) (facts_answer facts)
 
   abbrev pub opts_row : View → FeatureOption → Plan A R K
   opts_row view option.Utf8On = notes view notice.Utf8IsOn
@@ -188,11 +188,11 @@ module _ {A R K : Type 0} where
 
   abbrev pub feat_row : View → Plan A R K
   feat_row view =
-      tells view (answer.Made (SeveralLines 211 (codes "Features") (features view.facts)
+      reports view (answer.Made (SeveralLines 211 (codes "Features") (features view.facts)
       (codes "End")))
 
   abbrev pub pwd_row : View → Plan A R K
-  pwd_row view = tells view (answer.Made (OneLine 257 (quoted (path_text view.cwd))))
+  pwd_row view = reports view (answer.Made (OneLine 257 (quoted (path_text view.cwd))))
 
   -- STAT without an argument
   abbrev pub status_row : View → Plan A R K

@@ -37,17 +37,17 @@ IsTaken taken standing actions =
 unfoldable pub SessionStep : {S A R K : Type 0} → (S → Exchange R K → S → Type 0) → Users → View
     → List Item → ℕ → Input A K → S → S → Promises → Promises → View → List Item
     → List (Action A R K) → Type 0
-SessionStep {R = R} Step users view held moment told old new promises promises' view' held'
+SessionStep {R = R} Step users view held moment reported old new promises promises' view' held'
     actions =
-    Ran Step (table {R = R} users view held moment told).plan old new promises promises' view'
+    Ran Step (table {R = R} users view held moment reported).plan old new promises promises' view'
     actions
-    × (held' ≡ (table {R = R} users view held moment told).held)
+    × (held' ≡ (table {R = R} users view held moment reported).held)
 
 -- lack of memory may stop a step here: before its first call, or after looks at the store alone
 unfoldable pub SessionStops : {S A R K : Type 0} → (S → Exchange R K → S → Type 0) → Users → View
     → List Item → ℕ → Input A K → S → S → Type 0
-SessionStops {R = R} Step users view held moment told old new =
-    Stops Step (table {R = R} users view held moment told).plan old new
+SessionStops {R = R} Step users view held moment reported old new =
+    Stops Step (table {R = R} users view held moment reported).plan old new
 
 abbrev pub holds_some : List Item → Bool
 holds_some [] = false
@@ -74,4 +74,4 @@ is_pass_turn (Some item) = is_pass item
 
 -- an input whose step may ask for admission: PASS in its turn
 abbrev pub asks_floors : {A K : Type 0} → List Item → Input A K → Bool
-asks_floors held told = is_pass_turn (in_its_turn told held)
+asks_floors held reported = is_pass_turn (in_its_turn reported held)

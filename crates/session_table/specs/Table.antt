@@ -54,25 +54,25 @@ left conditions view = record view {
 }
 
 -- the reply with a passive port
-abbrev pub port_told : {A : Type 0} → View → Passive → ℕ → Answer A
-port_told view Plain port =
+abbrev pub port_reported : {A : Type 0} → View → Passive → ℕ → Answer A
+port_reported view Plain port =
     answer.Made (OneLine 227
     (codes "Entering Passive Mode (" ++ port_text (record { address = view.address; port = port })
     ++ codes ")"))
-port_told view Extended port =
+port_reported view Extended port =
     answer.Made (OneLine 229
     (codes "Entering Extended Passive Mode (|||" ++ decimal port ++ codes "|)"))
 
 -- the reply to the end of a transfer
-abbrev pub end_told : {A : Type 0} → End → Result (Unit {0}) StoreFault → Answer A
-end_told ended.Done (Ok _) = answer.Notice notice.TransferComplete
-end_told ended.Done (Err why) = answer.Refusal (refusal.Store why)
-end_told ended.Lost finished = answer.Refusal refusal.ConnectionLost
-end_told ended.Local finished = answer.Refusal (refusal.Store fault.Device)
-end_told ended.Full finished = answer.Refusal (refusal.Store fault.Full)
-end_told ended.NoConnection finished = answer.Refusal refusal.NoDataConnection
-end_told ended.NoMemory finished = answer.Refusal (refusal.Store fault.Memory)
-end_told ended.Aborted finished = answer.Refusal refusal.TransferAborted
+abbrev pub end_reported : {A : Type 0} → End → Result (Unit {0}) StoreFault → Answer A
+end_reported ended.Done (Ok _) = answer.Notice notice.TransferComplete
+end_reported ended.Done (Err why) = answer.Refusal (refusal.Store why)
+end_reported ended.Lost finished = answer.Refusal refusal.ConnectionLost
+end_reported ended.Local finished = answer.Refusal (refusal.Store fault.Device)
+end_reported ended.Full finished = answer.Refusal (refusal.Store fault.Full)
+end_reported ended.NoConnection finished = answer.Refusal refusal.NoDataConnection
+end_reported ended.NoMemory finished = answer.Refusal (refusal.Store fault.Memory)
+end_reported ended.Aborted finished = answer.Refusal refusal.TransferAborted
 
 -- the result of an input: its plan, and the lines that are held then
 pub record Taken (A R K : Type 0) : Type 0 where
@@ -87,8 +87,8 @@ module _ {A R K : Type 0} where
   -- a plan, and then this change of the state
   abbrev pub then_left : (View → View) → Plan A R K → Plan A R K
   then_left change (Then view actions) = Then (change view) actions
-  then_left change (WithLine told next) = WithLine told (λ line. then_left change (next line))
-  then_left change (WithLines told next) = WithLines told (λ lines. then_left change (next lines))
+  then_left change (WithLine reported next) = WithLine reported (λ line. then_left change (next line))
+  then_left change (WithLines reported next) = WithLines reported (λ lines. then_left change (next lines))
   then_left change (Ask call next) = Ask call (λ answer. then_left change (next answer))
   then_left change (AskAdmit user next) = AskAdmit user (λ fits. then_left change (next fits))
 
@@ -164,7 +164,7 @@ module _ {A R K : Type 0} where
   abbrev pub ready_as : Users → View → Passive → Option ℕ → Plan A R K
   ready_as users view passive (Some port) =
       and_quits users (record view { work = Idle; prepared = true })
-      (action.Say (port_told view passive port) ∷ []) view.control
+      (action.Say (port_reported view passive port) ∷ []) view.control
   ready_as users view passive None =
       and_quits users (record view { work = Idle })
       (action.Say (answer.Refusal refusal.NoPassivePort) ∷ []) view.control
@@ -200,7 +200,7 @@ module _ {A R K : Type 0} where
   end_row users view errand aborted end finished =
       cond (is_closed view.stage) (Then (record view { work = Idle }) [])
       (and_quits users (record view { work = Idle })
-      (end_reply view.control aborted (end_told end finished) ++ end_hook errand end) view.control)
+      (end_reply view.control aborted (end_reported end finished) ++ end_hook errand end) view.control)
 
   -- a returned sink is finished in every case
   abbrev pub ended_with : Users → View → ℕ → Errand Path → Bool → End → Option K → Plan A R K

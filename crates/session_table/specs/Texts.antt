@@ -8,28 +8,28 @@ use Rattle.ftp_terms.specs.declared.facts.Facts.{Facts}
 use Rattle.ftp_terms.specs.declared.letters.Letters.{Letters}
 
 -- the content of a line
-pub data Told : Type 0 where
+pub data Reported : Type 0 where
   -- a moment, in seconds since 1970, by fourteen digits
-  Moment : ℕ → Told
+  Moment : ℕ → Reported
   -- an entry in the style of `ls -l`
-  LongLine : Meta → List ℕ → Told
+  LongLine : Meta → List ℕ → Reported
   -- an entry's name alone
-  NameLine : List ℕ → Told
+  NameLine : List ℕ → Reported
   -- the facts of an entry, and its name or path
-  FactLine : Meta → Facts → Letters → List ℕ → Told
+  FactLine : Meta → Facts → Letters → List ℕ → Reported
 
 -- the line has this content
-abbrev pub IsTold : Told → List ℕ → Type 0
-IsTold (Moment seconds) line = IsTimeVal seconds line
-IsTold (LongLine meta name) line = IsListLine meta name line
-IsTold (NameLine name) line = line ≡ name
-IsTold (FactLine meta facts letters path) line = IsMlstEntry meta facts letters path line
+abbrev pub IsReported : Reported → List ℕ → Type 0
+IsReported (Moment seconds) line = IsTimeVal seconds line
+IsReported (LongLine meta name) line = IsListLine meta name line
+IsReported (NameLine name) line = line ≡ name
+IsReported (FactLine meta facts letters path) line = IsMlstEntry meta facts letters path line
 
 -- the lines have these contents, one each
-abbrev pub AreTold : List Told → List (List ℕ) → Type 0
-AreTold [] lines = lines ≡ []
-AreTold (told ∷ others) lines =
-    (line : List ℕ) × (rest : List (List ℕ)) × IsTold told line × AreTold others rest
+abbrev pub AreReported : List Reported → List (List ℕ) → Type 0
+AreReported [] lines = lines ≡ []
+AreReported (reported ∷ others) lines =
+    (line : List ℕ) × (rest : List (List ℕ)) × IsReported reported line × AreReported others rest
     × (lines ≡ line ∷ rest)
 
 -- the octets of lines, each ended by CR LF

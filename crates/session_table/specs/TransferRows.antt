@@ -27,9 +27,9 @@ use Rattle.session_table.specs.FileRows.{by_kind, unless_fault}
 use Rattle.session_table.specs.Judged.{Location}
 use Rattle.session_table.specs.Plans.{Plan}
 use Rattle.session_table.specs.Plans.Plan.{Then, WithLine, WithLines, Ask}
-use Rattle.session_table.specs.StateRows.{refuses, tells}
-use Rattle.session_table.specs.Texts.{Told, ended_lines}
-use Rattle.session_table.specs.Texts.Told.{LongLine, NameLine, FactLine}
+use Rattle.session_table.specs.StateRows.{refuses, reports}
+use Rattle.session_table.specs.Texts.{Reported, ended_lines}
+use Rattle.session_table.specs.Texts.Reported.{LongLine, NameLine, FactLine}
 use Rattle.session_table.specs.Views.{View}
 
 abbrev pub no_letters : Letters
@@ -56,10 +56,10 @@ letters_by users name (Ok path) = letters_held users name path
 letters_by users name (Err fault) = no_letters
 
 -- an entry of a directory at this path, in a style
-abbrev pub entry_told : Users → View → Path → Style → Entry → Told
-entry_told users view above LongLines entry = LongLine entry.1 entry.0
-entry_told users view above Names entry = NameLine entry.0
-entry_told users view above FactLines entry =
+abbrev pub entry_reported : Users → View → Path → Style → Entry → Reported
+entry_reported users view above LongLines entry = LongLine entry.1 entry.0
+entry_reported users view above Names entry = NameLine entry.0
+entry_reported users view above FactLines entry =
     FactLine entry.1 view.facts (letters_by users view.name (child_of above entry.0)) entry.0
 
 abbrev pub last_name : Path → List ℕ
@@ -102,7 +102,7 @@ module _ {A R K : Type 0} where
   abbrev pub lists : Users → View → Path → Style → (List (List ℕ) → Plan A R K) → List Entry
       → Plan A R K
   lists users view above style next entries =
-      WithLines (map (entry_told users view above style) entries) next
+      WithLines (map (entry_reported users view above style) entries) next
 
   -- the entries of a directory
   abbrev pub lists_directory : Users → View → Style → Location → (List (List ℕ) → Plan A R K)
@@ -131,7 +131,7 @@ module _ {A R K : Type 0} where
 
   abbrev pub status_lines : View → List (List ℕ) → Plan A R K
   status_lines view lines =
-      tells view (answer.Made (SeveralLines 213 (codes "Status") lines (codes "End")))
+      reports view (answer.Made (SeveralLines 213 (codes "Status") lines (codes "End")))
 
   -- STAT with an argument
   abbrev pub stat_row : Users → View → Location → Plan A R K
@@ -141,5 +141,5 @@ module _ {A R K : Type 0} where
   abbrev pub mlst_row : Users → View → Location → Plan A R K
   mlst_row users view location = Ask (Call.Stat location.stored) (unless_fault view (λ meta.
       WithLine (FactLine meta view.facts (letters_held users view.name location.path)
-      (path_text location.path)) (λ line. tells view (answer.Made
+      (path_text location.path)) (λ line. reports view (answer.Made
       (SeveralLines 250 (codes "Listing") ((codes " " ++ line) ∷ []) (codes "End"))))))

@@ -1,7 +1,7 @@
 //! The callbacks of a handler, each by its name.
 
 use crate::expect::same;
-use handler_hooks::{Hooks, tell};
+use handler_hooks::{Hooks, report};
 use session_table::{HookCall, Text};
 use std::alloc::{AllocError, Global};
 use std::process::Abort;
@@ -28,7 +28,7 @@ impl Named {
 }
 
 impl Hooks for Named {
-    ghost Told = { λ _ _ _. Unit {0} };
+    ghost Reported = { λ _ _ _. Unit {0} };
 
     fn on_connect(&mut self) {
         self.call("on_connect", "");
@@ -73,7 +73,7 @@ fn calls(rt: &(impl Abort + AllocGlobal), call: HookCall<Global>, line: &str) {
         called: Vec::new(rt.alloc()),
         written: Ok(()),
     };
-    tell(&mut named, &call);
+    report(&mut named, &call);
     named.written.expect(rt, "memory");
     same(rt, &named.called, line.as_bytes());
 }

@@ -112,14 +112,14 @@ fn session_table(rt: &(impl Abort + AllocGlobal)) {
     says(rt, answer.into_reply(), b"530 Log in first\r\n");
 }
 
-fn tells(rt: &(impl Abort + AllocGlobal), answer: Answer, text: &str) {
+fn reports(rt: &(impl Abort + AllocGlobal), answer: Answer, text: &str) {
     says(rt, answer.into_reply(), text.as_bytes());
 }
 
 #[test]
 fn notices(rt: HostRuntime) {
     for (notice, text) in &NOTICES {
-        tells(&rt, Answer::Notice(*notice), text);
+        reports(&rt, Answer::Notice(*notice), text);
     }
 }
 
@@ -127,7 +127,7 @@ fn notices(rt: HostRuntime) {
 fn refusals(rt: HostRuntime) {
     session_table(&rt);
     for (refusal, text) in &REFUSALS {
-        tells(&rt, Answer::Refusal(*refusal), text);
+        reports(&rt, Answer::Refusal(*refusal), text);
     }
 }
 
@@ -140,7 +140,7 @@ static FAULTS: [(LineFault, &str); 3] = [
 #[test]
 fn line_faults(rt: HostRuntime) {
     for (fault, text) in &FAULTS {
-        tells(&rt, Answer::Fault(*fault), text);
+        reports(&rt, Answer::Fault(*fault), text);
     }
 }
 

@@ -69,8 +69,12 @@ pub(crate) fn location(rt: &(impl Abort + AllocGlobal), text: &str) -> Location 
 }
 
 /// Checks that a call succeeded, and that the replies among its actions are these.
-pub(crate) fn says(rt: &(impl Abort + AllocGlobal), told: Result<Actions, AllocError>, text: &str) {
-    let actions = told.expect(rt, "memory");
+pub(crate) fn says(
+    rt: &(impl Abort + AllocGlobal),
+    reported: Result<Actions, AllocError>,
+    text: &str,
+) {
+    let actions = reported.expect(rt, "memory");
     let mut octets = Vec::new(rt.alloc());
     for action in actions {
         if let Action::Say(answer) = action {

@@ -18,8 +18,8 @@ use virtual_path::VPath;
 fn session_state(rt: &(impl Abort + AllocGlobal), state: &mut State, path: VPath) {
     state.change_directory(path); // each such call changes just what its name says
     holds(rt, state.cwd().text() == "/in");
-    let told = state.reply_notice(Notice::DirectoryChanged); // actions, of which one is a reply
-    says(rt, told, "250 Directory changed\r\n");
+    let reported = state.reply_notice(Notice::DirectoryChanged); // actions, of which one is a reply
+    says(rt, reported, "250 Directory changed\r\n");
 }
 
 fn session_login(
@@ -29,15 +29,15 @@ fn session_login(
     floors: &mut Floors,
 ) {
     says(rt, user_row(state, "ann"), "331 Password required\r\n");
-    let told = pass_row(state, users, floors, "secret");
-    says(rt, told, "230 Welcome\r\n"); // otherwise 530
+    let reported = pass_row(state, users, floors, "secret");
+    says(rt, reported, "230 Welcome\r\n"); // otherwise 530
 }
 
 fn session_state_rows(rt: &(impl Abort + AllocGlobal), state: &mut State) {
     says(rt, type_row(state, DataType::Image), "200 Type is I\r\n");
     says(rt, rest_row(state, 1000), "350 Restart at 1000\r\n");
-    let told = pasv_row(state); // a port is asked for: the reply comes with it
-    says(rt, told, "");
+    let reported = pasv_row(state); // a port is asked for: the reply comes with it
+    says(rt, reported, "");
 }
 
 fn session_file_rows(
@@ -46,10 +46,10 @@ fn session_file_rows(
     store: &mut MemStore,
     place: Location,
 ) {
-    let told = mkd_row(state, store, &place); // or what the store refused
-    says(rt, told, "257 \"/in\"\r\n");
-    let told = rnfr_row(state, store, place); // the path is kept for RNTO
-    says(rt, told, "350 Send RNTO\r\n");
+    let reported = mkd_row(state, store, &place); // or what the store refused
+    says(rt, reported, "257 \"/in\"\r\n");
+    let reported = rnfr_row(state, store, place); // the path is kept for RNTO
+    says(rt, reported, "350 Send RNTO\r\n");
 }
 
 fn session_transfers(
@@ -59,10 +59,10 @@ fn session_transfers(
     missing: Location,
     place: Location,
 ) {
-    let told = retr_row(state, store, missing);
-    says(rt, told, "550 No such file or directory\r\n");
-    let told = stor_row(state, store, place, 951_827_696_000); // milliseconds since 1970
-    says(rt, told, "150 Opening data connection\r\n"); // and a job takes the file
+    let reported = retr_row(state, store, missing);
+    says(rt, reported, "550 No such file or directory\r\n");
+    let reported = stor_row(state, store, place, 951_827_696_000); // milliseconds since 1970
+    says(rt, reported, "150 Opening data connection\r\n"); // and a job takes the file
 }
 
 fn session_listings(
@@ -72,8 +72,8 @@ fn session_listings(
     store: &mut MemStore,
     place: &Location,
 ) {
-    let told = list_row(state, users, store, place, Style::Names);
-    says(rt, told, "150 Opening data connection\r\n"); // and a job sends the names
+    let reported = list_row(state, users, store, place, Style::Names);
+    says(rt, reported, "150 Opening data connection\r\n"); // and a job sends the names
 }
 
 fn session_events(
@@ -82,11 +82,15 @@ fn session_events(
     users: &Authorizer,
     store: &mut MemStore,
 ) {
-    let told = end_transfer(state, users, store, End::Done, &mut None, 0);
-    says(rt, told, "226 Transfer complete\r\n"); // and the replies to the lines that waited
+    let reported = end_transfer(state, users, store, End::Done, &mut None, 0);
+    says(rt, reported, "226 Transfer complete\r\n"); // and the replies to the lines that waited
     state.await_port(Passive::Plain);
-    let told = take_port(state, users, Some(40_000));
-    says(rt, told, "227 Entering Passive Mode (127,0,0,1,156,64)\r\n");
+    let reported = take_port(state, users, Some(40_000));
+    says(
+        rt,
+        reported,
+        "227 Entering Passive Mode (127,0,0,1,156,64)\r\n",
+    );
     says(rt, close(state), ""); // what is left to drop, and to tell the handler
 }
 
@@ -97,7 +101,7 @@ struct Clients {
 }
 
 impl Hooks for Clients {
-    ghost Told = { λ _ _ _. Unit {0} };
+    ghost Reported = { λ _ _ _. Unit {0} };
 
     fn on_connect(&mut self) {
         self.there = self.there.saturating_add(1);

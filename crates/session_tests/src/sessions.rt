@@ -43,8 +43,8 @@ fn session_core(
     let mut session = Session::new(rt.alloc(), settings(), PEER)?; // of a client at that address
     says(rt, session.greet(), "220 Ready\r\n");
     let line = Input::Line(LineItem::Command(Command::Pwd));
-    let told = session.step(users, floors, store, line, 0); // at the moment 0
-    says(rt, told, "530 Log in first\r\n");
+    let reported = session.step(users, floors, store, line, 0); // at the moment 0
+    says(rt, reported, "530 Log in first\r\n");
     holds(rt, !session.is_logged_in());
     holds(rt, !session.held_due()); // otherwise the next input is Input::Held
     Ok(())
@@ -93,8 +93,8 @@ fn is_inside(rt: &(impl Abort + AllocGlobal), room: &mut Room, text: &[u8]) -> b
     let mut reader = LineReader::new(rt.alloc());
     for item in reader.feed(text).expect(rt, "memory") {
         let (floors, store) = (&mut room.floors, &mut room.store);
-        let told = session.step(&room.users, floors, store, Input::Line(item), 0);
-        holds(rt, told.is_ok());
+        let reported = session.step(&room.users, floors, store, Input::Line(item), 0);
+        holds(rt, reported.is_ok());
     }
     session.is_logged_in()
 }

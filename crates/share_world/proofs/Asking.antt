@@ -10,7 +10,7 @@ use Rattle.world_terms.specs.declared.event.LaneState.TheVariants as state
 use Rattle.world_terms.specs.Decisions.{AllPosted, asker_of, in_round, in_round_from}
 use Rattle.world_terms.specs.Lanes.{Lane}
 use Rattle.share_world.specs.Kept.{IsSound, IsUnasked}
-use Rattle.share_world.specs.Turns.{HasAsk, due_ask, due_in}
+use Rattle.share_world.specs.Performed.{HasAsk, due_ask, due_in}
 
 pub has_ask : (l : Lane) → IsSound l → HasAsk l
 has_ask l s here = by_ask l.shown.ask refl
@@ -66,7 +66,7 @@ all_whole P ls n less h = subst (All P) (take_all n ls less) h
 
 -- what tells that all are posted tells it of the same lanes
 pub none_left : (xs ys : List Lane) (b : Bool) → (AllPosted xs → b ≡ true) → b ≡ false → xs ≡ ys → AllPosted ys → ⊥
-none_left xs ys b tells false_is same all = let true_is : b ≡ true = tells (subst AllPosted (sym same) all) in absurd (cc)
+none_left xs ys b reports false_is same all = let true_is : b ≡ true = reports (subst AllPosted (sym same) all) in absurd (cc)
 
 pub all_left : (xs ys : List Lane) (b : Bool) → (b ≡ true → AllPosted xs) → b ≡ true → xs ≡ ys → AllPosted ys
-all_left xs ys b tells true_is same = subst AllPosted same (tells true_is)
+all_left xs ys b reports true_is same = subst AllPosted same (reports true_is)

@@ -5,7 +5,7 @@ pub mod Sittings
 pub mod Asking
 pub mod Deals
 pub mod Sharing
-pub mod Turning
+pub mod Performing
 pub mod Longer
 pub mod Pigeons
 pub mod Above

@@ -24,7 +24,7 @@ use Rattle.share_world.proofs.Grants.{EachPosted, all_octets, given_sum, posted_
 use Rattle.share_world.proofs.Kept.{shares_add}
 use Rattle.share_world.specs.Limited.{IsKept}
 use Rattle.share_world.specs.Shares.{AreOpen, dealt}
-use Rattle.share_world.specs.Turns.{HasAsk}
+use Rattle.share_world.specs.Performed.{HasAsk}
 use Rattle.share_world.proofs.Deals.{get_here, get_other, same_at}
 
 -- ---- each lane in Round is one of the plan, and is so once

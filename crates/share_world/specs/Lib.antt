@@ -1,6 +1,6 @@
 pub mod Kept
 pub mod Laws
-pub mod Turns
+pub mod Performed
 pub mod Limited
 pub mod Codes
 pub mod Shares

@@ -5,7 +5,7 @@ ghost use Rattle.grant_ledger.specs.declared.ledger.TheConstants.{MAX_LANES};
 ghost use Rattle.world_terms.specs.Decisions.{AllPosted, has_large_want, in_round};
 ghost use Rattle.world_terms.specs.Lanes.{new_lane};
 ghost use Rattle.share_world.specs.Shares.{AreOpen, dealt};
-ghost use Rattle.share_world.specs.Turns.{HasAsk};
+ghost use Rattle.share_world.specs.Performed.{HasAsk};
 ghost use Rattle.std.specs.Prelude.{replicate};
 
 use crate::lane::Lane;

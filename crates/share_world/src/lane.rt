@@ -6,7 +6,7 @@ ghost use Rattle.world_terms.specs.Lanes.{amount, new_lane};
 ghost use Rattle.world_terms.specs.declared.event.LaneState.TheVariants as state;
 ghost use Rattle.world_terms.specs.declared.event.Event.TheVariants as event;
 ghost use Rattle.share_world.specs.Kept.{IsSound};
-ghost use Rattle.share_world.specs.Turns.{LaneReply, HasAsk, due_ask, is_decide};
+ghost use Rattle.share_world.specs.Performed.{LaneReply, HasAsk, due_ask, is_decide};
 
 use line_rates::Ask;
 use std::alloc::{AllocError, Allocator};
@@ -65,11 +65,11 @@ impl<A: Allocator + Clone> Lane<A> {
 
 impl<A: Allocator> Lane<A> {
     /// Performs an event of the lane. A refused one changes nothing.
-    pub fn turn(&mut self, event: Event) -> Result<EventAnswer, StepFault>
+    pub fn perform(&mut self, event: Event) -> Result<EventAnswer, StepFault>
         requires lanes { is_decide event ≡ false }
         requires fits { self.old.hidden.moved + self.old.hidden.back + amount self.old.hidden.hand
             < 2 ^ 64 }
-        ensures turn { LaneReply event result self.old self.new }
+        ensures perform { LaneReply event result self.old self.new }
         ensures sound { IsSound self.old }
     {
         match event {
@@ -85,7 +85,7 @@ impl<A: Allocator> Lane<A> {
     }
 
     fn sit(&mut self) -> Result<EventAnswer, StepFault>
-        ensures turn { (i : ℕ) → LaneReply (event.Sit i) result self.old self.new }
+        ensures perform { (i : ℕ) → LaneReply (event.Sit i) result self.old self.new }
         ensures sound { IsSound self.old }
     {
         if !matches!(self.state, LaneState::Free) {
@@ -96,7 +96,7 @@ impl<A: Allocator> Lane<A> {
     }
 
     fn ask(&mut self, ask: Ask) -> Result<EventAnswer, StepFault>
-        ensures turn { (i : ℕ) → LaneReply (event.Asked i ask) result self.old self.new }
+        ensures perform { (i : ℕ) → LaneReply (event.Asked i ask) result self.old self.new }
         ensures sound { IsSound self.old }
     {
         let seated = matches!(self.state, LaneState::Worker);
@@ -109,7 +109,7 @@ impl<A: Allocator> Lane<A> {
     }
 
     fn collect(&mut self) -> EventAnswer
-        ensures turn { (i : ℕ) → LaneReply (event.Collect i) (Ok result) self.old self.new }
+        ensures perform { (i : ℕ) → LaneReply (event.Collect i) (Ok result) self.old self.new }
         ensures sound { IsSound self.old }
     {
         if !matches!(self.state, LaneState::Asked) {
@@ -120,7 +120,7 @@ impl<A: Allocator> Lane<A> {
     }
 
     fn post(&mut self) -> Result<EventAnswer, StepFault>
-        ensures turn { (i : ℕ) → LaneReply (event.Post i) result self.old self.new }
+        ensures perform { (i : ℕ) → LaneReply (event.Post i) result self.old self.new }
         ensures sound { IsSound self.old }
     {
         if !matches!(self.state, LaneState::Round) {
@@ -136,7 +136,7 @@ impl<A: Allocator> Lane<A> {
     }
 
     fn take(&mut self) -> Result<EventAnswer, StepFault>
-        ensures turn { (i : ℕ) → LaneReply (event.Taken i) result self.old self.new }
+        ensures perform { (i : ℕ) → LaneReply (event.Taken i) result self.old self.new }
         ensures sound { IsSound self.old }
     {
         if !matches!(self.state, LaneState::Granted) {
@@ -155,7 +155,7 @@ impl<A: Allocator> Lane<A> {
     fn spend(&mut self, octets: u64) -> Result<EventAnswer, StepFault>
         requires fits { self.old.hidden.moved + self.old.hidden.back + amount self.old.hidden.hand
             < 2 ^ 64 }
-        ensures turn { (i : ℕ) → LaneReply (event.Moved i octets) result self.old self.new }
+        ensures perform { (i : ℕ) → LaneReply (event.Moved i octets) result self.old self.new }
         ensures sound { IsSound self.old }
     {
         let Some(hand) = self.hand else {
@@ -171,7 +171,7 @@ impl<A: Allocator> Lane<A> {
     }
 
     fn rise(&mut self) -> Result<EventAnswer, StepFault>
-        ensures turn { (i : ℕ) → LaneReply (event.Rise i) result self.old self.new }
+        ensures perform { (i : ℕ) → LaneReply (event.Rise i) result self.old self.new }
         ensures sound { IsSound self.old }
     {
         let can_rise = matches!(self.state, LaneState::Worker);

@@ -14,7 +14,7 @@ ghost use Rattle.share_world.specs.Shares.{IsUnshared};
 ghost use Rattle.share_world.specs.Stopped.{HadMemory, IsStoppedRun};
 ghost use Rattle.world_terms.specs.declared.event.Event.TheVariants as event;
 ghost use Rattle.share_world.specs.Limited.{lane_at};
-ghost use Rattle.share_world.specs.Turns.{HasAsk, is_collect, is_decide};
+ghost use Rattle.share_world.specs.Performed.{HasAsk, is_collect, is_decide};
 
 use crate::deal::{all_posted, asks_in_round, deal, has_large_want, new_lanes};
 use crate::fault::WorldFault;
@@ -86,7 +86,7 @@ impl<A: Allocator + Clone> World<A> {
         if let Event::Decide { moment } = event {
             return self.decide(moment);
         }
-        self.turn(event)
+        self.perform(event)
     }
 
     /// Performs the events in order, and returns the reply to each. Fails if memory runs out for one of them, or for the
@@ -115,7 +115,7 @@ impl<A: Allocator + Clone> World<A> {
     }
 
     // Performs an event of one lane.
-    fn turn(&mut self, event: Event) -> Result<EventAnswer, StepFault>
+    fn perform(&mut self, event: Event) -> Result<EventAnswer, StepFault>
         requires lanes { is_decide event ≡ false }
         ensures step { Step self.old.rates self.old.world event result self.new.world }
         ensures rates { self.new.rates ≡ self.old.rates }
@@ -127,7 +127,7 @@ impl<A: Allocator + Clone> World<A> {
         if is_collect(&event) && !all_posted(&self.lanes) {
             return Err(StepFault::WrongState);
         }
-        self.lanes[lane].turn(event)
+        self.lanes[lane].perform(event)
     }
 
     // Decides at a moment in milliseconds.

@@ -251,7 +251,7 @@ fn look_at_all(rt: &(impl Abort + AllocGlobal), tree: &Tree, flat: &Flat)
 }
 
 #[test]
-fn tells_of_nodes_leaves_and_grants(rt: HostRuntime) {
+fn reports_of_nodes_leaves_and_grants(rt: HostRuntime) {
     let tree = tree(&rt, &PROMISED);
     let flat = Flat::of(rt.alloc(), &tree).expect(&rt, "memory");
     look_at_all(&rt, &tree, &flat);

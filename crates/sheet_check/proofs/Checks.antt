@@ -16,11 +16,11 @@ use Rattle.sheet_check.specs.declared.grants_fault.GrantsFault.{GrantsFault}
 -- the fault of a sheet's text
 pub sheet_beside : (sheet_text : List ℕ) (known : Option (List ℕ)) (may_fail : Bool) (e : SheetFault) → (e ≢ NoSheetMemory → sheet_fault sheet_text ≡ Some e)
     → IsFaultBeside sheet_text known may_fail (of_sheet e)
-sheet_beside sheet_text known may_fail (BadLine line hint) told = ((λ no. cc), told (λ no. cc))
-sheet_beside sheet_text known may_fail (Twice line) told = ((λ no. cc), told (λ no. cc))
-sheet_beside sheet_text known may_fail (LeafHasKids line) told = ((λ no. cc), told (λ no. cc))
-sheet_beside sheet_text known may_fail (Tree line f) told = ((λ no. cc), told (λ no. cc))
-sheet_beside sheet_text known may_fail NoSheetMemory told = refl
+sheet_beside sheet_text known may_fail (BadLine line hint) reported = ((λ no. cc), reported (λ no. cc))
+sheet_beside sheet_text known may_fail (Twice line) reported = ((λ no. cc), reported (λ no. cc))
+sheet_beside sheet_text known may_fail (LeafHasKids line) reported = ((λ no. cc), reported (λ no. cc))
+sheet_beside sheet_text known may_fail (Tree line f) reported = ((λ no. cc), reported (λ no. cc))
+sheet_beside sheet_text known may_fail NoSheetMemory reported = refl
 
 beside_known : (sheet : SheetValue) (sheet_text : List ℕ) (fault : GrantsFault) (known : Option (List ℕ)) → IsSheetOf sheet_text sheet
     → IfSome known (λ text. (length text ≤ MAX_TEXT) × ((source : List ℕ) → IsSheetOf source sheet → IsGrantsFaultOf source text fault))

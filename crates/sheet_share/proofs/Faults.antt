@@ -6,9 +6,9 @@ use Rattle.sheet_share.specs.Faults.{of_sheet}
 use Rattle.sheet_share.specs.declared.fault.ShareFault.TheVariants.{Sheet}
 
 -- a fault that is told as that of a sheet is that fault, and not lack of memory
-pub sheet_told : (e fault : SheetFault) → of_sheet e ≡ Sheet fault → (e ≡ fault) × (e ≢ NoSheetMemory)
-sheet_told (BadLine line hint) fault is = (cc, λ no. cc)
-sheet_told (Twice line) fault is = (cc, λ no. cc)
-sheet_told (LeafHasKids line) fault is = (cc, λ no. cc)
-sheet_told (Tree line f) fault is = (cc, λ no. cc)
-sheet_told NoSheetMemory fault is = absurd (cc)
+pub sheet_reported : (e fault : SheetFault) → of_sheet e ≡ Sheet fault → (e ≡ fault) × (e ≢ NoSheetMemory)
+sheet_reported (BadLine line hint) fault is = (cc, λ no. cc)
+sheet_reported (Twice line) fault is = (cc, λ no. cc)
+sheet_reported (LeafHasKids line) fault is = (cc, λ no. cc)
+sheet_reported (Tree line f) fault is = (cc, λ no. cc)
+sheet_reported NoSheetMemory fault is = absurd (cc)

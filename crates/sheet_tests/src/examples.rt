@@ -11,10 +11,10 @@ use std::test::Fail;
 use text_io::{FallibleIo, TextReader, TextWriter, read_whole, write_whole};
 
 #[test]
-fn faults_are_told(rt: HostRuntime) {
+fn faults_are_reported(rt: HostRuntime) {
     let fault = GrantsFault::WrongPath(2);
-    let told = format!(in rt.alloc(); "{fault}").expect(&rt, "memory");
-    holds(&rt, told.as_str() == "line 2: WrongPath");
+    let reported = format!(in rt.alloc(); "{fault}").expect(&rt, "memory");
+    holds(&rt, reported.as_str() == "line 2: WrongPath");
 }
 
 #[test]

@@ -14,16 +14,16 @@ const NAME: &str = "sheets";
 
 /// Reports the ending on standard error, and returns its status. If nobody reads the output any more, that is not
 /// reported as a fault.
-fn told<W: Write>(rt: &HostRuntime, ending: &Exit<'_>, output: &FallibleIo<Noted<W>>) -> u8 {
+fn reported<W: Write>(rt: &HostRuntime, ending: &Exit<'_>, output: &FallibleIo<Noted<W>>) -> u8 {
     if output.0.is_closed() {
         return NOBODY_READS;
     }
-    let told = ErrorText {
+    let reported = ErrorText {
         name: NAME,
         ending,
         output: output.0.error(),
     };
-    let _ = eprint!(rt; "{told}");
+    let _ = eprint!(rt; "{reported}");
     ending.status()
 }
 
@@ -32,11 +32,11 @@ fn run_line(rt: &HostRuntime) -> u8 {
     let mut output = FallibleIo(Noted::new(io::writer(rt)));
     let texts = match line_words(rt) {
         Ok(texts) => texts,
-        Err(ending) => return told(rt, &ending, &output),
+        Err(ending) => return reported(rt, &ending, &output),
     };
     let words = match as_words(rt.alloc(), texts.as_slice()) {
         Ok(words) => words,
-        Err(ending) => return told(rt, &ending, &output),
+        Err(ending) => return reported(rt, &ending, &output),
     };
     let ending = run_sheets(
         rt.alloc(),
@@ -44,7 +44,7 @@ fn run_line(rt: &HostRuntime) -> u8 {
         &mut Machine { rt },
         &mut output,
     );
-    told(rt, &ending, &output)
+    reported(rt, &ending, &output)
 }
 
 fn main(rt: HostRuntime) -> ExitCode {

@@ -14,8 +14,8 @@ use Rattle.sheets_program.specs.Runs.{IsCheckFault, IsGrantsFaultIn, IsJudged, I
 
 -- what holds of a text that is known
 if_known : (P : List ℕ → Type 0) (text : Option (List ℕ)) → ((known : List ℕ) → text ≡ Some known → P known) → IfSome text P
-if_known P None told = tt
-if_known P (Some known) told = told known refl
+if_known P None reported = tt
+if_known P (Some known) reported = reported known refl
 
 pub share_fault : (gives : Octets) (text : Option (List ℕ)) (fault : ShareFault) → gives text
     → ((why : _) → fault ≡ Sheet why → (known : List ℕ) → text ≡ Some known → IsSheetFaultOf known why)
@@ -26,19 +26,19 @@ share_fault gives text (Text ReadFault) given sheet long = tt
 share_fault gives text (Text WriteFault) given sheet long = tt
 share_fault gives text (Text Memory) given sheet long = tt
 
-grants_told : (sheet_text grants_text : Option (List ℕ)) (why : _)
+grants_reported : (sheet_text grants_text : Option (List ℕ)) (why : _)
     → ((known also : List ℕ) → sheet_text ≡ Some known → grants_text ≡ Some also → IsGrantsFaultOf known also why)
     → IsGrantsFaultIn sheet_text grants_text why
-grants_told None grants_text why told = tt
-grants_told (Some known) None why told = tt
-grants_told (Some known) (Some also) why told = told known also refl refl
+grants_reported None grants_text why reported = tt
+grants_reported (Some known) None why reported = tt
+grants_reported (Some known) (Some also) why reported = reported known also refl refl
 
 pub check_fault : (sheet grants : Octets) (sheet_text grants_text : Option (List ℕ)) (fault : CheckFault) → sheet sheet_text → grants grants_text
     → ((why : _) → fault ≡ check.Sheet why → (known : List ℕ) → sheet_text ≡ Some known → IsSheetFaultOf known why)
     → ((why : _) → fault ≡ check.Grants why → (known also : List ℕ) → sheet_text ≡ Some known → grants_text ≡ Some also → IsGrantsFaultOf known also why)
     → IsCheckFault sheet grants fault
 check_fault sheet grants sheet_text grants_text (check.Sheet why) given also faulty wrong = (sheet_text, given, if_known _ sheet_text (faulty why refl))
-check_fault sheet grants sheet_text grants_text (check.Grants why) given also faulty wrong = (sheet_text, grants_text, given, also, grants_told sheet_text grants_text why (wrong why refl))
+check_fault sheet grants sheet_text grants_text (check.Grants why) given also faulty wrong = (sheet_text, grants_text, given, also, grants_reported sheet_text grants_text why (wrong why refl))
 check_fault sheet grants sheet_text grants_text (check.SheetText why) given also faulty wrong = tt
 check_fault sheet grants sheet_text grants_text (check.GrantsText why) given also faulty wrong = tt
 check_fault sheet grants sheet_text grants_text (check.Text why) given also faulty wrong = tt

@@ -38,8 +38,8 @@ IsOutOfMemory (Check fault cause) = ⊥
 
 -- the command line is refused with that text, or memory ran out
 abbrev pub IsRefusedAs : List ℕ → Exit → Type 0
-IsRefusedAs told (Refused text) = string_bytes text ≡ told
-IsRefusedAs told ending = IsOutOfMemory ending
+IsRefusedAs reported (Refused text) = string_bytes text ≡ reported
+IsRefusedAs reported ending = IsOutOfMemory ending
 
 -- the words of the line cannot be read: it is refused, or memory ran out
 abbrev pub IsNoLine : Exit → Type 0
@@ -48,13 +48,13 @@ IsNoLine ending = IsOutOfMemory ending
 
 -- the ending of words without a command: the help or version that they asked for is appended to the
 -- output, and a refusal is the ending
-abbrev pub IsToldEnd : WordsFault → Option (List ℕ) → Option (List ℕ) → Exit → Type 0
-IsToldEnd NoMemory old new ending = IsOutOfMemory ending
-IsToldEnd (NoCommand text is_help) old new Done =
+abbrev pub IsReportedEnd : WordsFault → Option (List ℕ) → Option (List ℕ) → Exit → Type 0
+IsReportedEnd NoMemory old new ending = IsOutOfMemory ending
+IsReportedEnd (NoCommand text is_help) old new Done =
     IsTrue is_help × Appends old new (string_bytes text)
-IsToldEnd (NoCommand text is_help) old new Flawed = ⊥
-IsToldEnd (NoCommand text is_help) old new (Refused told) = IsFalse is_help × (told ≡ text)
-IsToldEnd (NoCommand text is_help) old new (Text fault cause) =
+IsReportedEnd (NoCommand text is_help) old new Flawed = ⊥
+IsReportedEnd (NoCommand text is_help) old new (Refused reported) = IsFalse is_help × (reported ≡ text)
+IsReportedEnd (NoCommand text is_help) old new (Text fault cause) =
     IsTrue is_help × (fault ≡ WriteFault)
-IsToldEnd (NoCommand text is_help) old new (Share fault cause) = ⊥
-IsToldEnd (NoCommand text is_help) old new (Check fault cause) = ⊥
+IsReportedEnd (NoCommand text is_help) old new (Share fault cause) = ⊥
+IsReportedEnd (NoCommand text is_help) old new (Check fault cause) = ⊥

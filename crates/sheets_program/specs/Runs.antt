@@ -105,7 +105,7 @@ abbrev pub IsShareEnd : (List ℕ → Octets) → Bool → List ℕ → Option (
 IsShareEnd gives svg sheet old new Done =
     (text : Option (List ℕ)) × gives sheet text × AppendsSharing svg text old new
 IsShareEnd gives svg sheet old new Flawed = ⊥
-IsShareEnd gives svg sheet old new (Refused told) = ⊥
+IsShareEnd gives svg sheet old new (Refused reported) = ⊥
 IsShareEnd gives svg sheet old new (Text fault cause) = fault ≡ Memory
 IsShareEnd gives svg sheet old new (Share fault cause) =
     IsShareFault (gives sheet) fault × (file_of cause ≡ shared_file sheet fault)
@@ -135,7 +135,7 @@ IsCheckEnd gives sheet grants old new Done =
 IsCheckEnd gives sheet grants old new Flawed =
     ¬ IsNamedTwice sheet grants
     × ((flaw : Flaw) × IsJudged (gives sheet) (gives grants) (No flaw) old new)
-IsCheckEnd gives sheet grants old new (Refused told) = IsNamedTwice sheet grants
+IsCheckEnd gives sheet grants old new (Refused reported) = IsNamedTwice sheet grants
 IsCheckEnd gives sheet grants old new (Text fault cause) = fault ≡ Memory
 IsCheckEnd gives sheet grants old new (Share fault cause) = ⊥
 IsCheckEnd gives sheet grants old new (Check fault cause) = ¬ IsNamedTwice sheet grants

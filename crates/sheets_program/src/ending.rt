@@ -1,7 +1,7 @@
 //! The endings of a program on sheets.
 
 ghost use Rattle.std.specs.Prelude.{◌≡◌};
-ghost use Rattle.sheets_program.specs.Endings.{IsRefusedAs, IsToldEnd, IsUnwritten, status_of};
+ghost use Rattle.sheets_program.specs.Endings.{IsRefusedAs, IsReportedEnd, IsUnwritten, status_of};
 
 use crate::cause::Cause;
 use command_line::WordsFault;
@@ -64,8 +64,8 @@ impl<'w> Exit<'w> {
 }
 
 /// Returns the ending of words without a command. Help or the version, if they asked for it, is written to the output.
-pub fn tell<'w, W: TextWriter>(fault: WordsFault, output: &mut W) -> Exit<'w>
-    ensures told { IsToldEnd fault (W.contents output.old) (W.contents output.new) result }
+pub fn report<'w, W: TextWriter>(fault: WordsFault, output: &mut W) -> Exit<'w>
+    ensures reported { IsReportedEnd fault (W.contents output.old) (W.contents output.new) result }
     ensures unwritten { IsUnwritten result → output.new ≡ output.old }
 {
     let WordsFault::Refused { text, is_help } = fault else {

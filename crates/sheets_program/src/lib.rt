@@ -18,14 +18,14 @@ mod files;
 mod line;
 mod machine;
 mod noted;
+mod reported;
 mod run;
-mod told;
 
 pub use cause::{Cause, text_cause};
-pub use ending::{Exit, tell};
+pub use ending::{Exit, report};
 pub use files::{DASH, Opener, STANDARD_INPUT, is_input};
 pub use line::{as_words, line_words};
 pub use machine::{Machine, Opened, null_device};
 pub use noted::{NOBODY_READS, Noted};
+pub use reported::{ErrorText, TextReason};
 pub use run::{run_sheet_words, run_sheets};
-pub use told::{ErrorText, TextReason};

@@ -8,7 +8,7 @@ ghost use Rattle.command_line.specs.Given.{IsPlainWord, IsRefusal, IsSheetFound}
 ghost use Rattle.command_line.specs.declared.words.SheetWords.{SheetWords};
 ghost use Rattle.command_line.specs.declared.words.WordsFault.{WordsFault};
 ghost use Rattle.sheets_program.specs.Causes.{AreBothOpened, AreOpened, IsCheckReason, IsShareReason, IsSheetWhy};
-ghost use Rattle.sheets_program.specs.Endings.{IsOutOfMemory, IsToldEnd, IsUnwritten};
+ghost use Rattle.sheets_program.specs.Endings.{IsOutOfMemory, IsReportedEnd, IsUnwritten};
 ghost use Rattle.sheets_program.specs.Runs.{IsCheckEnd, IsNamedTwice, IsShareEnd, IsSheetEnd, IsShown};
 ghost use Rattle.sheet_text.specs.Sheet.{IsSheetFaultOf};
 ghost use Rattle.sheet_text.specs.declared.fault.SheetFault.{SheetFault};
@@ -16,7 +16,7 @@ ghost use Rattle.text_io.specs.Texts.{IsTextOf};
 ghost use Rattle.text_io.specs.declared.read.TheConstants.{MAX_TEXT};
 
 use crate::cause::{Cause, check_cause, share_cause};
-use crate::ending::{Exit, tell};
+use crate::ending::{Exit, report};
 use crate::files::{Opener, is_input};
 use command_line::{SheetWords, read_sheet_words};
 use grant_certificate::Verdict;
@@ -193,14 +193,14 @@ pub fn run_sheets<'w, O: Opener, W: TextWriter>(
         × IsSheetWhy (O.Gives files.old) (O.MayRefuse files.old)
         (O.MayFail files.old) (W.may_refuse output.old) command result
         × AreOpened O.Opens files.old files.new (O.MayRefuse files.old) command result) }
-    ensures told { fault_of sheets (map (λ s. s.now) words.now) ≢ [] → (fault : WordsFault)
+    ensures reported { fault_of sheets (map (λ s. s.now) words.now) ≢ [] → (fault : WordsFault)
         × IsRefusal (fault_of sheets (map (λ s. s.now) words.now)) fault
-        × IsToldEnd fault (W.contents output.old) (W.contents output.new) result
+        × IsReportedEnd fault (W.contents output.old) (W.contents output.new) result
         × (files.new ≡ files.old) }
     ensures unwritten { IsUnwritten result → output.new ≡ output.old }
 {
     match read_sheet_words(alloc, words) {
         Ok(words) => run_sheet_words(alloc, words, files, output),
-        Err(fault) => tell(fault, output),
+        Err(fault) => report(fault, output),
     }
 }

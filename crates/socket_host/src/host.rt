@@ -24,7 +24,7 @@ use control_session::{DataEvent, Host, Leaving, Piece, Session, close_by, end_by
 use event_word::{has_passed, micros};
 use ftp_terms::DataType;
 use ftp_wire::HostPort;
-use handler_hooks::{Hooks, tell};
+use handler_hooks::{Hooks, report};
 use lent_parts::PartsName;
 use line_rates::Limits;
 use rate_floors::Floors;
@@ -594,7 +594,7 @@ where
         }
         let mut handler = self.house.handler.lock(self.rt);
         handler.attend(self.peer, self.key, cause);
-        tell(&mut *handler, call);
+        report(&mut *handler, call);
     }
 
     fn write(&mut self, reply: &[u8]) -> io::Result<()> {

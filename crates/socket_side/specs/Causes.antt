@@ -42,7 +42,7 @@ module _ {R K : Type 0} where
   AbortedCause (running.Awaited listener port job since) old new = new ≡ old
   AbortedCause (running.Connecting outgoing job since) old new = new ≡ old
   AbortedCause (running.Moving connection is_aborted) old new = new ≡ old
-  AbortedCause (running.Over told) old new = new ≡ Some cause.Aborted
+  AbortedCause (running.Over reported) old new = new ≡ Some cause.Aborted
 
   -- a transfer without a connection ends by the abort itself, as does one that no lane has begun
   abbrev pub AbortCause
@@ -51,7 +51,7 @@ module _ {R K : Type 0} where
   AbortCause (running.Awaited listener port job since) after old new = new ≡ Some cause.Aborted
   AbortCause (running.Connecting outgoing job since) after old new = new ≡ Some cause.Aborted
   AbortCause (running.Moving connection is_aborted) after old new = AbortedCause after old new
-  AbortCause (running.Over told) after old new = new ≡ old
+  AbortCause (running.Over reported) after old new = new ≡ old
 
   -- a transfer without a connection may end for a reason of its own
   abbrev pub GoesCause : Running R K → Option EndCause → Option EndCause → Type 0
@@ -59,7 +59,7 @@ module _ {R K : Type 0} where
   GoesCause (running.Awaited listener port job since) old new = ⊤
   GoesCause (running.Connecting outgoing job since) old new = ⊤
   GoesCause (running.Moving connection is_aborted) old new = new ≡ old
-  GoesCause (running.Over told) old new = new ≡ old
+  GoesCause (running.Over reported) old new = new ≡ old
 
   -- the reason for the end that is taken
   abbrev pub TakenCause
@@ -68,9 +68,9 @@ module _ {R K : Type 0} where
   TakenCause (running.Awaited listener port job since) end old new = new ≡ old
   TakenCause (running.Connecting outgoing job since) end old new = new ≡ old
   TakenCause (running.Moving connection is_aborted) None old new = new ≡ old
-  TakenCause (running.Moving connection is_aborted) (Some told) old new =
-      MovedCause is_aborted told.end new
-  TakenCause (running.Over told) end old new = new ≡ old
+  TakenCause (running.Moving connection is_aborted) (Some reported) old new =
+      MovedCause is_aborted reported.end new
+  TakenCause (running.Over reported) end old new = new ≡ old
 
   -- the reason for the end that a look reports
   abbrev pub LookCause
@@ -82,4 +82,4 @@ module _ {R K : Type 0} where
   LookCause (running.Moving connection is_aborted) (Some (Ready port)) old new = ⊤
   LookCause (running.Moving connection is_aborted) (Some (Ended end sink)) old new =
       MovedCause is_aborted end new
-  LookCause (running.Over told) event old new = new ≡ old
+  LookCause (running.Over reported) event old new = new ≡ old

@@ -39,12 +39,12 @@ IsNoTarget (prepared.Target to) = ⊥
 -- the report of an end
 abbrev pub event_of : {K : Type 0} → Option (TransferEnd K) → Option (DataEvent K)
 event_of None = None
-event_of (Some told) = Some (Ended told.end told.sink)
+event_of (Some reported) = Some (Ended reported.end reported.sink)
 
 -- the octets that a transfer had moved whose end is taken
 abbrev pub IsMovedBy : {K : Type 0} → Option (TransferEnd K) → ℕ → Type 0
 IsMovedBy None moved = ⊤
-IsMovedBy (Some told) moved = moved ≡ told.moved
+IsMovedBy (Some reported) moved = moved ≡ reported.moved
 
 -- the time until the next look for a data connection, in milliseconds, by the microseconds waited
 -- so far: a tenth of these, from 20 to 200
@@ -96,7 +96,7 @@ module _ {R K : Type 0} where
   is_busy (running.Awaited listener port job since) = true
   is_busy (running.Connecting outgoing job since) = true
   is_busy (running.Moving connection is_aborted) = true
-  is_busy (running.Over told) = true
+  is_busy (running.Over reported) = true
 
   -- a transfer is on the ticket
   abbrev pub is_moving : Running R K → Bool
@@ -104,7 +104,7 @@ module _ {R K : Type 0} where
   is_moving (running.Awaited listener port job since) = false
   is_moving (running.Connecting outgoing job since) = false
   is_moving (running.Moving connection is_aborted) = true
-  is_moving (running.Over told) = false
+  is_moving (running.Over reported) = false
 
   -- it was aborted
   abbrev pub is_aborted_in : Running R K → Bool
@@ -112,7 +112,7 @@ module _ {R K : Type 0} where
   is_aborted_in (running.Awaited listener port job since) = false
   is_aborted_in (running.Connecting outgoing job since) = false
   is_aborted_in (running.Moving connection is_aborted) = is_aborted
-  is_aborted_in (running.Over told) = false
+  is_aborted_in (running.Over reported) = false
 
   -- only of an aborted transfer was a lane asked to stop it
   abbrev pub is_marked : Running R K → Ticket R K → Bool
@@ -124,13 +124,13 @@ module _ {R K : Type 0} where
   IsHandedOver job (running.Awaited listener port waiting since) = ⊥
   IsHandedOver job (running.Connecting outgoing waiting since) = ⊥
   IsHandedOver job (running.Moving connection is_aborted) = is_aborted ≡ false
-  IsHandedOver job (running.Over told) = running.Over told ≡ over NoMemory job
+  IsHandedOver job (running.Over reported) = running.Over reported ≡ over NoMemory job
 
   -- it is over since there was no memory or no connection for it; the sink of an upload comes back
   abbrev pub IsUnbegun : Job Global R K → TransferEnd K → Type 0
-  IsUnbegun job told =
-      ((told.end ≡ NoMemory) ⊎ (told.end ≡ NoConnection)) × (told.sink ≡ sink_in job)
-      × (told.moved ≡ 0)
+  IsUnbegun job reported =
+      ((reported.end ≡ NoMemory) ⊎ (reported.end ≡ NoConnection)) × (reported.sink ≡ sink_in job)
+      × (reported.moved ≡ 0)
 
   -- the same job waits at the same port since the same moment, or it was handed over, or no client
   -- came in time
@@ -140,7 +140,7 @@ module _ {R K : Type 0} where
       (again ≡ listener) × (at ≡ port) × (waiting ≡ job) × (moment ≡ since)
   IsAwaited listener port job since (running.Connecting outgoing waiting moment) = ⊥
   IsAwaited listener port job since (running.Moving connection is_aborted) = is_aborted ≡ false
-  IsAwaited listener port job since (running.Over told) = IsUnbegun job told
+  IsAwaited listener port job since (running.Over reported) = IsUnbegun job reported
 
   -- the same job waits for the client's port since the same moment, or it was handed over, or there
   -- was no connection in time
@@ -150,7 +150,7 @@ module _ {R K : Type 0} where
   IsConnecting job since (running.Connecting outgoing waiting moment) =
       (waiting ≡ job) × (moment ≡ since)
   IsConnecting job since (running.Moving connection is_aborted) = is_aborted ≡ false
-  IsConnecting job since (running.Over told) = IsUnbegun job told
+  IsConnecting job since (running.Over reported) = IsUnbegun job reported
 
   -- a transfer over what was prepared; over nothing it ends at once
   abbrev pub Starts : Prepared → Job Global R K → Running R K → Type 0
@@ -176,7 +176,7 @@ module _ {R K : Type 0} where
   Aborts view (running.Connecting outgoing job since) new = new ≡ over Aborted job
   Aborts view (running.Moving connection is_aborted) new =
       (view' : Ticket R K) × Stops view connection new view'
-  Aborts view (running.Over told) new = new ≡ running.Over told
+  Aborts view (running.Over reported) new = new ≡ running.Over reported
 
   -- only a transfer without a connection goes on by itself
   abbrev pub GoesOn : Running R K → Running R K → Type 0
@@ -184,14 +184,14 @@ module _ {R K : Type 0} where
   GoesOn (running.Connecting outgoing job since) new = IsConnecting job since new
   GoesOn running.Nothing new = new ≡ running.Nothing
   GoesOn (running.Moving connection is_aborted) new = new ≡ running.Moving connection is_aborted
-  GoesOn (running.Over told) new = new ≡ running.Over told
+  GoesOn (running.Over reported) new = new ≡ running.Over reported
 
   -- The end of a transfer on the ticket is Aborted exactly if it was aborted. The sink of an upload
   -- comes back, unless there was no memory to begin it.
   abbrev pub IsEndOf : Ticket R K → Bool → TransferEnd K → Type 0
-  IsEndOf view is_aborted told =
-      (is_aborted ≡ true → told.end ≡ Aborted) × (told.end ≡ Aborted → is_aborted ≡ true)
-      × (is_aborted ≡ false → HasSinkOf (has_upload view) told)
+  IsEndOf view is_aborted reported =
+      (is_aborted ≡ true → reported.end ≡ Aborted) × (reported.end ≡ Aborted → is_aborted ≡ true)
+      × (is_aborted ≡ false → HasSinkOf (has_upload view) reported)
 
   -- the port that a client is awaited at
   abbrev pub port_of : Running R K → Option (TcpListener × ℕ)
@@ -199,12 +199,12 @@ module _ {R K : Type 0} where
   port_of (running.Awaited listener port job since) = Some (listener, port)
   port_of (running.Connecting outgoing job since) = None
   port_of (running.Moving connection is_aborted) = None
-  port_of (running.Over told) = None
+  port_of (running.Over reported) = None
 
   -- the report of a lane on a transfer on the ticket
   abbrev pub IsReported : Ticket R K → Bool → TransferEnd K → Type 0
-  IsReported view is_aborted told =
-      (told.end ≡ Aborted → is_aborted ≡ true) × HasSinkOf (has_upload view) told
+  IsReported view is_aborted reported =
+      (reported.end ≡ Aborted → is_aborted ≡ true) × HasSinkOf (has_upload view) reported
 
   -- an end is taken as it is known to the session, or as a lane reports it
   abbrev pub Takes : Ticket R K → Running R K → Taken K → Running R K → Type 0
@@ -215,11 +215,11 @@ module _ {R K : Type 0} where
       (found ≡ taken.Nothing) × (new ≡ running.Connecting outgoing job since)
   Takes view (running.Moving connection is_aborted) taken.Nothing new =
       new ≡ running.Moving connection is_aborted
-  Takes view (running.Moving connection is_aborted) (taken.Unbegun told) new = ⊥
-  Takes view (running.Moving connection is_aborted) (taken.Reported told aborted fault) new =
-      (new ≡ running.Nothing) × (aborted ≡ is_aborted) × IsReported view is_aborted told
-  Takes view (running.Over told) found new =
-      (found ≡ taken.Unbegun told) × (new ≡ running.Nothing)
+  Takes view (running.Moving connection is_aborted) (taken.Unbegun reported) new = ⊥
+  Takes view (running.Moving connection is_aborted) (taken.Reported reported aborted fault) new =
+      (new ≡ running.Nothing) × (aborted ≡ is_aborted) × IsReported view is_aborted reported
+  Takes view (running.Over reported) found new =
+      (found ≡ taken.Unbegun reported) × (new ≡ running.Nothing)
 
   -- an end is taken once, and then nothing runs
   abbrev pub TakesEnd
@@ -233,7 +233,7 @@ module _ {R K : Type 0} where
       new ≡ running.Moving connection is_aborted
   TakesEnd view (running.Moving connection is_aborted) (Some end) new =
       (new ≡ running.Nothing) × IsEndOf view is_aborted end
-  TakesEnd view (running.Over told) end new = (end ≡ Some told) × (new ≡ running.Nothing)
+  TakesEnd view (running.Over reported) end new = (end ≡ Some reported) × (new ≡ running.Nothing)
 
   -- a look: the transfer goes on, and its end is taken, with the octets that it had moved; what was
   -- on the ticket before stays there
@@ -255,8 +255,8 @@ module _ {R K : Type 0} where
   Settles (running.Moving connection is_aborted) event moved =
       (end : TransferEnd K) × (event ≡ Some (Ended end.end end.sink)) × (moved ≡ end.moved)
       × (IsTrue is_aborted → end.end ≡ Aborted)
-  Settles (running.Over told) event moved =
-      (event ≡ Some (Ended told.end told.sink)) × (moved ≡ told.moved)
+  Settles (running.Over reported) event moved =
+      (event ≡ Some (Ended reported.end reported.sink)) × (moved ≡ reported.moved)
 
   -- true if there is something to report; either value for a moving transfer
   abbrev pub RestsOn : Running R K → Bool → Type 0
@@ -264,4 +264,4 @@ module _ {R K : Type 0} where
   RestsOn (running.Awaited listener port job since) result = result ≡ false
   RestsOn (running.Connecting outgoing job since) result = result ≡ false
   RestsOn (running.Moving connection is_aborted) result = ⊤
-  RestsOn (running.Over told) result = result ≡ true
+  RestsOn (running.Over reported) result = result ≡ true

@@ -131,8 +131,8 @@ impl<'h, S: Store<Global>> SessionRun<'h, S> {
                 None
             }
             Running::Nothing => None,
-            Running::Over(told) => {
-                self.running = Running::Over(told);
+            Running::Over(reported) => {
+                self.running = Running::Over(reported);
                 None
             }
         }
@@ -145,15 +145,15 @@ impl<'h, S: Store<Global>> SessionRun<'h, S> {
         let before = mem::replace(&mut self.running, Running::Nothing);
         match before {
             Running::Nothing => Taken::Nothing,
-            Running::Over(told) => Taken::Unbegun(told),
+            Running::Over(reported) => Taken::Unbegun(reported),
             Running::Moving {
                 connection,
                 is_aborted,
             } => match self.owner.take_end() {
-                Some(told) => {
+                Some(reported) => {
                     let fault = connection.fault();
                     drop(connection);
-                    Taken::Reported(told, is_aborted, fault)
+                    Taken::Reported(reported, is_aborted, fault)
                 }
                 None => {
                     self.running = Running::Moving {

@@ -64,7 +64,7 @@ fn pause_after(waited: u64) -> u64
 // The end of a transfer: that which its lane reports, or `Aborted` if it was aborted.
 fn end_of(is_aborted: bool, end: End) -> End
     ensures aborted { IsTrue is_aborted → result ≡ Aborted }
-    ensures told { is_aborted ≡ false → result ≡ end }
+    ensures reported { is_aborted ≡ false → result ≡ end }
 {
     if is_aborted { End::Aborted } else { end }
 }
@@ -451,12 +451,12 @@ where
     {
         match self.run.take_end() {
             Taken::Nothing => None,
-            Taken::Unbegun(told) => {
-                self.moved = told.moved;
-                Some(told)
+            Taken::Unbegun(reported) => {
+                self.moved = reported.moved;
+                Some(reported)
             }
-            Taken::Reported(told, is_aborted, fault) => {
-                let TransferEnd { end, sink, moved } = told;
+            Taken::Reported(reported, is_aborted, fault) => {
+                let TransferEnd { end, sink, moved } = reported;
                 self.cause = cause_of(is_aborted, end, fault);
                 self.moved = moved;
                 Some(TransferEnd {
@@ -493,7 +493,7 @@ where
                     since,
                 },
             ) => self.await_answer(outgoing, job, since, user),
-            Some(Running::Over(told)) => self.run.running = Running::Over(told),
+            Some(Running::Over(reported)) => self.run.running = Running::Over(reported),
             Some(Running::Moving { .. }) => unreachable!(),
             Some(Running::Nothing) | None => {}
         }

@@ -110,7 +110,7 @@ impl<R: Wait + AllocGlobal, N> StatusKeeper<R, N> {
 impl<R: Wait + AllocGlobal + Drop, N: Hooks> Hooks for StatusKeeper<R, N> {
     ghost use Rattle.std.specs.Prelude.{⊤};
 
-    ghost Told = { λ _ _ _. ⊤ };
+    ghost Reported = { λ _ _ _. ⊤ };
 
     fn on_connect(&mut self) {
         self.within.on_connect();

@@ -5,7 +5,7 @@ ghost use Rattle.lane_desk.specs.AllLanes.{AreSeats};
 ghost use Rattle.desk_rule.specs.Lanes.{posted_in};
 ghost use Rattle.lane_desk.specs.Seats.{desk_id};
 ghost use Rattle.lane_desk.specs.Posted.{AllAnswered};
-ghost use Rattle.lane_desk.specs.Turns.{turns, back, IsRoundOf};
+ghost use Rattle.lane_desk.specs.Traces.{traces, back, IsRoundOf};
 
 use grant_ledger::{Book, Grant, MAX_ISSUED, Settled, Tally, settle};
 use lane_desk::{
@@ -24,8 +24,8 @@ pub struct CheckedDesk<N, A: Allocator = Global> {
     tally: Tally<N>,
     ghost own: { AreSeats (desk_id desk) desk.lanes seats.items },
     ghost led: { IsRoundOf desk round × (back round ≡ []) },
-    ghost answered: { AllAnswered (turns round) },
-    ghost issued: { posted_in (turns round) ≤ book.issued },
+    ghost answered: { AllAnswered (traces round) },
+    ghost issued: { posted_in (traces round) ≤ book.issued },
 }
 
 #[tactic(auto, using(crate::proofs::OwnSeats::fresh_are, crate::proofs::OwnSeats::set_are, crate::proofs::OwnSeats::seat_at))]

@@ -13,7 +13,7 @@ use std::alloc::Allocator;
 pub struct OwnSeat<N> {
     seat: LaneSeat<N>,
     tally: Tally<N>,
-    ghost told: { tally.moved + tally.back ≡ sum (seat_view seat).taken },
+    ghost reported: { tally.moved + tally.back ≡ sum (seat_view seat).taken },
 }
 
 impl<N> OwnSeat<N> {

@@ -4,7 +4,7 @@ ghost use Rattle.std.specs.Prelude.{◌≡◌, ◌+◌, ◌≤◌, [], IfSome, v
 ghost use Rattle.lane_desk.specs.Open.{AreFresh};
 ghost use Rattle.desk_rule.specs.Lanes.{fresh};
 ghost use Rattle.lane_desk.specs.Seats.{desk_id, seat_view, IsSeatOf};
-ghost use Rattle.lane_desk.specs.Turns.{back, IsRoundOf};
+ghost use Rattle.lane_desk.specs.Traces.{back, IsRoundOf};
 
 use crate::own::OwnSeat;
 use grant_ledger::Settled;

@@ -2,7 +2,7 @@
 
 use crate::fault::Fault;
 use crate::made::{make_floors, make_store};
-use crate::told::{Actions, Job, put, put_answer, put_connect, put_hook, put_job, put_octets};
+use crate::reported::{Actions, Job, put, put_answer, put_connect, put_hook, put_job, put_octets};
 use ftp_terms::EntryKind;
 use memory_store::{MemSink, MemSource, MemStore};
 use rate_floors::Floors;
@@ -25,7 +25,7 @@ pub(crate) struct Hall {
     /// The sink of the upload that runs.
     sink: Option<MemSink<Global>>,
     /// Actions that are not printed yet.
-    pub told: Vec<u8>,
+    pub reported: Vec<u8>,
 }
 
 fn written(mut sink: MemSink<Global>, octets: &[u8]) -> Result<MemSink<Global>, Fault> {
@@ -48,7 +48,7 @@ impl Hall {
             has_other: false,
             moment: 0,
             sink: None,
-            told: Vec::new(alloc),
+            reported: Vec::new(alloc),
         })
     }
 
@@ -67,7 +67,7 @@ impl Hall {
     }
 
     pub fn note(&mut self, text: &str) -> Result<(), Fault> {
-        put(&mut self.told, text)
+        put(&mut self.reported, text)
     }
 
     /// Returns the sink that comes back, with the octets that arrived.
@@ -90,21 +90,21 @@ impl Hall {
         action: Action<Global, MemSource<Global>, MemSink<Global>>,
     ) -> Result<(), Fault> {
         match action {
-            Action::Say(answer) => put_answer(&mut self.told, answer),
+            Action::Say(answer) => put_answer(&mut self.reported, answer),
             Action::Start(job) => self.start(job),
             Action::OpenPassive => self.note("[passive]\r\n"),
-            Action::ConnectTo(to) => put_connect(&mut self.told, self.alloc, to),
+            Action::ConnectTo(to) => put_connect(&mut self.reported, self.alloc, to),
             Action::DropData => self.note("[drop]\r\n"),
             Action::Abort => self.note("[abort]\r\n"),
             Action::CloseControl => self.note("[close]\r\n"),
             Action::ReleaseFloor(user) => self.release(user),
-            Action::Hook(call) => put_hook(&mut self.told, self.alloc, &call),
+            Action::Hook(call) => put_hook(&mut self.reported, self.alloc, &call),
         }
     }
 
     /// Starts a transfer: writes its words, and keeps the sink of an upload.
     pub fn start(&mut self, job: Job) -> Result<(), Fault> {
-        put_job(&mut self.told, &mut self.sink, job)
+        put_job(&mut self.reported, &mut self.sink, job)
     }
 
     pub fn release(&mut self, user: u32) -> Result<(), Fault> {
@@ -134,7 +134,7 @@ impl Hall {
         let text = format!(in self.alloc; "{second}: ")?;
         self.note(text.as_str())?;
         let mut source = self.store.store.open_read(path, 0)?;
-        put_octets(&mut self.told, &mut source)?;
+        put_octets(&mut self.reported, &mut source)?;
         self.note("\r\n")
     }
 }

@@ -3,7 +3,7 @@
 //! `tools/random-sessions` compare the session with the session table, worked by hand and read a second time.
 //!
 //! A line that begins with a colon is a word for the program (`words.rt`), any other a line of the client. Actions are
-//! printed on lines that end with CR LF: replies as they are, and other actions in brackets (`told.rt`). `:talk` begins
+//! printed on lines that end with CR LF: replies as they are, and other actions in brackets (`reported.rt`). `:talk` begins
 //! a whole control session, which the loop of the server runs on a host of this program (`stage.rt`): the events
 //! between lines come when a word says so.
 #![tactic(auto)]
@@ -11,9 +11,9 @@
 mod fault;
 mod hall;
 mod made;
+mod reported;
 mod room;
 mod stage;
-mod told;
 mod words;
 
 use crate::fault::Fault;

@@ -13,7 +13,7 @@ ghost use Rattle.session_table.specs.Views.{is_closed};
 
 use crate::fault::Fault;
 use crate::hall::Hall;
-use crate::told::{Job, put_connect, put_hook};
+use crate::reported::{Job, put_connect, put_hook};
 use crate::words::{Word, asked};
 use authorizer::Authorizer;
 use control_session::{DataEvent, Host, Leaving, Piece, Session, close_by, end_by, step_by};
@@ -71,8 +71,8 @@ impl<R: BufRead, W: Write> Stage<R, W> {
 
     /// Prints the actions.
     pub fn print(&mut self) -> Result<(), Fault> {
-        self.writer.write_all(self.hall.told.as_slice())?;
-        self.hall.told.clear();
+        self.writer.write_all(self.hall.reported.as_slice())?;
+        self.hall.reported.clear();
         Ok(())
     }
 
@@ -252,7 +252,7 @@ impl<R: BufRead, W: Write> Host<Global> for Stage<R, W> {
     }
 
     fn note(&mut self, call: &HookCall<Global>) {
-        let done = put_hook(&mut self.hall.told, self.hall.alloc, call);
+        let done = put_hook(&mut self.hall.reported, self.hall.alloc, call);
         self.keep(done);
     }
 
@@ -260,7 +260,7 @@ impl<R: BufRead, W: Write> Host<Global> for Stage<R, W> {
         if self.is_deaf {
             return Err(io::Error::from(ErrorKind::BrokenPipe));
         }
-        self.hall.told.extend_from_slice(reply)?;
+        self.hall.reported.extend_from_slice(reply)?;
         Ok(())
     }
 
@@ -280,7 +280,7 @@ impl<R: BufRead, W: Write> Host<Global> for Stage<R, W> {
     }
 
     fn connect_to(&mut self, to: HostPort) {
-        let done = put_connect(&mut self.hall.told, self.hall.alloc, to);
+        let done = put_connect(&mut self.hall.reported, self.hall.alloc, to);
         self.keep(done);
     }
 

@@ -54,7 +54,7 @@ fn number(global: Global, number: u64) -> Result<String, StoreFault> {
 }
 
 /// The result of a call that changes nothing.
-fn tell<A: Allocator, S: Store<A>>(
+fn report<A: Allocator, S: Store<A>>(
     global: Global,
     store: &mut S,
     asked: &Asked<A>,
@@ -99,7 +99,7 @@ pub fn ask<A: Allocator, S: Store<A>>(
 {
     match asked.call {
         Call::Read(_) | Call::Names | Call::Size | Call::Modified | Call::Faults => {
-            tell(global, store, asked)
+            report(global, store, asked)
         }
         _ => {
             change(store, asked)?;
@@ -109,13 +109,13 @@ pub fn ask<A: Allocator, S: Store<A>>(
 }
 
 /// The result of a call, or the text of its fault.
-pub fn told<A: Allocator, S: Store<A>>(
+pub fn reported<A: Allocator, S: Store<A>>(
     global: Global,
     store: &mut S,
     asked: &Asked<A>,
 ) -> Result<String, StoreFault> {
     match ask(global, store, asked) {
-        Ok(told) => Ok(told),
+        Ok(reported) => Ok(reported),
         Err(fault) => Ok(format!(in global; "{fault}")?),
     }
 }

@@ -19,7 +19,7 @@ mod folders;
 mod script;
 mod scripts;
 
-pub use asking::{ask, told};
+pub use asking::{ask, reported};
 pub use calls::{Asked, Call, read_line};
 pub use folders::{fresh, inside};
 pub use script::first_unmet;

@@ -1,6 +1,6 @@
 //! A list of calls with their expected results.
 
-use crate::asking::told;
+use crate::asking::reported;
 use crate::calls::read_line;
 use std::alloc::{Allocator, Global};
 use virtual_tree::{Store, StoreFault};
@@ -14,7 +14,7 @@ fn came_out<A: Allocator + Copy, S: Store<A>>(
 ) -> Result<String, StoreFault> {
     match read_line(global, alloc, call) {
         None => Ok(format!(in global; "{call} is no call")?),
-        Some(asked) => told(global, store, &asked),
+        Some(asked) => reported(global, store, &asked),
     }
 }
 
@@ -28,9 +28,9 @@ pub fn first_unmet<A: Allocator + Copy, S: Store<A>>(
 ) -> Result<Option<String>, StoreFault> {
     for line in script.split('\n') {
         let (call, wanted) = line.split_once(" =").unwrap_or((line, ""));
-        let told = came_out(global, alloc, store, call)?;
-        if told.as_str().trim_start() != wanted.trim_start() {
-            return Ok(Some(format!(in global; "{line} (told {told})")?));
+        let reported = came_out(global, alloc, store, call)?;
+        if reported.as_str().trim_start() != wanted.trim_start() {
+            return Ok(Some(format!(in global; "{line} (told {reported})")?));
         }
     }
     Ok(None)

@@ -20,4 +20,4 @@ pub use ends::{Collected, FAULT, Inlet, MEMORY, Octets, Outlet, Scheduled};
 pub use fault::FundsFault;
 pub use funds::Funds;
 pub use sealing::sealed;
-pub use transfers::{Outcome, receive, send, told};
+pub use transfers::{Outcome, receive, reported, send};

@@ -10,7 +10,7 @@ use std::alloc::Global;
 use virtual_tree::{Sink, Source};
 
 /// Returns whether pumps moved these amounts, and only the last of them returned an end other than `More`.
-pub fn told(found: &[Pumped], moved: &[u64], last: PumpEnd) -> bool {
+pub fn reported(found: &[Pumped], moved: &[u64], last: PumpEnd) -> bool {
     let mut same = found.len() == moved.len();
     let mut end = PumpEnd::More;
     for (pumped, count) in found.iter().zip(moved) {
@@ -103,12 +103,12 @@ pub fn receive<T: Sink>(
                 let pumped = pump_in(funds.grant(*grant), &mut upload, &mut funds.tally);
                 is_sound &= is_sound_in(&upload, pumped.end) && pumps.push(pumped).is_ok();
             }
-            let told = Outcome {
+            let reported = Outcome {
                 pumps,
                 settled: funds.settle(),
                 is_sound,
             };
-            Ok((told, upload.into_sink()))
+            Ok((reported, upload.into_sink()))
         }
         Err(fault) => {
             funds.settle();

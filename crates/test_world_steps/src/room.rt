@@ -24,7 +24,7 @@ fn limits(rates: [u64; 3], groups: Vec<GroupRate>, users: Vec<UserRate>) -> Resu
     }
 }
 
-fn tell_answer<W: Write>(writer: &mut W, answer: EventAnswer) -> Result<(), Fault> {
+fn report_answer<W: Write>(writer: &mut W, answer: EventAnswer) -> Result<(), Fault> {
     match answer {
         EventAnswer::Done => writeln!(writer, "done")?,
         EventAnswer::Got => writeln!(writer, "got")?,
@@ -36,7 +36,7 @@ fn tell_answer<W: Write>(writer: &mut W, answer: EventAnswer) -> Result<(), Faul
     Ok(())
 }
 
-fn tell_fault<W: Write>(writer: &mut W, fault: StepFault) -> Result<(), Fault> {
+fn report_fault<W: Write>(writer: &mut W, fault: StepFault) -> Result<(), Fault> {
     match fault {
         StepFault::NotYet(last) => writeln!(writer, "NotYet {last}")?,
         fault => writeln!(writer, "{fault}")?,
@@ -44,7 +44,7 @@ fn tell_fault<W: Write>(writer: &mut W, fault: StepFault) -> Result<(), Fault> {
     Ok(())
 }
 
-fn tell_amounts<W: Write>(writer: &mut W, word: &str, amounts: &[u64]) -> Result<(), Fault> {
+fn report_amounts<W: Write>(writer: &mut W, word: &str, amounts: &[u64]) -> Result<(), Fault> {
     write!(writer, " {word}")?;
     for octets in amounts {
         write!(writer, " {octets}")?;
@@ -52,14 +52,14 @@ fn tell_amounts<W: Write>(writer: &mut W, word: &str, amounts: &[u64]) -> Result
     Ok(())
 }
 
-fn tell_world<W: Write>(writer: &mut W, world: &World) -> Result<(), Fault> {
+fn report_world<W: Write>(writer: &mut W, world: &World) -> Result<(), Fault> {
     let issued = world.issued();
     writeln!(writer, "issued {issued}")?;
     for lane in 0..world.lanes() {
         let (moved, back) = (world.moved(lane), world.back(lane));
         write!(writer, "lane {lane} moved {moved} back {back}")?;
-        tell_amounts(writer, "posted", world.posted(lane))?;
-        tell_amounts(writer, "taken", world.taken(lane))?;
+        report_amounts(writer, "posted", world.posted(lane))?;
+        report_amounts(writer, "taken", world.taken(lane))?;
         writeln!(writer)?;
     }
     Ok(())
@@ -91,7 +91,7 @@ impl Room {
             Line::User(row) => Ok(self.add_user(row)?),
             Line::World(lanes, rates) => self.begin(lanes, rates),
             Line::Event(event) => self.make(writer, event),
-            Line::Look => tell_world(writer, &self.world),
+            Line::Look => report_world(writer, &self.world),
         }
     }
 
@@ -114,8 +114,8 @@ impl Room {
 
     fn make<W: Write>(&mut self, writer: &mut W, event: Event) -> Result<(), Fault> {
         match self.world.step(event) {
-            Ok(answer) => tell_answer(writer, answer),
-            Err(fault) => tell_fault(writer, fault),
+            Ok(answer) => report_answer(writer, answer),
+            Err(fault) => report_fault(writer, fault),
         }
     }
 }

@@ -1,3 +1,3 @@
 pub mod Reading
-pub mod Told
+pub mod Reported
 pub mod Writing

@@ -9,8 +9,8 @@ use Rattle.transfer_log.specs.Names.{field_text}
 use Rattle.transfer_log.specs.declared.line.FileTransfer.{FileTransfer}
 
 -- the moment of the end, within the calendar
-abbrev pub told_moment : FileTransfer → ℕ
-told_moment transfer = min transfer.ended LATEST
+abbrev pub reported_moment : FileTransfer → ℕ
+reported_moment transfer = min transfer.ended LATEST
 
 -- the whole seconds of a time, at least 1
 abbrev pub whole_seconds : ℕ → ℕ
@@ -51,6 +51,6 @@ user_text transfer =
 -- the text is the line of the transfer
 pub record IsTransferLine (transfer : FileTransfer) (text : List ℕ) : Type 0 where
   pub moment : List ℕ
-  pub is_moment : IsMoment (told_moment transfer) moment
+  pub is_moment : IsMoment (reported_moment transfer) moment
   pub text_is : text ≡ moment ++ size_text transfer ++ field_text transfer.path.now
       ++ user_text transfer

@@ -1,7 +1,7 @@
 //! The fields of a line, in their order.
 
 ghost use Rattle.std.specs.Prelude.{◌≡◌, ◌++◌, OnOk, IfOk, string_bytes, ℕ, List};
-ghost use Rattle.transfer_log.specs.Lines.{IsTransferLine, access_text, ending_text, size_text, told_moment, type_text, user_text, whole_seconds};
+ghost use Rattle.transfer_log.specs.Lines.{IsTransferLine, access_text, ending_text, size_text, reported_moment, type_text, user_text, whole_seconds};
 
 use crate::moment::push_moment;
 use crate::names::push_field;

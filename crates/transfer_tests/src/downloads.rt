@@ -5,7 +5,7 @@ use data_pump::{DataOut, FailedPart, OpenFault, PumpEnd, pump_out};
 use ftp_terms::DataType;
 use line_rates::Way;
 use std::process::Abort;
-use test_transfer_ends::{FAULT, Funds, MEMORY, Octets, Outlet, Scheduled, send, told};
+use test_transfer_ends::{FAULT, Funds, MEMORY, Octets, Outlet, Scheduled, reported, send};
 
 // A source whose calls return all that they can.
 fn octets(rest: &[u8]) -> Octets<'_> {
@@ -186,7 +186,7 @@ fn expect_sent(rt: &(impl Abort + AllocGlobal), row: &Row) {
     match send(rt.alloc(), source, outlet, row.data_type, row.grants) {
         Ok(sent) => {
             let end = row.end.expect(rt, "no refusal");
-            holds(rt, sent.is_sound && told(&sent.pumps, row.moved, end));
+            holds(rt, sent.is_sound && reported(&sent.pumps, row.moved, end));
             let settled = sent.settled;
             holds(rt, settled.moved == row.wire.len() as u64);
             holds(

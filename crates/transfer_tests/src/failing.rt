@@ -4,7 +4,9 @@ use super::expect::holds;
 use data_pump::PumpEnd;
 use ftp_terms::DataType;
 use std::process::Abort;
-use test_transfer_ends::{Collected, FAULT, Inlet, Octets, Outlet, Scheduled, receive, send, told};
+use test_transfer_ends::{
+    Collected, FAULT, Inlet, Octets, Outlet, Scheduled, receive, reported, send,
+};
 
 /// A call that moves one octet.
 const ONE: Scheduled = Scheduled::Move(1);
@@ -40,7 +42,7 @@ fn expect_sent(rt: &(impl Abort + AllocGlobal), row: &Download) {
     };
     let sent = send(rt.alloc(), source, outlet, DataType::Ascii, &[4]);
     let sent = sent.expect(rt, "a download");
-    holds(rt, sent.is_sound && told(&sent.pumps, &[moved], end));
+    holds(rt, sent.is_sound && reported(&sent.pumps, &[moved], end));
     let settled = sent.settled;
     holds(rt, settled.issued == 4);
     holds(rt, settled.moved == moved && settled.back == back);
@@ -139,7 +141,7 @@ fn expect_received(rt: &(impl Abort + AllocGlobal), row: &Upload) {
     };
     let received = receive(rt.alloc(), inlet, sink, DataType::Ascii, grants);
     let (came, _sink) = received.expect(rt, "an upload");
-    holds(rt, came.is_sound && told(&came.pumps, pumps, end));
+    holds(rt, came.is_sound && reported(&came.pumps, pumps, end));
     holds(rt, came.settled.moved == moved && came.settled.back == back);
     holds(rt, collected.as_slice() == text);
 }

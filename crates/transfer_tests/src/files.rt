@@ -5,7 +5,7 @@ use data_pump::PumpEnd;
 use ftp_terms::DataType;
 use memory_store::MemStore;
 use std::process::Abort;
-use test_transfer_ends::{Inlet, Outlet, Scheduled, receive, send, told};
+use test_transfer_ends::{Inlet, Outlet, Scheduled, receive, reported, send};
 use virtual_path::VPath;
 use virtual_tree::{Sink, Source, Store, WriteMode};
 
@@ -62,7 +62,7 @@ fn receive_more(
     let (came, sink) = received.expect(rt, "an upload");
     holds(
         rt,
-        came.is_sound && told(&came.pumps, moved, PumpEnd::Ended),
+        came.is_sound && reported(&came.pumps, moved, PumpEnd::Ended),
     );
     holds(rt, store.finish(sink, 0).is_ok());
 }
@@ -104,7 +104,7 @@ fn expect_large(rt: &(impl Abort + AllocGlobal), store: &mut MemStore) {
     };
     let sent = send(rt.alloc(), source, outlet, DataType::Image, &[65_536; 2]);
     let sent = sent.expect(rt, "a download");
-    holds(rt, told(&sent.pumps, &[65_536, 4_464], PumpEnd::Ended));
+    holds(rt, reported(&sent.pumps, &[65_536, 4_464], PumpEnd::Ended));
     holds(rt, taken.as_slice() == octets.as_slice());
 }
 

@@ -4,7 +4,7 @@ use super::expect::holds;
 use data_pump::PumpEnd;
 use ftp_terms::DataType;
 use std::process::Abort;
-use test_transfer_ends::{Collected, FAULT, Inlet, MEMORY, Scheduled, receive, told};
+use test_transfer_ends::{Collected, FAULT, Inlet, MEMORY, Scheduled, receive, reported};
 
 /// An upload: the octets of the connection, and the schedules of its reads and the sink's writes; the type and the
 /// grants; and then the octets of the sink, the octets moved by each pump, the end of the last one, and the numbers of
@@ -147,7 +147,10 @@ fn expect_received(rt: &(impl Abort + AllocGlobal), row: &Row<'_>) {
     };
     let received = receive(rt.alloc(), inlet, sink, row.data_type, row.grants);
     let (came, _sink) = received.expect(rt, "an upload");
-    holds(rt, came.is_sound && told(&came.pumps, row.moved, row.end));
+    holds(
+        rt,
+        came.is_sound && reported(&came.pumps, row.moved, row.end),
+    );
     holds(rt, (came.settled.moved, came.settled.back) == row.settled);
     holds(rt, collected.as_slice() == row.text);
 }

@@ -63,7 +63,7 @@ module _ {J E : Type 0} where
   is_lane (idle o) by i seen k = absurd k
   is_lane (waiting o j) by i seen k = absurd k
   is_lane (running o r j asked) by i seen k = (o, asked, (λ q. running o (k.0 q) (k.1 q) asked), k.2)
-  is_lane (ended o j asked told e) by i seen k = absurd k
+  is_lane (ended o j asked reported e) by i seen k = absurd k
 
   -- one seat is the session's
   one_session : (ph : Phase J E) (a b : ℕ) (v w : TicketView J) → IsSession a v ph → IsSession b w ph → b ≡ a
@@ -268,13 +268,13 @@ module _ {J E : Type 0} where
         (λ hit. let f = is_ended r.phase (sym hit ∙ r.word_is) in
         let ph : Phase J E = ended f.0 f.1 f.2 f.3 f.4 in
         let mine = subst (λ (p : Phase J E). IsSession id v p) f.5 (r.each_view id v at) in
-        let told = subst (Bears permits) f.5 r.bears in (
+        let reported = subst (Bears permits) f.5 r.bears in (
           Idle,
           takes 0 (WithEnd f.4),
           subst (λ (p : Phase J E). get_elem? s.homes 0 ≡ some (home_of p)) f.5 r.home_is,
           moves s r id v Idle at ph (idle id) 1 (set s.homes 0 none) f.5 refl (taken_len s r id v Idle at) (set_here s.homes 0 none r.full) tt (refl, refl)
               (λ by u other k. session_else ph (idle id) id by v u mine (λ i seen l. l) other k),
-          ((λ _. (f.4, subst (λ (x : TicketView J). IsPermitted permits x f.4) (sym mine.3) (f.3, told.0, told.1), refl)), λ miss. absurd (miss hit)),
+          ((λ _. (f.4, subst (λ (x : TicketView J). IsPermitted permits x f.4) (sym mine.3) (f.3, reported.0, reported.1), refl)), λ miss. absurd (miss hit)),
         ))
         (λ miss. (tried v, keeps, tt, watches s r id v (tried v) at (tries r.phase id j asked b k (r.each_view id v at)), ((λ hit. absurd (miss hit)), λ _. refl)))
 
@@ -315,7 +315,7 @@ module _ {J E : Type 0} where
     looks n id c j seen k s r wide at _ = looks_at n id c j seen k s r at (ℕ_discrete (get_or s.words 0 0) 4)
 
     pub reports : (n id : ℕ) (c : List (ℕ × TicketSlot J E)) (j : J) (seen : Bool) (k : ℕ) (e : E) → permits j seen e → Allows (Kept permits) n id (Runs j seen k, (0, WithEnd e) ∷ c) 0 (λ _. 5) (λ _. spec.reports (step n 0 5 0 none) (Runs j seen k, (0, WithEnd e) ∷ c) 5)
-    reports n id c j seen k e told s r wide at _ =
+    reports n id c j seen k e reported s r wide at _ =
         let v : TicketView J = Runs j seen k in
         let f = is_lane r.phase id j seen (r.each_view id v at) in
         let ph : Phase J E = running f.0 id j f.1 in
@@ -323,7 +323,7 @@ module _ {J E : Type 0} where
           Away,
           gives,
           tt,
-          moves s r id v Away at ph ph' 5 (set s.homes 0 (some (WithEnd e))) f.2 refl (put_len s r id v Away at (WithEnd e)) (set_here s.homes 0 (some (WithEnd e)) r.full) (f.3, told) tt
+          moves s r id v Away at ph ph' 5 (set s.homes 0 (some (WithEnd e))) f.2 refl (put_len s r id v Away at (WithEnd e)) (set_here s.homes 0 (some (WithEnd e)) r.full) (f.3, reported) tt
               (λ by u other q. lane_else ph ph' by u (λ w l. l) (λ i z l. other (sym l.0)) q),
           refl,
         )

@@ -14,10 +14,10 @@ use Rattle.transfer_worker.specs.Order.{hand}
 use Rattle.transfer_worker.specs.declared.end.JobEnd.{JobEnd}
 use Rattle.transfer_worker.specs.declared.end.JobEnd.TheVariants.{ReadFault, Memory, Stopped}
 use Rattle.transfer_worker.specs.declared.job.LaneJob.{LaneJob}
-use Rattle.transfer_worker.specs.Ends.{Tells, fault_of}
+use Rattle.transfer_worker.specs.Ends.{Reports, fault_of}
 use Rattle.transfer_worker.specs.Transfers.{Flow, Known, way_in, user_of, session_of, way_of, Opens}
 use Rattle.transfer_worker.specs.Runs.{WorkerView, Turn, asks_at, Bears}
-use Rattle.transfer_worker.specs.Works.{RunsTransfer, Work, asks_in, taken_in, looks_in, moves_in, passes_in, IsWork, sitting_of, starts, told_of, Does, RunsJob, Did}
+use Rattle.transfer_worker.specs.Works.{RunsTransfer, Work, asks_in, taken_in, looks_in, moves_in, passes_in, IsWork, sitting_of, starts, reported_of, Does, RunsJob, Did}
 use Rattle.transfer_worker.proofs.Adding.{adds_none, adds_then, adds_as, adds_still}
 
 module _ {R K C : Type 0} where
@@ -41,7 +41,7 @@ module _ {R K C : Type 0} where
       pushed = refl;
       sittings_are = sym (append-nil v.lane.sittings);
       adds = adds_none v;
-      tells = λ before e. e ∙ ap (λ (l : List (ℕ × JobEnd)). Some l) (sym (append-nil before));
+      reports = λ before e. e ∙ ap (λ (l : List (ℕ × JobEnd)). Some l) (sym (append-nil before));
     }
 
     -- one job more
@@ -66,8 +66,8 @@ module _ {R K C : Type 0} where
           (sym (flat_one asks_in works job)) (sym (flat_one taken_in works job)) (sym (sum_by_push looks_in works job)) (sym (flat_one moves_in works job)) (sym (flat_one passes_in works job))
           (adds_then (flat_map asks_in works) (asks_in job) (flat_map taken_in works) (taken_in job) (sum_by looks_in works) (looks_in job) (flat_map moves_in works) (moves_in job)
           (flat_map passes_in works) (passes_in job) v u w d.adds does.adds);
-      tells = λ before e. does.tells (before ++ map told_of works) (d.tells before e)
-          ∙ ap (λ (l : List (ℕ × JobEnd)). Some l) (append_assoc before (map told_of works) (told_of job ∷ []) ∙ ap (λ (l : List (ℕ × JobEnd)). before ++ l) (sym (map-append told_of works (job ∷ []))));
+      reports = λ before e. does.reports (before ++ map reported_of works) (d.reports before e)
+          ∙ ap (λ (l : List (ℕ × JobEnd)). Some l) (append_assoc before (map reported_of works) (reported_of job ∷ []) ∙ ap (λ (l : List (ℕ × JobEnd)). before ++ l) (sym (map-append reported_of works (job ∷ []))));
     }
 
     -- a job that was opened
@@ -83,13 +83,13 @@ module _ {R K C : Type 0} where
         };
         sittings_are = r.sittings_are;
         adds = r.adds;
-        tells = r.tells;
+        reports = r.reports;
       },
     )
 
     -- a job that was not
-    pub unopened : (job : LaneJob R K C) (end : JobEnd) (v w : WorkerView) → (end ≡ ReadFault) ⊎ (end ≡ Memory) → w.lane ≡ v.lane → w.tally ≡ v.tally → w.passed ≡ v.passed → Tells v.heard w.heard (session_of job) end → RunsJob k job false v w
-    unopened job end v w fault lane tally passed tells = (
+    pub unopened : (job : LaneJob R K C) (end : JobEnd) (v w : WorkerView) → (end ≡ ReadFault) ⊎ (end ≡ Memory) → w.lane ≡ v.lane → w.tally ≡ v.tally → w.passed ≡ v.passed → Reports v.heard w.heard (session_of job) end → RunsJob k job false v w
+    unopened job end v w fault lane tally passed reports = (
       record { job = job; opening = None; turns = []; halt = None; end = end },
       refl,
       apart end fault,
@@ -100,7 +100,7 @@ module _ {R K C : Type 0} where
         };
         sittings_are = ap (λ l. l.sittings) lane ∙ sym (append-nil v.lane.sittings);
         adds = adds_still [] [] 0 [] [] v v w (adds_none v) (ap (λ l. l.asks) lane) (ap (λ l. l.taken) lane) (ap (λ l. l.looks) lane) (ap (λ t. t.moved) tally) passed;
-        tells = tells;
+        reports = reports;
       },
     )
       where

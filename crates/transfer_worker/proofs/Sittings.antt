@@ -15,7 +15,7 @@ use Rattle.desk_rule.specs.declared.view.LaneView.{LaneView}
 use Rattle.desk_rule.specs.Lanes.{sat_down}
 use Rattle.transfer_worker.specs.declared.end.JobEnd.{JobEnd}
 use Rattle.transfer_worker.specs.declared.end.JobEnd.TheVariants.{Stopped}
-use Rattle.transfer_worker.specs.Ends.{Tells, end_of}
+use Rattle.transfer_worker.specs.Ends.{Reports, end_of}
 use Rattle.transfer_worker.specs.Passes.{PassCall}
 use Rattle.transfer_worker.specs.Transfers.{Flow, Known, Pumps, ToppedUp, way_in, last_in}
 use Rattle.transfer_worker.specs.Transfers.Flow.{Sending, Receiving}
@@ -157,9 +157,9 @@ module _ {R K C : Type 0} (k : Known R K C) where
     -- a sitting whose last pump told an end
     pub ended : (now : Flow R K C) (moved : ℕ) (w z : WorkerView) (end : JobEnd) → Sits user session start v now moved w → end_of (last_in now) ≡ Some end
         → z.lane.sittings ≡ w.lane.sittings → z.lane.asks ≡ w.lane.asks → z.lane.taken ≡ w.lane.taken → z.lane.looks ≡ w.lane.looks → z.tally.moved ≡ w.tally.moved → z.passed ≡ w.passed
-        → Tells v.heard z.heard session end
+        → Reports v.heard z.heard session end
         → RunsTransfer k user session start false v z
-    ended now moved w z end s is sittings asks taken looks tally passed tells = record {
+    ended now moved w z end s is sittings asks taken looks tally passed reports = record {
       end = end;
       turns = s.turns;
       halt = None;
@@ -175,7 +175,7 @@ module _ {R K C : Type 0} (k : Known R K C) where
           (moves_of s.turns) (moves_of s.turns) (calls_of session 0 s.turns) (calls_of session 0 s.turns ++ [])
           v w (sym (append-nil (map (λ (u : Turn). u.ask) s.turns))) refl (omega arith) refl (sym (append-nil (calls_of session 0 s.turns))) s.adds)
           asks taken looks tally passed;
-      tells = tells;
+      reports = reports;
     }
 
     -- a sitting that was stopped between two pumps
@@ -183,9 +183,9 @@ module _ {R K C : Type 0} (k : Known R K C) where
         → All (Bears user session (way_in now)) (asks_at (Some halt))
         → z.lane.sittings ≡ w.lane.sittings
         → Adds (asks_at (Some halt)) [] (looks_at (Some halt)) [] (calls_at session moved (Some halt)) w z
-        → Tells v.heard z.heard session Stopped
+        → Reports v.heard z.heard session Stopped
         → RunsTransfer k user session start true v z
-    stopped now moved w z halt s ends bears sittings adds tells = record {
+    stopped now moved w z halt s ends bears sittings adds reports = record {
       end = Stopped;
       turns = s.turns;
       halt = Some halt;
@@ -204,5 +204,5 @@ module _ {R K C : Type 0} (k : Known R K C) where
           (ap (λ (n : ℕ). calls_of session 0 s.turns ++ calls_at session n (Some halt)) s.moved_is)
           (adds_then (map (λ (u : Turn). u.ask) s.turns) (asks_at (Some halt)) (map (λ (u : Turn). u.octets) s.turns) [] (looks_of s.turns) (looks_at (Some halt))
           (moves_of s.turns) [] (calls_of session 0 s.turns) (calls_at session moved (Some halt)) v w z s.adds adds);
-      tells = tells;
+      reports = reports;
     }

@@ -28,12 +28,12 @@ fault_of opening.Memory = Memory
 abbrev pub EndsAs : Go → PumpEnd → JobEnd → Type 0
 EndsAs go last end = (end_of last ≡ Some end) ⊎ ((end ≡ Stopped) × (last ≡ pump.More) × (go ≡ Stop))
 
-abbrev pub MayTell : {R K C A : Type 0} → Go → JobEnd → Ran R K C A → Type 0
-MayTell go end (Out out) = EndsAs go out.last end
-MayTell go end (In upload) = EndsAs go upload.last end
-MayTell go end Unopened = (end ≡ ReadFault) ⊎ (end ≡ Memory)
+abbrev pub MayReport : {R K C A : Type 0} → Go → JobEnd → Ran R K C A → Type 0
+MayReport go end (Out out) = EndsAs go out.last end
+MayReport go end (In upload) = EndsAs go upload.last end
+MayReport go end Unopened = (end ≡ ReadFault) ⊎ (end ≡ Memory)
 
 -- a gate that records what it is told has recorded this too, once
-abbrev pub Tells : Option (List (ℕ × JobEnd)) → Option (List (ℕ × JobEnd)) → ℕ → JobEnd → Type 0
-Tells old new session end =
+abbrev pub Reports : Option (List (ℕ × JobEnd)) → Option (List (ℕ × JobEnd)) → ℕ → JobEnd → Type 0
+Reports old new session end =
     (before : List (ℕ × JobEnd)) → old ≡ Some before → new ≡ Some (before ++ (session, end) ∷ [])

@@ -15,8 +15,8 @@ pub record IsSpent (octets moved : ℕ) (old new : TallyView) : Type 0 where
   pub back_is : new.back ≡ capped old.back (octets - moved)
 
 -- the tally adds up to everything that the seat took
-abbrev pub IsTold : TallyView → LaneView → Type 0
-IsTold tally x = tally.moved + tally.back ≡ sum x.taken
+abbrev pub IsReported : TallyView → LaneView → Type 0
+IsReported tally x = tally.moved + tally.back ≡ sum x.taken
 
 -- the seat took one grant, which was pumped and spent, and nothing else
 pub record TurnsOut {S K : Type 0} (remaining : S → Option (List ℕ))

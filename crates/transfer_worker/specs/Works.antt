@@ -11,7 +11,7 @@ use Rattle.transfer_worker.specs.declared.end.LoopEnd.{LoopEnd}
 use Rattle.transfer_worker.specs.declared.end.LoopEnd.TheVariants as work
 use Rattle.transfer_worker.specs.declared.gate.Go.TheVariants.{Stop}
 use Rattle.transfer_worker.specs.declared.job.LaneJob.{LaneJob}
-use Rattle.transfer_worker.specs.Ends.{Tells}
+use Rattle.transfer_worker.specs.Ends.{Reports}
 use Rattle.transfer_worker.specs.Passes.{PassCall, calls_until, leaves}
 use Rattle.transfer_worker.specs.Transfers.{Flow, Known, way_in, user_of, session_of, way_of, Opens, Pumps}
 use Rattle.transfer_worker.specs.Runs.{WorkerView, counted, Turn, Halt, asks_at, looks_at, calls_at, calls_of, moves_of, looks_of, Adds, Bears, AreTurns, EndsAt}
@@ -56,7 +56,7 @@ pub record RunsTransfer {R K C : Type 0} (k : Known R K C) (user session : ℕ) 
   pub adds : Adds (map (λ t. t.ask) turns ++ asks_at halt) (map (λ t. t.octets) turns)
       (looks_of turns + looks_at halt) (moves_of turns)
       (calls_of session 0 turns ++ calls_at session (counted 0 (moves_of turns)) halt) v w
-  pub tells : Tells v.heard w.heard session end
+  pub reports : Reports v.heard w.heard session end
 
 -- A job popped by a worker: the transfer as it was opened, if it was; its turns; the point at which
 -- it was stopped, if it was; and its end.
@@ -112,15 +112,15 @@ module _ {R K C : Type 0} where
   starts n (w ∷ works) = sitting_of n w.opening ++ starts (n + length (asks_in w)) works
 
   -- the report of the job to a gate
-  abbrev pub told_of : Work R K C → ℕ × JobEnd
-  told_of w = (session_of w.job, w.end)
+  abbrev pub reported_of : Work R K C → ℕ × JobEnd
+  reported_of w = (session_of w.job, w.end)
 
   pub record Does (k : Known R K C) (job : Work R K C) (v w : WorkerView) : Type 0 where
     pub is_work : IsWork k job
     pub sittings_are : w.lane.sittings
         ≡ v.lane.sittings ++ sitting_of (length v.lane.asks) job.opening
     pub adds : Adds (asks_in job) (taken_in job) (looks_in job) (moves_in job) (passes_in job) v w
-    pub tells : Tells v.heard w.heard (session_of job.job) job.end
+    pub reports : Reports v.heard w.heard (session_of job.job) job.end
 
   -- a job was run
   abbrev pub RunsJob : Known R K C → LaneJob R K C → Bool → WorkerView → WorkerView → Type 0
@@ -148,8 +148,8 @@ module _ {R K C : Type 0} where
     pub sittings_are : w.lane.sittings ≡ v.lane.sittings ++ starts (length v.lane.asks) works
     pub adds : Adds (flat_map asks_in works) (flat_map taken_in works) (sum_by looks_in works)
         (flat_map moves_in works) (flat_map passes_in works) v w
-    pub tells : (before : List (ℕ × JobEnd)) → v.heard ≡ Some before
-        → w.heard ≡ Some (before ++ map told_of works)
+    pub reports : (before : List (ℕ × JobEnd)) → v.heard ≡ Some before
+        → w.heard ≡ Some (before ++ map reported_of works)
 
   abbrev pub Works : Known R K C → LoopEnd → Hand (LaneJob R K C) → Hand (LaneJob R K C)
       → WorkerView → WorkerView → Type 0

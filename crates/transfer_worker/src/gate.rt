@@ -3,7 +3,7 @@
 ghost use Rattle.std.specs.Prelude.{◌≡◌, ℕ, List, [], ◌∷◌, Option};
 ghost use Rattle.transfer_worker.specs.declared.end.JobEnd.{JobEnd};
 ghost use Rattle.transfer_worker.specs.declared.gate.Go.{Go};
-ghost use Rattle.transfer_worker.specs.Ends.{Tells};
+ghost use Rattle.transfer_worker.specs.Ends.{Reports};
 ghost use Rattle.transfer_worker.specs.Passes.{PassCall, pass_call, Passes};
 
 use crate::end::JobEnd;
@@ -21,7 +21,7 @@ pub enum Go {
 /// The remnant of a job: its open ends, or nothing if it was not opened.
 pub trait Remnant: Drop {
     /// The ends of a job that may be reported after this answer of the last `pass`.
-    ghost may_tell: { Self → Go → JobEnd → Type 0 };
+    ghost may_report: { Self → Go → JobEnd → Type 0 };
 }
 
 /// Permits a worker to continue a job, and receives the end of the job. `Q` is what is left of the job.
@@ -57,8 +57,8 @@ pub trait Gate<Q: Remnant> {
 
     /// Receives the end of a job, once per job, with what is left of the job.
     fn done(&mut self, session: u32, end: JobEnd, ran: Q)
-        requires condition { Q.may_tell ran (last_go self.old) end }
+        requires condition { Q.may_report ran (last_go self.old) end }
         ensures last { last_go self.new ≡ last_go self.old }
-        ensures heard { Tells (heard self.old) (heard self.new) session end }
+        ensures heard { Reports (heard self.old) (heard self.new) session end }
         ensures passed { passed self.new ≡ passed self.old };
 }

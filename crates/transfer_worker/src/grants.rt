@@ -9,7 +9,7 @@ ghost use Rattle.transfer_worker.specs.declared.gate.Go.TheVariants.{Stop};
 ghost use Rattle.transfer_worker.specs.Passes.{Passes, calls_until, go_of};
 ghost use Rattle.transfer_worker.specs.Runs.{worker};
 ghost use Rattle.transfer_worker.specs.Transfers.{known, flow_of, last_in};
-ghost use Rattle.transfer_worker.specs.Turns.{IsTold};
+ghost use Rattle.transfer_worker.specs.Turns.{IsReported};
 ghost use Rattle.transfer_worker.specs.Works.{WaitsInVain, Takes};
 
 use crate::gate::{Gate, Go};
@@ -92,12 +92,12 @@ where
     D: Allocator,
     requires desk { IsSeatOf desk.now seat.old }
     requires state { (seat_view seat.old).state ≡ Asked }
-    requires told { IsTold tally.old (seat_view seat.old) }
+    requires reported { IsReported tally.old (seat_view seat.old) }
     requires more { last_in (flow_of transfer.old.running) ≡ More }
     ensures same { IsSameSeat seat.old seat.new }
     ensures user { transfer.new.user ≡ transfer.old.user }
     ensures session { transfer.new.session ≡ transfer.old.session }
-    ensures told { IsTold tally.new (seat_view seat.new) }
+    ensures reported { IsReported tally.new (seat_view seat.new) }
     ensures heard { G.heard gate.new ≡ G.heard gate.old }
     ensures none { IfNone result (WaitsInVain transfer.old.session transfer.old.moved
         (worker (seat_view seat.old) tally.old (G.heard gate.old) (G.passed gate.old))

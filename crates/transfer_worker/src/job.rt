@@ -38,7 +38,7 @@ pub enum Ran<R: Source, K: Sink, C: Read + Write + Drop, A: Allocator = Global> 
 }
 
 impl<R: Source, K: Sink, C: Read + Write + Drop, A: Allocator> Remnant for Ran<R, K, C, A> {
-    ghost use Rattle.transfer_worker.specs.Ends.{MayTell};
+    ghost use Rattle.transfer_worker.specs.Ends.{MayReport};
 
-    ghost may_tell = { λ ran go end. MayTell go end ran };
+    ghost may_report = { λ ran go end. MayReport go end ran };
 }

@@ -7,8 +7,8 @@ ghost use Rattle.desk_rule.specs.Lanes.{has_looked, has_taken};
 ghost use Rattle.grant_ledger.specs.Books.{capped};
 ghost use Rattle.lane_desk.specs.Seats.{seat_view, IsSeatOf, IsSameSeat};
 ghost use Rattle.transfer_worker.specs.declared.gate.Go.{Go};
-ghost use Rattle.transfer_worker.specs.Ends.{EndsAs, MayTell};
-ghost use Rattle.transfer_worker.specs.Turns.{IsTold};
+ghost use Rattle.transfer_worker.specs.Ends.{EndsAs, MayReport};
+ghost use Rattle.transfer_worker.specs.Turns.{IsReported};
 
 use crate::end::JobEnd;
 use crate::job::Ran;
@@ -53,10 +53,10 @@ impl<R: Source, K: Sink, C: Read + Write + Drop, A: Allocator> Running<R, K, C, 
     ) -> Option<Pumped>
         requires desk { IsSeatOf desk.now seat.old }
         requires state { (seat_view seat.old).state ≡ Asked }
-        requires told { IsTold tally.old (seat_view seat.old) }
+        requires reported { IsReported tally.old (seat_view seat.old) }
         requires more { last_in (flow_of self.old) ≡ More }
         ensures same { IsSameSeat seat.old seat.new }
-        ensures told { IsTold tally.new (seat_view seat.new) }
+        ensures reported { IsReported tally.new (seat_view seat.new) }
         ensures none { IfNone result ((seat_view seat.new ≡ has_looked (seat_view seat.old))
             × (flow_of self.new ≡ flow_of self.old) × (tally.new ≡ tally.old)) }
         ensures some { IfSome result (λ pumped. (octets : ℕ)
@@ -85,7 +85,7 @@ impl<R: Source, K: Sink, C: Read + Write + Drop, A: Allocator> Running<R, K, C, 
     // Returns the remnant of the transfer.
     fn into_ran(self) -> Ran<R, K, C, A>
         ensures ends { (go : Go) (end : JobEnd) → EndsAs go (last_in (flow_of self)) end
-            → MayTell go end result }
+            → MayReport go end result }
     {
         match self {
             Running::Out(out) => Ran::Out(out),
@@ -126,12 +126,12 @@ impl<R: Source, K: Sink, C: Read + Write + Drop, A: Allocator> Transfer<R, K, C,
     ) -> Option<Pumped>
         requires desk { IsSeatOf desk.now seat.old }
         requires state { (seat_view seat.old).state ≡ Asked }
-        requires told { IsTold tally.old (seat_view seat.old) }
+        requires reported { IsReported tally.old (seat_view seat.old) }
         requires more { last_in (flow_of self.old.running) ≡ More }
         ensures same { IsSameSeat seat.old seat.new }
         ensures user { self.new.user ≡ self.old.user }
         ensures session { self.new.session ≡ self.old.session }
-        ensures told { IsTold tally.new (seat_view seat.new) }
+        ensures reported { IsReported tally.new (seat_view seat.new) }
         ensures none { IfNone result ((seat_view seat.new ≡ has_looked (seat_view seat.old))
             × (flow_of self.new.running ≡ flow_of self.old.running) × (tally.new ≡ tally.old)
             × (self.new.moved ≡ self.old.moved)) }
@@ -162,7 +162,7 @@ impl<R: Source, K: Sink, C: Read + Write + Drop, A: Allocator> Transfer<R, K, C,
     pub(crate) fn into_ran(self) -> Ran<R, K, C, A>
         ensures ends { (go : Go) (end : JobEnd) → EndsAs go
             (last_in (flow_of self.running)) end
-            → MayTell go end result }
+            → MayReport go end result }
     {
         self.running.into_ran()
     }

@@ -6,7 +6,7 @@ ghost use Rattle.desk_rule.specs.declared.view.SeatState.TheVariants.{Free};
 ghost use Rattle.lane_desk.specs.Seats.{seat_view, IsSeatOf, IsSameSeat};
 ghost use Rattle.transfer_worker.specs.Runs.{worker};
 ghost use Rattle.transfer_worker.specs.Transfers.{known, flow_of, last_in};
-ghost use Rattle.transfer_worker.specs.Turns.{IsTold};
+ghost use Rattle.transfer_worker.specs.Turns.{IsReported};
 ghost use Rattle.transfer_worker.specs.Works.{RunsTransfer, RunsJob};
 
 use crate::end::{JobEnd, job_end, open_end};
@@ -42,11 +42,11 @@ where
     D: Allocator,
     requires desk { IsSeatOf desk.now seat.old }
     requires state { (seat_view seat.old).state ≡ Free }
-    requires told { IsTold tally.old (seat_view seat.old) }
+    requires reported { IsReported tally.old (seat_view seat.old) }
     requires more { last_in (flow_of transfer.running) ≡ More }
     requires begun { transfer.moved ≡ 0 }
     ensures same { IsSameSeat seat.old seat.new }
-    ensures told { IsTold tally.new (seat_view seat.new) }
+    ensures reported { IsReported tally.new (seat_view seat.new) }
     ensures free { result ≡ false → (seat_view seat.new).state ≡ Free }
     ensures run { RunsTransfer (known R.remaining K.collected K.target C.remaining C.contents)
         transfer.user transfer.session (flow_of transfer.running) result
@@ -103,9 +103,9 @@ where
     D: Allocator,
     requires desk { IsSeatOf desk.now seat.old }
     requires state { (seat_view seat.old).state ≡ Free }
-    requires told { IsTold tally.old (seat_view seat.old) }
+    requires reported { IsReported tally.old (seat_view seat.old) }
     ensures same { IsSameSeat seat.old seat.new }
-    ensures told { IsTold tally.new (seat_view seat.new) }
+    ensures reported { IsReported tally.new (seat_view seat.new) }
     ensures free { result ≡ false → (seat_view seat.new).state ≡ Free }
     ensures run { RunsJob (known R.remaining K.collected K.target C.remaining C.contents) job result
         (worker (seat_view seat.old) tally.old (G.heard gate.old) (G.passed gate.old))

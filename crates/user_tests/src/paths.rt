@@ -47,7 +47,7 @@ pub(crate) fn made<A: Allocator + Copy>(
 }
 
 /// The resulting path, or the fault, has this text.
-fn tells(rt: &(impl Abort + AllocGlobal), found: Result<VPath, PathFault>, wanted: &str) {
+fn reports(rt: &(impl Abort + AllocGlobal), found: Result<VPath, PathFault>, wanted: &str) {
     match found {
         Ok(path) => same(rt, &path.text(), &wanted),
         Err(fault) => reads(rt, &fault, wanted),
@@ -123,7 +123,7 @@ static NAMES: &[(&str, bool)] = &[
 
 fn check_made(rt: &(impl Abort + AllocGlobal), from: &str, making: Making, wanted: &str) {
     let from = path_of(rt, rt.alloc(), from);
-    tells(rt, made(rt, rt.alloc(), &from, making), wanted);
+    reports(rt, made(rt, rt.alloc(), &from, making), wanted);
 }
 
 /// Each of the names, a `+` before it.
@@ -189,10 +189,10 @@ fn bounds(rt: HostRuntime) {
     let long = "a".repeat(alloc, LONGEST_NAME + 1).expect(&rt, "memory");
     holds(&rt, !is_name(long.as_str()));
     let root = VPath::root(alloc);
-    tells(&rt, root.resolve(alloc, long.as_str()), TOO_LONG);
+    reports(&rt, root.resolve(alloc, long.as_str()), TOO_LONG);
     let whole = longest(&rt, alloc);
     same(&rt, &whole.text().len(), &LONGEST_PATH);
-    tells(&rt, whole.resolve(alloc, "b"), TOO_LONG);
-    tells(&rt, whole.child(alloc, "b"), TOO_LONG);
-    tells(&rt, whole.joined(alloc, &whole), TOO_LONG);
+    reports(&rt, whole.resolve(alloc, "b"), TOO_LONG);
+    reports(&rt, whole.child(alloc, "b"), TOO_LONG);
+    reports(&rt, whole.joined(alloc, &whole), TOO_LONG);
 }

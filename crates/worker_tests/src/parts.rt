@@ -3,7 +3,7 @@
 ghost use Rattle.std.specs.Prelude.{◌≡◌, ◌+◌, ℕ, Bool, true, []};
 ghost use Rattle.desk_rule.specs.Lanes.{fresh};
 ghost use Rattle.lane_desk.specs.Seats.{desk_id, seat_view, IsSeatOf};
-ghost use Rattle.lane_desk.specs.Turns.{back, IsRoundOf};
+ghost use Rattle.lane_desk.specs.Traces.{back, IsRoundOf};
 ghost use Rattle.line_rates.specs.Rates.{Rates};
 ghost use Rattle.paced_rounds.specs.History.{ended_in, history};
 ghost use Rattle.paced_rounds.specs.Seconds.{AreAllowed};

@@ -6,7 +6,7 @@ ghost use Rattle.desk_rule.specs.Lanes.{has_looked};
 ghost use Rattle.round_pace.specs.Histories.{rates_of};
 ghost use Rattle.lane_desk.specs.Seats.{desk_id, seat_view, IsSeatOf, IsSameSeat};
 ghost use Rattle.lent_parts.specs.Names.{SitsAt};
-ghost use Rattle.transfer_worker.specs.Turns.{IsTold};
+ghost use Rattle.transfer_worker.specs.Turns.{IsReported};
 
 use super::ends::{File, Kept, Line};
 use super::expect::{OfTest, holds};
@@ -46,9 +46,9 @@ impl Moving {
     ) -> Option<Pumped>
         requires desk { IsSeatOf desk.now seat.old }
         requires state { (seat_view seat.old).state ≡ Asked }
-        requires told { IsTold tally.old (seat_view seat.old) }
+        requires reported { IsReported tally.old (seat_view seat.old) }
         ensures same { IsSameSeat seat.old seat.new }
-        ensures told { IsTold tally.new (seat_view seat.new) }
+        ensures reported { IsReported tally.new (seat_view seat.new) }
         ensures none { IfNone result (seat_view seat.new ≡ has_looked (seat_view seat.old)) }
     {
         match self {
@@ -72,7 +72,7 @@ struct Lane<B: PartsName> {
     tally: Tally<OfTest>,
     name: PhantomData<B>,
     ghost named: { SitsAt B.desk B.lanes seat },
-    ghost told: { IsTold tally (seat_view seat) },
+    ghost reported: { IsReported tally (seat_view seat) },
 }
 
 impl<B: PartsName> Lane<B> {

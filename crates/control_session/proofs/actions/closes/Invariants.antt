@@ -1,5 +1,5 @@
 use Rattle.std.proofs.Common.{◌≡◌, drop}
-use Rattle.control_session.specs.Told.{closes}
+use Rattle.control_session.specs.Reported.{closes}
 use Rattle.control_session.proofs.actions.closes.Given as goal
 
 abbrev pub invariant-loop-action : goal.invariant-loop-action

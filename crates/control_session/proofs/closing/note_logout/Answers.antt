@@ -8,9 +8,9 @@ use Rattle.control_session.proofs.closing.note_logout.Goals as goal
 
 pub returns-in-Some-clause-notes : goal.returns-in-Some-clause-notes
 returns-in-Some-clause-notes g c lost =
-    let told = Noted (logged_out c.in-Some.left.name) in (
-      told ∷ [],
+    let reported = Noted (logged_out c.in-Some.left.name) in (
+      reported ∷ [],
       (c.note.new.self, c.note.ensures, refl),
-      subst (λ (l : Option (LoggedOut g.row.A.Denot)). Carries {A = g.row.A.Denot} {S = g.row.H-Store.Denot} {R = g.row.H-Source.Denot} {K = g.row.H-Sink.Denot} (logout_actions l) lost (told ∷ []) lost) (sym c.in-Some.is)
-          (told ∷ [], [], lost, refl, (refl, refl), ([], [], lost, refl, (refl, refl), (refl, refl))),
+      subst (λ (l : Option (LoggedOut g.row.A.Denot)). Carries {A = g.row.A.Denot} {S = g.row.H-Store.Denot} {R = g.row.H-Source.Denot} {K = g.row.H-Sink.Denot} (logout_actions l) lost (reported ∷ []) lost) (sym c.in-Some.is)
+          (reported ∷ [], [], lost, refl, (refl, refl), ([], [], lost, refl, (refl, refl), (refl, refl))),
     )

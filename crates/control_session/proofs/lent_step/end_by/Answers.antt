@@ -4,7 +4,7 @@ use Rattle.control_session.proofs.lent_step.end_by.Goals as goal
 
 pub returns-clause-row : goal.returns-clause-row
 returns-clause-row g c = record {
-  told = input_of c.args.event;
-  told_is = input_given g.row.A.Denot c.args.event;
+  reported = input_of c.args.event;
+  reported_is = input_given g.row.A.Denot c.args.event;
   stepped = c.take_event_silently.ensures.row c.args.users.now.users c.args.floors.now;
 }

@@ -1,4 +1,4 @@
-use Rattle.lane_desk.specs.Turns.{IsSameRound}
+use Rattle.lane_desk.specs.Traces.{IsSameRound}
 use Rattle.desk_tests.proofs.threads.lead.Given as goal
 
 abbrev pub invariant-loop-tick : goal.invariant-loop-tick

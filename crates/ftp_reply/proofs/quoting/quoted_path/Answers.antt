@@ -7,5 +7,5 @@ use Rattle.ftp_reply.proofs.quoting.quoted_path.Goals as goal
 
 pub made-requires : goal.made-requires
 made-requires g c =
-    let told : string_bytes c.push_str-2.new.self ≡ quoted c.args.path.now = grind (arith, common_steps) in
-    record { line = line_quoted c.args.path.now (string_bytes c.push_str-2.new.self) told c.requires.line }
+    let reported : string_bytes c.push_str-2.new.self ≡ quoted c.args.path.now = grind (arith, common_steps) in
+    record { line = line_quoted c.args.path.now (string_bytes c.push_str-2.new.self) reported c.requires.line }

@@ -1,13 +1,13 @@
 use Rattle.std.proofs.Common.{List, ℕ, subst, sym}
 use Rattle.ftpd_program.specs.Printing.{IsPrintOf}
-use Rattle.ftpd_program.proofs.WholeTexts.{refused_at, told}
+use Rattle.ftpd_program.proofs.WholeTexts.{refused_at, reported}
 use Rattle.ftpd_program.proofs.Scripts.{text_read}
 use Rattle.ftpd_program.proofs.printing.run_print.Goals as goal
 
 pub returns-in-Ok-write_whole-clause-printed : goal.returns-in-Ok-write_whole-clause-printed
 returns-in-Ok-write_whole-clause-printed g c =
     let prints = subst (λ (p : List ℕ). IsPrintOf c.args.print (g.L.Lookout.Shows c.args.lookout.now) c.as_slice.result.now p) (sym c.as_str.ensures.value) c.in-Ok-text_about.ensures.prints in
-    told c.args.print (g.L.Lookout.Shows c.args.lookout.now) _ _ c.in-Ok.octets.items c.as_slice.result.now c.as_str.result.now _ _
+    reported c.args.print (g.L.Lookout.Shows c.args.lookout.now) _ _ c.in-Ok.octets.items c.as_slice.result.now c.as_str.result.now _ _
     c.in-Ok.ensures.whole c.in-Ok.ensures.end c.as_slice.ensures.value prints c.in-Ok-write_whole.ensures.written
 
 pub returns-clause-write_fault : goal.returns-clause-write_fault

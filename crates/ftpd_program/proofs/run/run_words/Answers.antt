@@ -110,43 +110,43 @@ returns-in-Ok-clause-top_once g c = λ status lines n plain number are.
 pub returns-in-Err-clause-check_config : goal.returns-in-Err-clause-check_config
 returns-in-Err-clause-check_config g c = λ config plain are.
     let word = second_word c.args.words.now _ _ are in
-    (word.0, word.1, no_print (Report word.0) (g.O.Lookout.Shows c.args.files.now) _ _ _ _ _ _ (c.in-Err.ensures.check_config config plain are) c.tell.ensures.told)
+    (word.0, word.1, no_print (Report word.0) (g.O.Lookout.Shows c.args.files.now) _ _ _ _ _ _ (c.in-Err.ensures.check_config config plain are) c.report.ensures.reported)
 
 pub returns-in-Err-clause-check_config_json : goal.returns-in-Err-clause-check_config_json
 returns-in-Err-clause-check_config_json g c = λ config plain are.
     let word = second_of_three c.args.words.now _ _ _ are in
-    (word.0, word.1, no_print (ReportJson word.0) (g.O.Lookout.Shows c.args.files.now) _ _ _ _ _ _ (c.in-Err.ensures.check_config_json config plain are) c.tell.ensures.told)
+    (word.0, word.1, no_print (ReportJson word.0) (g.O.Lookout.Shows c.args.files.now) _ _ _ _ _ _ (c.in-Err.ensures.check_config_json config plain are) c.report.ensures.reported)
 
 pub returns-in-Err-clause-check_against : goal.returns-in-Err-clause-check_against
 returns-in-Err-clause-check_against g c = λ config other plain also are.
-    no_against false (g.O.Opener.Gives c.args.files.now) config other (g.W.TextWriter.may_refuse c.args.output.now) _ _ _ _ (c.in-Err.ensures.check_against config other plain also are) c.tell.ensures.told
+    no_against false (g.O.Opener.Gives c.args.files.now) config other (g.W.TextWriter.may_refuse c.args.output.now) _ _ _ _ (c.in-Err.ensures.check_against config other plain also are) c.report.ensures.reported
 
 pub returns-in-Err-clause-check_against_json : goal.returns-in-Err-clause-check_against_json
 returns-in-Err-clause-check_against_json g c = λ config other plain also are.
-    no_against true (g.O.Opener.Gives c.args.files.now) config other (g.W.TextWriter.may_refuse c.args.output.now) _ _ _ _ (c.in-Err.ensures.check_against_json config other plain also are) c.tell.ensures.told
+    no_against true (g.O.Opener.Gives c.args.files.now) config other (g.W.TextWriter.may_refuse c.args.output.now) _ _ _ _ (c.in-Err.ensures.check_against_json config other plain also are) c.report.ensures.reported
 
 pub returns-in-Err-clause-serve_ready : goal.returns-in-Err-clause-serve_ready
 returns-in-Err-clause-serve_ready g c = λ config path ready plain also third are.
-    no_serve _ (g.O.Lookout.Shows c.args.files.now) _ g.V.Server.Serves _ _ _ _ _ _ _ (c.in-Err.ensures.serve_ready config path ready plain also third are) c.tell.ensures.told
+    no_serve _ (g.O.Lookout.Shows c.args.files.now) _ g.V.Server.Serves _ _ _ _ _ _ _ (c.in-Err.ensures.serve_ready config path ready plain also third are) c.report.ensures.reported
 
 pub returns-in-Err-clause-serve_timed : goal.returns-in-Err-clause-serve_timed
 returns-in-Err-clause-serve_timed g c = λ config first second third fourth p plain one two three four are.
-    no_serve _ (g.O.Lookout.Shows c.args.files.now) _ g.V.Server.Serves _ _ _ _ _ _ _ (c.in-Err.ensures.serve_timed config first second third fourth p plain one two three four are) c.tell.ensures.told
+    no_serve _ (g.O.Lookout.Shows c.args.files.now) _ g.V.Server.Serves _ _ _ _ _ _ _ (c.in-Err.ensures.serve_timed config first second third fourth p plain one two three four are) c.report.ensures.reported
 
 pub returns-in-Err-clause-plan : goal.returns-in-Err-clause-plan
 returns-in-Err-clause-plan g c = λ config transfers plain also are.
     let word = third_word c.args.words.now _ _ _ are in
-    (word.0, word.1, no_print (Plan word.0) (g.O.Lookout.Shows c.args.files.now) _ _ _ _ _ _ (c.in-Err.ensures.plan config transfers plain also are) c.tell.ensures.told)
+    (word.0, word.1, no_print (Plan word.0) (g.O.Lookout.Shows c.args.files.now) _ _ _ _ _ _ (c.in-Err.ensures.plan config transfers plain also are) c.report.ensures.reported)
 
 pub returns-in-Err-clause-plan_json : goal.returns-in-Err-clause-plan_json
 returns-in-Err-clause-plan_json g c = λ config transfers plain also are.
     let word = third_of_four c.args.words.now _ _ _ _ are in
-    (word.0, word.1, no_print (PlanJson word.0) (g.O.Lookout.Shows c.args.files.now) _ _ _ _ _ _ (c.in-Err.ensures.plan_json config transfers plain also are) c.tell.ensures.told)
+    (word.0, word.1, no_print (PlanJson word.0) (g.O.Lookout.Shows c.args.files.now) _ _ _ _ _ _ (c.in-Err.ensures.plan_json config transfers plain also are) c.report.ensures.reported)
 
 pub returns-in-Err-clause-top : goal.returns-in-Err-clause-top
 returns-in-Err-clause-top g c = λ status plain are.
-    no_top false status ROWS (g.O.Lookout.Shows c.args.files.now) _ _ _ _ _ _ (c.in-Err.ensures.top status plain are) c.tell.ensures.told
+    no_top false status ROWS (g.O.Lookout.Shows c.args.files.now) _ _ _ _ _ _ (c.in-Err.ensures.top status plain are) c.report.ensures.reported
 
 pub returns-in-Err-clause-top_once : goal.returns-in-Err-clause-top_once
 returns-in-Err-clause-top_once g c = λ status lines n plain number are.
-    no_top true status n (g.O.Lookout.Shows c.args.files.now) _ _ _ _ _ _ (c.in-Err.ensures.top_once status lines n plain number are) c.tell.ensures.told
+    no_top true status n (g.O.Lookout.Shows c.args.files.now) _ _ _ _ _ _ (c.in-Err.ensures.top_once status lines n plain number are) c.report.ensures.reported

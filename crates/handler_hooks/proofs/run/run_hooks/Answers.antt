@@ -13,13 +13,13 @@ loop-action-preserved g c = λ end rest.
     ∙ ap (λ j. get_or actions i action ∷ drop j actions) (sym (add-one i))
     ∙ ap (λ x. x ∷ drop (i + 1) actions) (sym c.action-item.is) in
     c.loop-action.invariant end
-    (subst (λ xs. AllLeave g.H.Hooks.Told c.loop-action.hooks xs end) (sym first)
-    (c.tell_action.new.hooks, c.tell_action.ensures.left, rest))
+    (subst (λ xs. AllLeave g.H.Hooks.Reported c.loop-action.hooks xs end) (sym first)
+    (c.report_action.new.hooks, c.report_action.ensures.left, rest))
 
 pub returns : goal.returns
 returns g c = record {
   left =
       c.loop-action.invariant c.loop-action.hooks
-      (subst (λ xs. AllLeave g.H.Hooks.Told c.loop-action.hooks xs c.loop-action.hooks)
+      (subst (λ xs. AllLeave g.H.Hooks.Reported c.loop-action.hooks xs c.loop-action.hooks)
       (sym (drop_all c.loop-action.action-index c.args.actions.now c.loop-action-test.false)) refl);
 }

@@ -1,6 +1,6 @@
 use Rattle.std.proofs.Common.{◌≡◌, ◌≤◌, List, length, Option}
 use Rattle.line_rates.specs.declared.ask.Ask.{Ask}
-use Rattle.lane_desk.specs.Turns.{turns, IsSameRound}
+use Rattle.lane_desk.specs.Traces.{traces, IsSameRound}
 use Rattle.lane_desk.specs.Tried.{is_given, tried, asks_from, AreMarks, AreOfGiven}
 use Rattle.lane_desk.proofs.collect.collect_all.Given as goal
 
@@ -11,7 +11,7 @@ invariant-loop-lane g l =
       count : length found ≡ l.lane;
       same : IsSameRound l.fn.round l.round;
       only : AreOfGiven (is_given l.fn.given) found;
-      turned : turns l.round ≡ tried (is_given l.fn.given) found (turns l.fn.round);
+      turned : traces l.round ≡ tried (is_given l.fn.given) found (traces l.fn.round);
       room : length l.asks.asks ≤ l.lane;
       asks_are : l.asks.asks ≡ asks_from 0 found;
       marks : AreMarks found l.asks.answered;

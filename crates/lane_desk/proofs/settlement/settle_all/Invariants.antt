@@ -1,7 +1,7 @@
 use Rattle.std.proofs.Common.{◌≡◌, ◌+◌, ◌++◌, List, length, reverse}
 use Rattle.lane_desk.specs.declared.worked.Worked.{Worked}
 use Rattle.desk_rule.specs.Lanes.{posted_in}
-use Rattle.lane_desk.specs.Turns.{turns, back, IsRoundOf}
+use Rattle.lane_desk.specs.Traces.{traces, back, IsRoundOf}
 use Rattle.lane_desk.specs.Close.{AllSettled}
 use Rattle.lane_desk.specs.AllLanes.{taken_in_all}
 use Rattle.lane_desk.specs.Workers.{moved_by_all}
@@ -14,8 +14,8 @@ invariant-loop-worked g l =
       order : done ++ reverse l.workers.items ≡ l.fn.workers.items;
       desk : IsRoundOf l.desk l.round;
       count : length (back l.round) ≡ length done;
-      settled : AllSettled (turns l.round) (back l.round);
-      posted : posted_in (turns l.round) ≡ posted_in (turns l.fn.rounds.desk);
+      settled : AllSettled (traces l.round) (back l.round);
+      posted : posted_in (traces l.round) ≡ posted_in (traces l.fn.rounds.desk);
       moved : l.tally.moved ≡ l.fn.rounds.tally.moved + moved_by_all done;
       sums : l.tally.moved + l.tally.back ≡ l.fn.rounds.tally.moved + l.fn.rounds.tally.back + taken_in_all (back l.round);
     }

@@ -1,7 +1,7 @@
 use Rattle.std.proofs.Common.{◌≡◌, ◌+◌, ◌≤◌, length}
 use Rattle.std.specs.Prelude.{vec_capacity}
 use Rattle.lane_desk.specs.Workers.{AreWorkers, moved_by_all}
-use Rattle.lent_parts.specs.Told.{moved_by_lent}
+use Rattle.lent_parts.specs.Reported.{moved_by_lent}
 use Rattle.lent_parts.proofs.settlement.gather.Given as goal
 
 abbrev pub invariant-loop-worker : goal.invariant-loop-worker

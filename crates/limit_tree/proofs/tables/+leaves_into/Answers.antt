@@ -7,7 +7,7 @@ use Rattle.limit_tree.specs.declared.place.NodeKind.TheVariants.{Branch, Leaf}
 use Rattle.limit_tree.specs.declared.place.Place.{Place}
 use Rattle.limit_tree.specs.declared.node.Node.TheViews.{the_lemmas}
 use Rattle.limit_tree.proofs.Places.{places_of_all, own_leaves, leaf_count_out, leaf_count_of_all-drop}
-use Rattle.limit_tree.proofs.Told.{told, told-out, table-more}
+use Rattle.limit_tree.proofs.Reported.{reported, reported-out, table-more}
 use Rattle.limit_tree.proofs.tables.+leaves_into.Goals as goal
 
 pub loop-kid-init : goal.loop-kid-init
@@ -19,8 +19,8 @@ loop-kid-init g t c =
       next = omega (arith, leaf_count_out node, ap own_leaves kind, ap leaf_count below);
       size = omega arith;
       floors_size = omega arith;
-      wants = ap (λ (ws : List ℕ). take c.args.first c.args.wants.now ++ ws) (sym (told-out leaf_want node ∙ (ap (λ (k : NodeKind). cons_option (leaf_want k) (told leaf_want (places_of_all (kids_of node)))) kind ∙ ap (told leaf_want) below)));
-      floors = ap (λ (fs : List ℕ). take c.args.first c.args.floors.now ++ fs) (sym (told-out leaf_floor node ∙ (ap (λ (k : NodeKind). cons_option (leaf_floor k) (told leaf_floor (places_of_all (kids_of node)))) kind ∙ ap (told leaf_floor) below)));
+      wants = ap (λ (ws : List ℕ). take c.args.first c.args.wants.now ++ ws) (sym (reported-out leaf_want node ∙ (ap (λ (k : NodeKind). cons_option (leaf_want k) (reported leaf_want (places_of_all (kids_of node)))) kind ∙ ap (reported leaf_want) below)));
+      floors = ap (λ (fs : List ℕ). take c.args.first c.args.floors.now ++ fs) (sym (reported-out leaf_floor node ∙ (ap (λ (k : NodeKind). cons_option (leaf_floor k) (reported leaf_floor (places_of_all (kids_of node)))) kind ∙ ap (reported leaf_floor) below)));
     }
 
 pub loop-kid-preserved : goal.loop-kid-preserved
@@ -43,7 +43,7 @@ returns-in-Leaf-clause-wants g t c =
     let none : places_of_all (kids_of node) ≡ [] = search (rules, the_lemmas) in
     let inside : c.args.first < length c.args.wants.now = omega (arith, c.requires.room, leaf_count_out node, ap own_leaves kind) in
     take_more_set c.args.wants.now c.args.first c.in-Leaf.want inside ∙
-    ap (λ (ws : List ℕ). take c.args.first c.args.wants.now ++ ws) (sym (told-out leaf_want node ∙ (ap (λ (k : NodeKind). cons_option (leaf_want k) (told leaf_want (places_of_all (kids_of node)))) kind ∙ ap (λ (ps : List Place). c.in-Leaf.want ∷ told leaf_want ps) none)))
+    ap (λ (ws : List ℕ). take c.args.first c.args.wants.now ++ ws) (sym (reported-out leaf_want node ∙ (ap (λ (k : NodeKind). cons_option (leaf_want k) (reported leaf_want (places_of_all (kids_of node)))) kind ∙ ap (λ (ps : List Place). c.in-Leaf.want ∷ reported leaf_want ps) none)))
 
 pub returns-in-Leaf-clause-floors : goal.returns-in-Leaf-clause-floors
 returns-in-Leaf-clause-floors g t c =
@@ -52,7 +52,7 @@ returns-in-Leaf-clause-floors g t c =
     let none : places_of_all (kids_of node) ≡ [] = search (rules, the_lemmas) in
     let inside : c.args.first < length c.args.floors.now = omega (arith, c.requires.room, c.requires.tables, leaf_count_out node, ap own_leaves kind) in
     take_more_set c.args.floors.now c.args.first c.in-Leaf.floor inside ∙
-    ap (λ (fs : List ℕ). take c.args.first c.args.floors.now ++ fs) (sym (told-out leaf_floor node ∙ (ap (λ (k : NodeKind). cons_option (leaf_floor k) (told leaf_floor (places_of_all (kids_of node)))) kind ∙ ap (λ (ps : List Place). c.in-Leaf.floor ∷ told leaf_floor ps) none)))
+    ap (λ (fs : List ℕ). take c.args.first c.args.floors.now ++ fs) (sym (reported-out leaf_floor node ∙ (ap (λ (k : NodeKind). cons_option (leaf_floor k) (reported leaf_floor (places_of_all (kids_of node)))) kind ∙ ap (λ (ps : List Place). c.in-Leaf.floor ∷ reported leaf_floor ps) none)))
 
 pub bounds-wants-first : goal.bounds-wants-first
 bounds-wants-first g t c =

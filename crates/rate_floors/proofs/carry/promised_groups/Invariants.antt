@@ -6,5 +6,5 @@ use Rattle.rate_floors.proofs.carry.promised_groups.Given as goal
 abbrev pub invariant-loop-entry : goal.invariant-loop-entry
 invariant-loop-entry g l = record {
   rows : map group_row l.groups.items ≡ l.rows;
-  told : All (IsPromised (take l.entry-index l.users)) l.groups.items;
+  reported : All (IsPromised (take l.entry-index l.users)) l.groups.items;
 }

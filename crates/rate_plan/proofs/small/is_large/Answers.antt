@@ -5,4 +5,4 @@ use Rattle.rate_plan.specs.declared.tens.TheConstants.{MAX_PLANNED}
 use Rattle.rate_plan.proofs.small.is_large.Goals as goal
 
 pub returns-clause-large : goal.returns-clause-large
-returns-clause-large g c = λ told. (c.args.name, omega (arith, ltb-true 109951162777 c.rate.result told, c.rate.ensures.rate))
+returns-clause-large g c = λ reported. (c.args.name, omega (arith, ltb-true 109951162777 c.rate.result reported, c.rate.ensures.rate))

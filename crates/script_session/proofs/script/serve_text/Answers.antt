@@ -7,7 +7,7 @@ use Rattle.session_host.specs.Sessions.{IsServed, new_session}
 use Rattle.session_host.specs.Silent.{StaysSilent}
 use Rattle.script_session.specs.Scripts.{AnswersScript, IsScript, ReadsZero, home_address, script_parts, unasked}
 use Rattle.script_session.proofs.Ending.{ends_as}
-use Rattle.script_session.proofs.Scripting.{script_told}
+use Rattle.script_session.proofs.Scripting.{script_reported}
 use Rattle.script_session.proofs.script.serve_text.Goals as goal
 
 pub returns-clause-whole : goal.returns-clause-whole
@@ -28,6 +28,6 @@ returns-clause-script g c =
     (g.R.TextReader.remaining c.args.reader.now) (g.R.TextReader.remaining last.reader)
     (g.W.TextWriter.contents c.args.writer.now) (g.W.TextWriter.contents last.writer) c.run_alone.result)
     host.side.now host.store.now _ c.args.floors.now c.args.floors.now host.reader.now _ host.writer.now _ (search rules) refl (search rules) (search rules)
-    (script_told c.args.users.now.users c.args.settings c.args.port g.R.TextReader.remaining g.W.TextWriter.contents c.run_alone.result
+    (script_reported c.args.users.now.users c.args.settings c.args.port g.R.TextReader.remaining g.W.TextWriter.contents c.run_alone.result
     c.args.store.now host.store.now c.args.floors.now host.floors.now host.side.now c.args.reader.now host.reader.now c.args.writer.now host.writer.now
-    c.run_alone.ensures.floors c.run_alone.ensures.told)
+    c.run_alone.ensures.floors c.run_alone.ensures.reported)

@@ -59,15 +59,15 @@ returns-in-Err-make_store-clause-refused c =
     (moved (λ (g : List GroupTable) (u : List UserTable). AreGrouped g u) gs tables.groups.items us tables.users.items same_groups same_users c.in-Ok.ensures.grouped)
     (moved_all (λ (g : List GroupTable) (u : List UserTable) (o : List (Vec OverrideTable Global)). AddsUsers g u o no_users c.in-Ok-make_users.authorizer)
     gs tables.groups.items us tables.users.items c.as_slice-overrides.result.now tables.overrides.items same_groups same_users c.as_slice-overrides.ensures.value adds)
-    c.in-Err-make_store.ensures.refused c.of_store.ensures.told
+    c.in-Err-make_store.ensures.refused c.of_store.ensures.reported
 
 pub returns-in-Err-clause-refused : goal.returns-in-Err-clause-refused
 returns-in-Err-clause-refused c =
     groups_refused c.args.tables.now c.as_slice-groups.result.now c.as_slice-users.result.now c.in-Err.fault c.of_groups.result
-    c.as_slice-groups.ensures.value c.as_slice-users.ensures.value c.in-Err.ensures.refused c.of_groups.ensures.told
+    c.as_slice-groups.ensures.value c.as_slice-users.ensures.value c.in-Err.ensures.refused c.of_groups.ensures.reported
 
 pub returns-in-Err-make_users-clause-refused : goal.returns-in-Err-make_users-clause-refused
 returns-in-Err-make_users-clause-refused c =
     users_refused c.args.tables.now c.as_slice-groups.result.now c.as_slice-users.result.now c.as_slice-overrides.result.now c.in-Err-make_users.fault c.of_users.result
     c.as_slice-groups.ensures.value c.as_slice-users.ensures.value c.as_slice-overrides.ensures.value c.in-Ok.ensures.apart c.in-Ok.ensures.grouped
-    (c.in-Err-make_users.ensures.refused c.as_slice-groups.result.now (c.as_slice.ensures.value ∙ c.in-Ok.ensures.users)) c.of_users.ensures.told
+    (c.in-Err-make_users.ensures.refused c.as_slice-groups.result.now (c.as_slice.ensures.value ∙ c.in-Ok.ensures.users)) c.of_users.ensures.reported

@@ -11,9 +11,9 @@ loop-index-preserved c =
 pub returns-in_err-number_next-clause-refused : goal.returns-in_err-number_next-clause-refused
 returns-in_err-number_next-clause-refused c = λ users.
     let failed = err_from_is_err_and c.from_residual.result c.from_residual.ensures.1 in
-    let told = refused_next c.args.groups.now users c.loop-index.index c.index-groups-index.result c.loop-index.numbers c.in_err-number_next.field-0.0
+    let reported = refused_next c.args.groups.now users c.loop-index.index c.index-groups-index.result c.loop-index.numbers c.in_err-number_next.field-0.0
     c.loop-index-test.true c.index-groups-index.is c.loop-index.invariant.0 c.loop-index.invariant.1 c.in_err-number_next.ensures.refused in
-    rw (failed.1, failed.2) told
+    rw (failed.1, failed.2) reported
 
 pub returns-clause-apart : goal.returns-clause-apart
 returns-clause-apart c = apart-whole c.args.groups.now c.loop-index.index c.loop-index-test.false c.loop-index.invariant.1

@@ -15,6 +15,6 @@ loop-index-preserved c =
 pub returns-in_err-row_number-clause-refused : goal.returns-in_err-row_number-clause-refused
 returns-in_err-row_number-clause-refused c = λ users.
     let failed = err_from_is_err_and c.from_residual.result c.from_residual.ensures.1 in
-    let told = refused_number c.args.groups.now users c.loop-index.index c.index-groups-index.result c.in_err-row_number.field-0.0
+    let reported = refused_number c.args.groups.now users c.loop-index.index c.index-groups-index.result c.in_err-row_number.field-0.0
     c.loop-index-test.true c.index-groups-index.is c.in_err-row_number.ensures.refused in
-    rw (failed.1, failed.2) told
+    rw (failed.1, failed.2) reported

@@ -13,4 +13,4 @@ loop-index-preserved c =
 pub returns-in-Err-clause-refused : goal.returns-in-Err-clause-refused
 returns-in-Err-clause-refused c =
     row_refused Dir (λ dir. dir.path.now) MakesDir IsDirProblem c.args.dirs.now c.loop-index.index _ _ c.args.store.now c.loop-index.store c.in-Err.problem c.refused.result
-    c.loop-index-test.true refl c.loop-index.invariant c.in-Err.ensures.refused c.refused.ensures.told
+    c.loop-index-test.true refl c.loop-index.invariant c.in-Err.ensures.refused c.refused.ensures.reported

@@ -12,4 +12,4 @@ loop-index-preserved c =
 pub returns-in-Err-clause-refused : goal.returns-in-Err-clause-refused
 returns-in-Err-clause-refused c =
     row_refused File (λ file. file.path.now) MakesFile IsFileProblem c.args.files.now c.loop-index.index c.index-files-index.result c.index-files-index.result c.args.store.now c.loop-index.store c.in-Err.problem c.refused.result
-    c.loop-index-test.true c.index-files-index.is c.loop-index.invariant c.in-Err.ensures.refused c.refused.ensures.told
+    c.loop-index-test.true c.index-files-index.is c.loop-index.invariant c.in-Err.ensures.refused c.refused.ensures.reported

@@ -15,4 +15,4 @@ returns c = record {
 pub returns-in_err-set_messages-clause-refused : goal.returns-in_err-set_messages-clause-refused
 returns-in_err-set_messages-clause-refused c =
     let failed = err_from_is_err_and c.from_residual-in_err-set_messages.result c.from_residual-in_err-set_messages.ensures.1 in
-    rw (failed.1, failed.2) (λ told. inr (c.add_user.new.self, c.in_ok-add_user.ensures.users, inl (c.in_err-set_messages.ensures.users.1 told)))
+    rw (failed.1, failed.2) (λ reported. inr (c.add_user.new.self, c.in_ok-add_user.ensures.users, inl (c.in_err-set_messages.ensures.users.1 reported)))

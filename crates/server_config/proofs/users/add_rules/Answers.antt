@@ -4,7 +4,7 @@ use Rattle.config_file.specs.declared.fault.TableName.TheVariants.{Override}
 use Rattle.server_config.specs.Users.{IsRefusedRule}
 use Rattle.server_config.proofs.UsersAdded.{rules-next}
 use Rattle.server_config.proofs.StrayLetters.{row_lacks}
-use Rattle.server_config.proofs.UsersRefused.{told_as}
+use Rattle.server_config.proofs.UsersRefused.{reported_as}
 use Rattle.server_config.proofs.users.add_rules.Goals as goal
 
 pub loop-index-preserved : goal.loop-index-preserved
@@ -14,7 +14,7 @@ loop-index-preserved c =
 
 pub returns-in-Err-clause-refused : goal.returns-in-Err-clause-refused
 returns-in-Err-clause-refused c =
-    told_as (IsRefusedRule c.args.name.now c.args.rules.now c.args.users.now) Override c.loop-index.index c.args.name.now _ c.in-Err.fault c.refused.result c.refused.ensures.told (λ problem lack told. record {
+    reported_as (IsRefusedRule c.args.name.now c.args.rules.now c.args.users.now) Override c.loop-index.index c.args.name.now _ c.in-Err.fault c.refused.result c.refused.ensures.reported (λ problem lack reported. record {
       index = c.loop-index.index;
       rule = _;
       mid = c.loop-index.users;
@@ -22,7 +22,7 @@ returns-in-Err-clause-refused c =
       before = c.loop-index.invariant;
       fault = c.in-Err.fault;
       refused = c.in-Err.ensures.refused lack;
-      told = told;
+      reported = reported;
       place = refl;
     })
 

@@ -3,7 +3,7 @@ use Rattle.config_file.specs.declared.fault.TableName.TheVariants.{User}
 use Rattle.server_config.specs.Users.{IsRefusedUser}
 use Rattle.server_config.proofs.UsersAdded.{with_rules}
 use Rattle.server_config.proofs.StrayLetters.{account_lacks}
-use Rattle.server_config.proofs.UsersRefused.{told_as, rules_refused}
+use Rattle.server_config.proofs.UsersRefused.{reported_as, rules_refused}
 use Rattle.server_config.proofs.users.add_user.Goals as goal
 
 pub returns-in-Ok : goal.returns-in-Ok
@@ -16,8 +16,8 @@ returns-in-Ok c = record {
 
 pub returns-in-Err-clause-refused : goal.returns-in-Err-clause-refused
 returns-in-Err-clause-refused c =
-    told_as (IsRefusedUser c.args.index c.args.group c.args.user.now c.args.rules.now c.args.users.now) User c.args.index c.args.user.now.name.now c.args.user.now.perms.now c.in-Err.fault c.refused.result c.refused.ensures.told
-    (λ problem lack told. inl (refl, (c.in-Err.fault, c.in-Err.ensures.refused lack, told)))
+    reported_as (IsRefusedUser c.args.index c.args.group c.args.user.now c.args.rules.now c.args.users.now) User c.args.index c.args.user.now.name.now c.args.user.now.perms.now c.in-Err.fault c.refused.result c.refused.ensures.reported
+    (λ problem lack reported. inl (refl, (c.in-Err.fault, c.in-Err.ensures.refused lack, reported)))
 
 pub refused-requires-clause-stray : goal.refused-requires-clause-stray
 refused-requires-clause-stray c =

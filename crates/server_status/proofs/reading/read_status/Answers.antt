@@ -11,7 +11,7 @@ pub returns-in-Ok-clause-fault : goal.returns-in-Ok-clause-fault
 returns-in-Ok-clause-fault c =
     let d = view c.in-Ok.value in
     IfErr-weaker c.status_in.result (λ fault. (fault ≡ Memory) ⊎ IsFaultOf d fault) (IsReadFault c.args.octets.now)
-    (λ fault told. fault_read c.args.octets.now c.without_feed.result.now d fault c.without_feed.ensures.octets c.in-Ok.ensures.value told) c.status_in.ensures.fault
+    (λ fault reported. fault_read c.args.octets.now c.without_feed.result.now d fault c.without_feed.ensures.octets c.in-Ok.ensures.value reported) c.status_in.ensures.fault
 
 pub returns-in-Ok-clause-read_back : goal.returns-in-Ok-clause-read_back
 returns-in-Ok-clause-read_back c s peers written =

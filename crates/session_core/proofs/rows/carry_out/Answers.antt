@@ -14,9 +14,9 @@ returns-in-Login-clause-row g c =
 
 pub returns-in-State-clause-row : goal.returns-in-State-clause-row
 returns-in-State-clause-row g c =
-    IfOk-weaker c.state_row.result _ _ (λ actions told.
+    IfOk-weaker c.state_row.result _ _ (λ actions reported.
     subst (λ row. Ran g.S.Store.Step (row_plan {A = g.row.A.Denot} {R = g.row.S-Source.Denot} {K = g.row.S-Sink.Denot} c.args.users.now.users c.args.state.now c.args.moment c.args.rule.conditions (row_by (λ text. text.now) row)) c.args.store.now c.args.store.now c.args.floors.now c.args.floors.now c.state_row.new.state actions.items) (sym c.in-State.is)
-    (ran_then g.S.Store.Step (state_row c.args.state.now c.in-State.row) c.state_row.new.state actions.items c.args.store.now c.args.floors.now told)) c.state_row.ensures.row
+    (ran_then g.S.Store.Step (state_row c.args.state.now c.in-State.row) c.state_row.new.state actions.items c.args.store.now c.args.floors.now reported)) c.state_row.ensures.row
 
 pub returns-in-At-clause-row : goal.returns-in-At-clause-row
 returns-in-At-clause-row g c =

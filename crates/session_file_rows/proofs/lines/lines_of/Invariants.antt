@@ -1,7 +1,7 @@
 use Rattle.std.proofs.Common.{◌++◌, ℕ, List, drop, map}
 use Rattle.ftp_terms.specs.LineText.{text_of}
-use Rattle.session_table.specs.Texts.{AreTold}
-use Rattle.session_table.specs.TransferRows.{entry_told}
+use Rattle.session_table.specs.Texts.{AreReported}
+use Rattle.session_table.specs.TransferRows.{entry_reported}
 use Rattle.virtual_tree.specs.Calls.{entry_of}
 use Rattle.session_file_rows.proofs.lines.lines_of.Given as goal
 
@@ -9,5 +9,5 @@ use Rattle.session_file_rows.proofs.lines.lines_of.Given as goal
 abbrev pub invariant-loop-entry : goal.invariant-loop-entry
 invariant-loop-entry g l =
     (rest : List (List ℕ))
-    → AreTold (map (entry_told l.users.users l.state l.above l.style) (map entry_of (drop l.entry-index l.entries))) rest
-    → AreTold (map (entry_told l.users.users l.state l.above l.style) (map entry_of l.entries)) (map text_of l.lines.items ++ rest)
+    → AreReported (map (entry_reported l.users.users l.state l.above l.style) (map entry_of (drop l.entry-index l.entries))) rest
+    → AreReported (map (entry_reported l.users.users l.state l.above l.style) (map entry_of l.entries)) (map text_of l.lines.items ++ rest)

@@ -1,5 +1,5 @@
 use Rattle.std.proofs.Common.{◌++◌, refl, sym, ap, ◌∙◌, append-nil}
-use Rattle.share_world.specs.Turns.{HasAsk}
+use Rattle.share_world.specs.Performed.{HasAsk}
 use Rattle.share_world.proofs.Asking.{all_more, all_whole, asks_step, asker_if}
 use Rattle.share_world.proofs.deal.asks_in_round.Goals as goal
 use Rattle.share_world.proofs.deal.asks_in_round.Goals.{in-Some+in_ok-push, in_default}

@@ -1,7 +1,7 @@
 use Rattle.std.proofs.Common.{◌≡◌, ◌++◌, drop, take}
 use Rattle.std.specs.Prelude.{All}
 use Rattle.world_terms.specs.Decisions.{in_round, in_round_from}
-use Rattle.share_world.specs.Turns.{HasAsk}
+use Rattle.share_world.specs.Performed.{HasAsk}
 use Rattle.share_world.proofs.deal.asks_in_round.Given as goal
 
 abbrev pub invariant-loop-number : goal.invariant-loop-number

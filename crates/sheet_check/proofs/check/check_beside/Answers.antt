@@ -3,7 +3,7 @@ use Rattle.sheet_text.specs.Sheet.{fault_of, sheet_fault}
 use Rattle.sheet_check.specs.Faults.{of_sheet}
 use Rattle.sheet_check.specs.declared.fault.CheckFault.TheVariants.{Sheet}
 use Rattle.sheet_check.proofs.Checks.{sheet_beside, within_beside}
-use Rattle.text_io.proofs.Told.{if_err, if_err_of, if_err_then, if_ok_then}
+use Rattle.text_io.proofs.Reported.{if_err, if_err_of, if_err_then, if_ok_then}
 use Rattle.sheet_check.proofs.check.check_beside.Goals as goal
 
 pub returns-in_err-sheet-clause-faults : goal.returns-in_err-sheet-clause-faults

@@ -6,7 +6,7 @@ use Rattle.grant_certificate.specs.declared.flaw.Verdict.{Verdict}
 use Rattle.sheet_check.specs.Grants.{grants_in, entries_in}
 use Rattle.sheet_check.specs.Checking.{IsThere, verdict_text}
 use Rattle.sheet_check.proofs.There.{first_flaw_there}
-use Rattle.text_io.proofs.Told.{if_err}
+use Rattle.text_io.proofs.Reported.{if_err}
 use Rattle.sheet_check.proofs.check.verdict_of.Goals as goal
 
 pub returns-in_err-grants-clause-grants : goal.returns-in_err-grants-clause-grants

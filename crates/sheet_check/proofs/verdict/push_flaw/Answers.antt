@@ -7,9 +7,9 @@ use Rattle.sheet_check.specs.Checking.{flaw_words, number_word}
 use Rattle.sheet_check.proofs.verdict.push_flaw.Goals as goal
 
 -- the words of a flaw that were written
-wrote : {T E : Type 0} (r : Result T E) (new old words : List ℕ) (told : Flaw → List ℕ) (flaw same : Flaw) → flaw ≡ same → words ≡ told same → OnOk r (new ≡ old ++ words) → OnOk r (new ≡ old ++ told flaw)
-wrote (Ok value) new old words told flaw same is e p = p ∙ ap (λ (w : List ℕ). old ++ w) (e ∙ ap told (sym is))
-wrote (Err fault) new old words told flaw same is e p = tt
+wrote : {T E : Type 0} (r : Result T E) (new old words : List ℕ) (reported : Flaw → List ℕ) (flaw same : Flaw) → flaw ≡ same → words ≡ reported same → OnOk r (new ≡ old ++ words) → OnOk r (new ≡ old ++ reported flaw)
+wrote (Ok value) new old words reported flaw same is e p = p ∙ ap (λ (w : List ℕ). old ++ w) (e ∙ ap reported (sym is))
+wrote (Err fault) new old words reported flaw same is e p = tt
 
 with_numbers : (name p q : List ℕ) (g m n : ℕ) → p ≡ q → m ≡ n → name ++ (codes " " ++ p) ++ number_word g ++ number_word m ≡ name ++ (codes " " ++ q) ++ number_word g ++ number_word n
 with_numbers name p q g m n same number =

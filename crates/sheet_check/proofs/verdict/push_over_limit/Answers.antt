@@ -5,7 +5,7 @@ use Rattle.limit_tree.specs.Sharing.{sum_over}
 use Rattle.limit_tree.specs.Outline.{limits, leaves_under}
 use Rattle.limit_tree.specs.declared.place.Place.{Place}
 use Rattle.sheet_check.specs.Checking.{node_word, number_word}
-use Rattle.text_io.proofs.Told.{on_ok}
+use Rattle.text_io.proofs.Reported.{on_ok}
 use Rattle.sheet_check.proofs.verdict.push_over_limit.Goals as goal
 
 pub returns : goal.returns

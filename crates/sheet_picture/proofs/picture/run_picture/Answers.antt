@@ -1,13 +1,13 @@
 use Rattle.std.proofs.Common.{◌≡◌, ◌∙◌, List, ℕ, Some, length, sym, ap, subst, arith}
 use Rattle.text_io.specs.declared.read.TheConstants.{MAX_TEXT}
-use Rattle.text_io.proofs.Told.{told_as}
+use Rattle.text_io.proofs.Reported.{reported_as}
 use Rattle.text_io.proofs.Reading.{read_whole_text, read_text_of, read_whole_few}
 use Rattle.sheet_text.specs.Sheet.{sheet_fault}
 use Rattle.sheet_text.specs.declared.fault.SheetFault.TheVariants.{Memory as NoSheetMemory}
 use Rattle.sheet_share.specs.Faults.{of_sheet}
 use Rattle.sheet_picture.specs.Pictures.{IsPictureOf}
 use Rattle.sheet_share.specs.declared.fault.ShareFault.TheVariants.{Sheet}
-use Rattle.sheet_picture.proofs.Faults.{sheet_told}
+use Rattle.sheet_picture.proofs.Faults.{sheet_reported}
 use Rattle.sheet_picture.proofs.picture.run_picture.Goals as goal
 
 pub returns-in_err-picture-clause-long : goal.returns-in_err-picture-clause-long
@@ -41,7 +41,7 @@ returns-in_err-write_whole-clause-write_fault g c is =
 pub returns-in_err-picture-clause-sheet : goal.returns-in_err-picture-clause-sheet
 returns-in_err-picture-clause-sheet g c fault is text known =
     let whole = read_whole_text _ _ c.in_ok-text.text.items text c.in_ok-text.ensures.whole c.in_ok-text.ensures.end known in
-    let told = sheet_told c.in_err-picture.field-0.0 fault (told_as c.from_residual-in_err-picture.result (of_sheet c.in_err-picture.field-0.0) (Sheet fault) c.from_residual-in_err-picture.ensures.1 is) in (
-      (λ (no : fault ≡ NoSheetMemory). told.1 (told.0 ∙ no)),
-      sym (ap (λ (t : List ℕ). sheet_fault t) (c.deref.ensures.value ∙ whole)) ∙ c.in_err-picture.ensures.sheet told.1 ∙ ap Some told.0,
+    let reported = sheet_reported c.in_err-picture.field-0.0 fault (reported_as c.from_residual-in_err-picture.result (of_sheet c.in_err-picture.field-0.0) (Sheet fault) c.from_residual-in_err-picture.ensures.1 is) in (
+      (λ (no : fault ≡ NoSheetMemory). reported.1 (reported.0 ∙ no)),
+      sym (ap (λ (t : List ℕ). sheet_fault t) (c.deref.ensures.value ∙ whole)) ∙ c.in_err-picture.ensures.sheet reported.1 ∙ ap Some reported.0,
     )

@@ -8,7 +8,7 @@ use Rattle.transfer_worker.proofs.Steps.{looks_again, waits_in_vain}
 use Rattle.transfer_worker.proofs.grants.pump_next.Goals as goal
 
 pub loop-init : goal.loop-init
-loop-init g c = (tt, tt, (refl, refl), refl, refl, refl, refl, c.requires.told, refl, refl, refl, ([], adds_none _))
+loop-init g c = (tt, tt, (refl, refl), refl, refl, refl, refl, c.requires.reported, refl, refl, refl, ([], adds_none _))
 
 pub returns-then-not-may_go_on-clause-none : goal.returns-then-not-may_go_on-clause-none
 returns-then-not-may_go_on-clause-none g c =
@@ -50,7 +50,7 @@ loop-preserved g c =
       es,
       em,
       n.1 ∙ i.6,
-      c.turn.ensures.told,
+      c.turn.ensures.reported,
       c.may_go_on.ensures.heard ∙ i.8,
       ap (λ l. l.state) n.0 ∙ i.9,
       ap (λ l. l.sittings) n.0 ∙ i.10,

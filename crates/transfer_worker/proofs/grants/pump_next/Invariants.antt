@@ -3,7 +3,7 @@ use Rattle.lane_desk.specs.Seats.{seat_view, IsSameSeat}
 use Rattle.transfer_worker.specs.Passes.{leaves}
 use Rattle.transfer_worker.specs.Transfers.{flow_of}
 use Rattle.transfer_worker.specs.Runs.{worker, Adds}
-use Rattle.transfer_worker.specs.Turns.{IsTold}
+use Rattle.transfer_worker.specs.Turns.{IsReported}
 use Rattle.transfer_worker.proofs.grants.pump_next.Given as goal
 
 abbrev pub invariant-loop : goal.invariant-loop
@@ -14,7 +14,7 @@ invariant-loop g l =
     × (l.transfer.session ≡ l.fn.transfer.session)
     × (l.transfer.moved ≡ l.fn.transfer.moved)
     × (flow_of l.transfer.running ≡ flow_of l.fn.transfer.running)
-    × IsTold l.tally (seat_view l.seat)
+    × IsReported l.tally (seat_view l.seat)
     × (g.G.Gate.heard l.gate ≡ g.G.Gate.heard l.fn.gate)
     × ((seat_view l.seat).state ≡ (seat_view l.fn.seat).state)
     × ((seat_view l.seat).sittings ≡ (seat_view l.fn.seat).sittings)

@@ -4,7 +4,7 @@ use Rattle.desk_rule.specs.declared.view.SeatState.TheVariants.{Worker}
 use Rattle.lane_desk.specs.Seats.{seat_view, IsSameSeat}
 use Rattle.transfer_worker.specs.Transfers.{known, flow_of, last_in}
 use Rattle.transfer_worker.specs.Runs.{worker}
-use Rattle.transfer_worker.specs.Turns.{IsTold}
+use Rattle.transfer_worker.specs.Turns.{IsReported}
 use Rattle.transfer_worker.proofs.Sittings.{Sits}
 use Rattle.transfer_worker.proofs.transfer.run_transfer.Given as goal
 
@@ -15,7 +15,7 @@ invariant-loop g l =
     × (l.transfer.user ≡ l.fn.transfer.user)
     × (l.transfer.session ≡ l.fn.transfer.session)
     × (last_in (flow_of l.transfer.running) ≡ More)
-    × IsTold l.tally (seat_view l.seat)
+    × IsReported l.tally (seat_view l.seat)
     × (g.G.Gate.heard l.gate ≡ g.G.Gate.heard l.fn.gate)
     × ((seat_view l.seat).state ≡ Worker)
     × Sits (known g.R.Source.remaining g.K.Sink.collected g.K.Sink.target g.C.Read.remaining g.C.Write.contents) l.fn.transfer.user l.fn.transfer.session (flow_of l.fn.transfer.running)

@@ -25,7 +25,7 @@ loop-preserved g c =
       tt,
       (e.same.0 ∙ i.2.0, e.same.1 ∙ i.2.1),
       (b.0 ∙ i.3.0, b.1 ∙ i.3.1),
-      e.told,
+      e.reported,
       e.free refl,
       (
         works ++ r.0 ∷ [],
@@ -40,7 +40,7 @@ loop-init g c = (
   tt,
   (refl, refl),
   (refl, refl),
-  c.parts-seat.ensures.told,
+  c.parts-seat.ensures.reported,
   ap (λ s. (seat_view s).state) c.parts-seat.ensures.parts.0 ∙ c.requires.state,
   ([], All-nil NotStopped, none_done _ (done_by c.args.pass.now) _),
 )

@@ -6,7 +6,7 @@ use Rattle.folder_store.proofs.Serving.{honest_ok}
 use Rattle.folder_store.proofs.store.DirStoreStoreA.list.Goals as goal
 
 pub returns-in-Ok-clause-step : goal.returns-in-Ok-clause-step
-returns-in-Ok-clause-step g c = subst (λ s. FolderStep g.M.FolderMachine.Does (λ directory. g.M.Directory.AsRawFd.raw_fd directory) s (Listing c.args.path.now (Ok (entries_of c.in-Ok.told))) (record { machine = c.list.new.self.machine; numbered = c.list.new.self.has_proc; folder = string_bytes c.list.new.self.path; faults = c.self.inside.faults })) c.self.view_is (record {
+returns-in-Ok-clause-step g c = subst (λ s. FolderStep g.M.FolderMachine.Does (λ directory. g.M.Directory.AsRawFd.raw_fd directory) s (Listing c.args.path.now (Ok (entries_of c.in-Ok.reported))) (record { machine = c.list.new.self.machine; numbered = c.list.new.self.has_proc; folder = string_bytes c.list.new.self.path; faults = c.self.inside.faults })) c.self.view_is (record {
   honest = honest_ok _;
   folder = ap string_bytes c.in-Ok.ensures.path;
   serves = c.in-Ok.ensures.listed;

@@ -5,7 +5,7 @@ use Rattle.ftpd_program.proofs.watching.Looks.screen.Goals as goal
 
 pub returns : goal.returns
 returns c =
-    let still = c.told_still-still.result in
+    let still = c.reported_still-still.result in
     let table = string_bytes c.in_ok-table.table in
     let rows = subst (λ (n : ℕ). IsTableOrNone n table) c.table_rows.ensures.rows c.in_ok-table.ensures.table in
     record {

@@ -6,11 +6,11 @@ use Rattle.grant_certificate.proofs.Seen.{held-seen, held-last, held-either}
 use Rattle.grant_certificate.proofs.backing.BackingLook.see.Goals as goal
 
 pub returns-then-full-clause-saw : goal.returns-then-full-clause-saw
-returns-then-full-clause-saw c = λ start seen told count was.
+returns-then-full-clause-saw c = λ start seen reported count was.
     let place = c.args.place in
     let now = c.args.self.now in
     let number = c.args.number in
-    let full = subst (λ (g : List ℕ). IsFullPlace place g) was.grants (told.0 c.if-full.true) in
+    let full = subst (λ (g : List ℕ). IsFullPlace place g) was.grants (reported.0 c.if-full.true) in
     record {
       grants = was.grants;
       floors = was.floors;
@@ -34,9 +34,9 @@ returns-then-full-clause-saw c = λ start seen told count was.
     }
 
 pub returns-else-full-clause-saw : goal.returns-else-full-clause-saw
-returns-else-full-clause-saw c = λ start seen told count was.
+returns-else-full-clause-saw c = λ start seen reported count was.
     let place = c.args.place in
-    let not = iff_false told c.if-full.false in
+    let not = iff_false reported c.if-full.false in
     record {
       grants = was.grants;
       floors = was.floors;

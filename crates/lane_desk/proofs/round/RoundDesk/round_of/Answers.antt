@@ -3,7 +3,7 @@ use Rattle.limit_tree.specs.Outline.{limits as seen}
 use Rattle.line_rates.specs.TickTree.{Asker, lane_in}
 use Rattle.lane_desk.specs.Asked.{AreApart, IsAskedPlan}
 use Rattle.lane_desk.specs.Refusals.{IsRefused}
-use Rattle.lane_desk.specs.Turns.{turns}
+use Rattle.lane_desk.specs.Traces.{traces}
 use Rattle.lane_desk.specs.Posted.{AreDue, posted_all, nothing_for}
 use Rattle.lane_desk.specs.Tried.{is_given}
 use Rattle.lane_desk.specs.Rounded.{IsRoundOver, IsRefusedRoundOver}
@@ -20,8 +20,8 @@ pub post_all-requires-clause-due : goal.post_all-requires-clause-due
 post_all-requires-clause-due g c =
     let t = c.collect_all.ensures.tried in
     let given : ℕ → Bool = is_given c.args.given.now in
-    let old = turns c.args.self.now in
-    let mid = turns c.collect_all.new.round in
+    let old = traces c.args.self.now in
+    let mid = traces c.collect_all.new.round in
     let asks = c.collect_all.new.asks.asks in
     let marks = c.collect_all.new.asks.answered in
     let rates = c.args.limits.now in
@@ -35,8 +35,8 @@ pub post_all-requires-clause-most : goal.post_all-requires-clause-most
 post_all-requires-clause-most g c =
     let t = c.collect_all.ensures.tried in
     let given : ℕ → Bool = is_given c.args.given.now in
-    let old = turns c.args.self.now in
-    let mid = turns c.collect_all.new.round in
+    let old = traces c.args.self.now in
+    let mid = traces c.collect_all.new.round in
     let asks = c.collect_all.new.asks.asks in
     let marks = c.collect_all.new.asks.answered in
     let rates = c.args.limits.now in
@@ -47,8 +47,8 @@ pub refuse_all-requires-clause-due : goal.refuse_all-requires-clause-due
 refuse_all-requires-clause-due g c =
     let t = c.collect_all.ensures.tried in
     let given : ℕ → Bool = is_given c.args.given.now in
-    let old = turns c.args.self.now in
-    let mid = turns c.collect_all.new.round in
+    let old = traces c.args.self.now in
+    let mid = traces c.collect_all.new.round in
     let asks = c.collect_all.new.asks.asks in
     let marks = c.collect_all.new.asks.answered in
     let rates = c.args.limits.now in
@@ -59,8 +59,8 @@ pub returns-in-Ok-clause-round : goal.returns-in-Ok-clause-round
 returns-in-Ok-clause-round g c =
     let t = c.collect_all.ensures.tried in
     let given : ℕ → Bool = is_given c.args.given.now in
-    let old = turns c.args.self.now in
-    let mid = turns c.collect_all.new.round in
+    let old = traces c.args.self.now in
+    let mid = traces c.collect_all.new.round in
     let asks = c.collect_all.new.asks.asks in
     let marks = c.collect_all.new.asks.answered in
     let rates = c.args.limits.now in
@@ -68,7 +68,7 @@ returns-in-Ok-clause-round g c =
     let d = c.in-Ok.decision in
     let tree = seen d.sealed.tree in
     let own = subst (λ (xs : List Asker). IsAskedPlan rates tick xs tree d.lanes.items d.asks.items) c.as_slice.ensures.asks c.in-Ok.ensures.plan in
-    let new = turns c.post_all.new.round in
+    let new = traces c.post_all.new.round in
     let is : new ≡ posted_all d.lanes.items d.sealed.grants mid = c.post_all.ensures.posted ∙ (λ q. posted_all (c.deref.ensures.value q) (c.grants.ensures.grants q) mid) in
     subst (λ (n : ℕ). IsRoundOver given rates tick old new n tree d.lanes.items d.asks.items d.sealed.grants) (sym c.answered-answered.ensures.answered)
     (rounded rates tick tree d.lanes.items d.asks.items d.sealed.grants given t.0 old mid new asks marks t.1 c.requires.answered own c.in-Ok.ensures.each is)
@@ -77,8 +77,8 @@ pub returns-in-Ok-clause-answered : goal.returns-in-Ok-clause-answered
 returns-in-Ok-clause-answered g c =
     let t = c.collect_all.ensures.tried in
     let given : ℕ → Bool = is_given c.args.given.now in
-    let old = turns c.args.self.now in
-    let mid = turns c.collect_all.new.round in
+    let old = traces c.args.self.now in
+    let mid = traces c.collect_all.new.round in
     let asks = c.collect_all.new.asks.asks in
     let marks = c.collect_all.new.asks.answered in
     let rates = c.args.limits.now in
@@ -86,7 +86,7 @@ returns-in-Ok-clause-answered g c =
     let d = c.in-Ok.decision in
     let tree = seen d.sealed.tree in
     let own = subst (λ (xs : List Asker). IsAskedPlan rates tick xs tree d.lanes.items d.asks.items) c.as_slice.ensures.asks c.in-Ok.ensures.plan in
-    let new = turns c.post_all.new.round in
+    let new = traces c.post_all.new.round in
     let is : new ≡ posted_all d.lanes.items d.sealed.grants mid = c.post_all.ensures.posted ∙ (λ q. posted_all (c.deref.ensures.value q) (c.grants.ensures.grants q) mid) in
     answered_round given rates tick tree d.lanes.items d.asks.items d.sealed.grants old new marks (rounded rates tick tree d.lanes.items d.asks.items d.sealed.grants given t.0 old mid new asks marks t.1 c.requires.answered own c.in-Ok.ensures.each is) c.requires.answered
 
@@ -94,8 +94,8 @@ pub returns-in-Ok-clause-total : goal.returns-in-Ok-clause-total
 returns-in-Ok-clause-total g c =
     let t = c.collect_all.ensures.tried in
     let given : ℕ → Bool = is_given c.args.given.now in
-    let old = turns c.args.self.now in
-    let mid = turns c.collect_all.new.round in
+    let old = traces c.args.self.now in
+    let mid = traces c.collect_all.new.round in
     let asks = c.collect_all.new.asks.asks in
     let marks = c.collect_all.new.asks.answered in
     let rates = c.args.limits.now in
@@ -103,7 +103,7 @@ returns-in-Ok-clause-total g c =
     let d = c.in-Ok.decision in
     let tree = seen d.sealed.tree in
     let own = subst (λ (xs : List Asker). IsAskedPlan rates tick xs tree d.lanes.items d.asks.items) c.as_slice.ensures.asks c.in-Ok.ensures.plan in
-    let new = turns c.post_all.new.round in
+    let new = traces c.post_all.new.round in
     let is : new ≡ posted_all d.lanes.items d.sealed.grants mid = c.post_all.ensures.posted ∙ (λ q. posted_all (c.deref.ensures.value q) (c.grants.ensures.grants q) mid) in
     round_total rates tick tree d.lanes.items d.sealed.grants given t.0 old mid new asks marks t.1 c.requires.answered own.plan c.in-Ok.ensures.each is
 
@@ -111,13 +111,13 @@ pub returns-in-Err-clause-refused : goal.returns-in-Err-clause-refused
 returns-in-Err-clause-refused g c =
     let t = c.collect_all.ensures.tried in
     let given : ℕ → Bool = is_given c.args.given.now in
-    let old = turns c.args.self.now in
-    let mid = turns c.collect_all.new.round in
+    let old = traces c.args.self.now in
+    let mid = traces c.collect_all.new.round in
     let asks = c.collect_all.new.asks.asks in
     let marks = c.collect_all.new.asks.answered in
     let rates = c.args.limits.now in
     let tick : ℕ = c.args.moment / 100 in
-    let new = turns c.refuse_all.new.round in
+    let new = traces c.refuse_all.new.round in
     let is : new ≡ posted_all (map lane_in asks) (map nothing_for asks) mid = c.refuse_all.ensures.posted ∙ ap (λ (xs : List Asker). posted_all (map lane_in xs) (map nothing_for xs) mid) c.as_slice-in-Err.ensures.asks in
     let why = subst (λ (xs : List Asker). IsRefused g.row.A.Denot rates tick xs c.args.book.now c.in-Err.reason) c.as_slice.ensures.asks c.in-Err.ensures.refused in
     subst (λ (n : ℕ). IsRefusedRoundOver g.row.A.Denot given rates tick c.args.book.now old new n c.in-Err.reason) (sym c.answered-answered.ensures.answered)
@@ -127,13 +127,13 @@ pub returns-in-Err-clause-answered : goal.returns-in-Err-clause-answered
 returns-in-Err-clause-answered g c =
     let t = c.collect_all.ensures.tried in
     let given : ℕ → Bool = is_given c.args.given.now in
-    let old = turns c.args.self.now in
-    let mid = turns c.collect_all.new.round in
+    let old = traces c.args.self.now in
+    let mid = traces c.collect_all.new.round in
     let asks = c.collect_all.new.asks.asks in
     let marks = c.collect_all.new.asks.answered in
     let rates = c.args.limits.now in
     let tick : ℕ = c.args.moment / 100 in
-    let new = turns c.refuse_all.new.round in
+    let new = traces c.refuse_all.new.round in
     let is : new ≡ posted_all (map lane_in asks) (map nothing_for asks) mid = c.refuse_all.ensures.posted ∙ ap (λ (xs : List Asker). posted_all (map lane_in xs) (map nothing_for xs) mid) c.as_slice-in-Err.ensures.asks in
     let why = subst (λ (xs : List Asker). IsRefused g.row.A.Denot rates tick xs c.args.book.now c.in-Err.reason) c.as_slice.ensures.asks c.in-Err.ensures.refused in
     answered_refused g.row.A.Denot given rates tick c.args.book.now c.in-Err.reason old new marks (refused g.row.A.Denot rates tick c.args.book.now c.in-Err.reason given t.0 old mid new asks marks t.1 c.requires.answered why is) c.requires.answered
@@ -142,12 +142,12 @@ pub returns-in-Err-clause-unposted : goal.returns-in-Err-clause-unposted
 returns-in-Err-clause-unposted g c =
     let t = c.collect_all.ensures.tried in
     let given : ℕ → Bool = is_given c.args.given.now in
-    let old = turns c.args.self.now in
-    let mid = turns c.collect_all.new.round in
+    let old = traces c.args.self.now in
+    let mid = traces c.collect_all.new.round in
     let asks = c.collect_all.new.asks.asks in
     let marks = c.collect_all.new.asks.answered in
     let rates = c.args.limits.now in
     let tick : ℕ = c.args.moment / 100 in
-    let new = turns c.refuse_all.new.round in
+    let new = traces c.refuse_all.new.round in
     let is : new ≡ posted_all (map lane_in asks) (map nothing_for asks) mid = c.refuse_all.ensures.posted ∙ ap (λ (xs : List Asker). posted_all (map lane_in xs) (map nothing_for xs) mid) c.as_slice-in-Err.ensures.asks in
     refused_total given t.0 old mid new asks marks t.1 c.requires.answered is

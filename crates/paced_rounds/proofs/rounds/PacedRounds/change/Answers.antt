@@ -18,5 +18,5 @@ invariant_of-self-2 g c =
     let all : now ≡ before ++ stretch_under pace [] ∷ [] = stretches_changed old.ended.items c.and-self.result.items old.pace pace old.log.items c.new-self.result.items more c.new-self.ensures.none in
     record {
       run = run_change old.pace pace old.latest before now c.args.limits c.in_ok-pace.ensures.changed rated all old.run;
-      told = old.told ∙ ap (λ (n : ℕ). old.carried + n) (sym (sum_changed before now pace all));
+      reported = old.reported ∙ ap (λ (n : ℕ). old.carried + n) (sym (sum_changed before now pace all));
     }

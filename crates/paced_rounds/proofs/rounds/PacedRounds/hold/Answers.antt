@@ -2,9 +2,9 @@ use Rattle.std.proofs.Common.{◌≡◌, ◌≤◌, ◌++◌, [], ◌∷◌, ℕ
 use Rattle.grant_ledger.specs.Books.{BookView}
 use Rattle.round_pace.specs.Histories.{rates_of}
 use Rattle.paced_rounds.specs.History.{granted_in, round_at, history, octets_of, octets_in, ended_in, stretches}
-use Rattle.lane_desk.specs.Turns.{turns}
+use Rattle.lane_desk.specs.Traces.{traces}
 use Rattle.lane_desk.specs.Tried.{is_given}
-use Rattle.paced_rounds.proofs.RunLemmas.{Leads, leads_ok, leads_err, grown, run_more, stretches_more, sum_more, told_more}
+use Rattle.paced_rounds.proofs.RunLemmas.{Leads, leads_ok, leads_err, grown, run_more, stretches_more, sum_more, reported_more}
 use Rattle.paced_rounds.proofs.rounds.PacedRounds.hold.Goals as goal
 use Rattle.paced_rounds.proofs.rounds.PacedRounds.hold.Goals.{in-Ok, in-Err}
 
@@ -23,7 +23,7 @@ invariant_of-self g c =
     let leads : Leads old.pace pace now old.rounds.book.issued new.book.issued taken out =
     elim c.match-result.branch [
       | in-Ok w ↦ leads_ok c.grants_keep_names.ensures.kept (is_given c.args.given.now) old.pace c.offer-moment.new.self pace now c.offer-moment.result old.rounds.book.issued new.book.issued c.limits.result.now taken out w.in-Ok.made
-          (turns old.rounds.desk) (turns new.desk) w.deref.result.now w.grants.result.now w.in-Ok.is c.offer-moment.ensures.round c.limits.ensures.limits c.offer-moment.ensures.moment
+          (traces old.rounds.desk) (traces new.desk) w.deref.result.now w.grants.result.now w.in-Ok.is c.offer-moment.ensures.round c.limits.ensures.limits c.offer-moment.ensures.moment
           c.round_of-result.ensures.round c.round_of-result.ensures.best w.deref.ensures.value w.grants.ensures.grants (ap (λ s. s.1.1.0) w.self-is ∙ w.charge-taken.ensures.taken)
           (ap (λ l. map granted_in l.items) w.taken-is ∙ w.charge-taken.ensures.log) c.round_of-result.ensures.issued
       | in-Err w ↦ leads_err old.pace c.offer-moment.new.self pace now old.rounds.book.issued new.book.issued taken out w.in-Err.field-0
@@ -35,7 +35,7 @@ invariant_of-self g c =
     let all = stretches_more old.ended.items old.ended.items pace old.log.items c.and-self.result.items (round_at now out) refl more in
     record {
       run = run_more c.histories_keep_rates.ensures.begin c.histories_keep_rates.ensures.stay old.pace pace old.latest (ended_in old.ended.items) (stretches old.ended.items pace c.and-self.result.items) (history old.log.items) (round_at now out) later leads.kept leads.is all old.run;
-      told = told_more old.rounds.book.issued new.book.issued old.carried (sum_by octets_in (stretches old.ended.items old.pace old.log.items)) (sum_by octets_in (stretches old.ended.items pace c.and-self.result.items)) (octets_of (round_at now out)) old.told
+      reported = reported_more old.rounds.book.issued new.book.issued old.carried (sum_by octets_in (stretches old.ended.items old.pace old.log.items)) (sum_by octets_in (stretches old.ended.items pace c.and-self.result.items)) (octets_of (round_at now out)) old.reported
           (sum_more (ended_in old.ended.items) (stretches old.ended.items pace c.and-self.result.items) old.pace pace (history old.log.items) (round_at now out) all) leads.issued;
     }
 
@@ -50,7 +50,7 @@ returns-clause-rates g c =
     let leads : Leads old.pace pace now old.rounds.book.issued new.book.issued taken out =
     elim c.match-result.branch [
       | in-Ok w ↦ leads_ok c.grants_keep_names.ensures.kept (is_given c.args.given.now) old.pace c.offer-moment.new.self pace now c.offer-moment.result old.rounds.book.issued new.book.issued c.limits.result.now taken out w.in-Ok.made
-          (turns old.rounds.desk) (turns new.desk) w.deref.result.now w.grants.result.now w.in-Ok.is c.offer-moment.ensures.round c.limits.ensures.limits c.offer-moment.ensures.moment
+          (traces old.rounds.desk) (traces new.desk) w.deref.result.now w.grants.result.now w.in-Ok.is c.offer-moment.ensures.round c.limits.ensures.limits c.offer-moment.ensures.moment
           c.round_of-result.ensures.round c.round_of-result.ensures.best w.deref.ensures.value w.grants.ensures.grants (ap (λ s. s.1.1.0) w.self-is ∙ w.charge-taken.ensures.taken)
           (ap (λ l. map granted_in l.items) w.taken-is ∙ w.charge-taken.ensures.log) c.round_of-result.ensures.issued
       | in-Err w ↦ leads_err old.pace c.offer-moment.new.self pace now old.rounds.book.issued new.book.issued taken out w.in-Err.field-0

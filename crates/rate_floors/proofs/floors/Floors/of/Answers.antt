@@ -6,9 +6,9 @@ use Rattle.line_rates.specs.Rates.{Rates}
 use Rattle.line_rates.specs.Stated.{by_number, stated, group_number, user_number}
 use Rattle.rate_floors.specs.declared.find.GroupPromise.{GroupPromise}
 use Rattle.rate_floors.specs.declared.find.UserSessions.{UserSessions}
-use Rattle.rate_floors.specs.Promises.{group_row, user_row, no_session, no_promise, IsTold, PromisesFit, seen}
+use Rattle.rate_floors.specs.Promises.{group_row, user_row, no_session, no_promise, IsReported, PromisesFit, seen}
 use Rattle.rate_floors.proofs.FitLemmas.{fit_none}
-use Rattle.rate_floors.proofs.FloorLemmas.{told_none, same_limits, none_counted}
+use Rattle.rate_floors.proofs.FloorLemmas.{reported_none, same_limits, none_counted}
 use Rattle.rate_floors.proofs.floors.Floors.of.Goals as goal
 
 same_of : (r : Rates) (server down up : ℕ) (gs : List GroupPromise) (us : List UserSessions) (groups : List GroupRate) (users : List UserRate) → server ≡ r.server → down ≡ r.down → up ≡ r.up
@@ -23,9 +23,9 @@ same_of r server down up gs us groups users s d u g t a b =
 
 pub invariant_of-result : goal.invariant_of-result
 invariant_of-result g c = record {
-  told = subst (λ (gs : List GroupPromise). IsTold 0 0 gs c.in_ok-users.users.items) (sym c.in_ok-groups.ensures.none)
-      (subst (λ (us : List UserSessions). IsTold 0 0 (map no_promise c.groups.result.now) us) (sym c.in_ok-users.ensures.none)
-      (told_none c.groups.result.now c.users.result.now c.groups.ensures.rising c.users.ensures.rising c.users.ensures.fit));
+  reported = subst (λ (gs : List GroupPromise). IsReported 0 0 gs c.in_ok-users.users.items) (sym c.in_ok-groups.ensures.none)
+      (subst (λ (us : List UserSessions). IsReported 0 0 (map no_promise c.groups.result.now) us) (sym c.in_ok-users.ensures.none)
+      (reported_none c.groups.result.now c.users.result.now c.groups.ensures.rising c.users.ensures.rising c.users.ensures.fit));
   fit = subst (λ (us : List UserSessions). PromisesFit (seen c.rate.result c.rate-2.result c.rate-3.result c.in_ok-groups.groups.items us)) (sym c.in_ok-users.ensures.none)
       (fit_none c.rate.result c.rate-2.result c.rate-3.result c.in_ok-groups.groups.items c.users.result.now c.users.ensures.rising);
 }

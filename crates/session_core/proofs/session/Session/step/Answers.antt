@@ -25,12 +25,12 @@ returns-in-TransferEnded-clause-stops g c = err_through _ c.take_end-answer.resu
 
 pub returns-in-DataReady-clause-row : goal.returns-in-DataReady-clause-row
 returns-in-DataReady-clause-row g c =
-    IfOk-weaker c.take_port.result _ _ (λ actions told.
+    IfOk-weaker c.take_port.result _ _ (λ actions reported.
     subst (λ (i : Input g.row.A.Denot g.row.S-Sink.Denot). SessionStep {A = g.row.A.Denot} {R = g.row.S-Source.Denot} {K = g.row.S-Sink.Denot} g.S.Store.Step c.args.users.now.users c.args.self.now.view c.args.self.now.held c.args.moment i c.args.store.now c.args.store.now c.args.floors.now c.args.floors.now c.take_port.new.self.view c.take_port.new.self.held actions.items) (sym c.in-DataReady.is)
     (step_by g.S.Store.Step c.args.users.now.users c.args.self.now.view c.args.self.now.held c.args.moment (input.DataReady c.in-DataReady.port)
     (beside c.args.self.now.held (ready_at c.args.users.now.users c.args.self.now.view c.in-DataReady.port)) c.args.store.now c.args.store.now c.args.floors.now c.args.floors.now c.take_port.new.self.view c.take_port.new.self.held actions.items
     refl
-    (ran_then g.S.Store.Step _ c.take_port.new.self.view actions.items c.args.store.now c.args.floors.now told) c.take_port.ensures.held)) c.take_port.ensures.row
+    (ran_then g.S.Store.Step _ c.take_port.new.self.view actions.items c.args.store.now c.args.floors.now reported) c.take_port.ensures.held)) c.take_port.ensures.row
 
 pub returns-in-DataReady-clause-stops : goal.returns-in-DataReady-clause-stops
 returns-in-DataReady-clause-stops g c =
@@ -38,12 +38,12 @@ returns-in-DataReady-clause-stops g c =
 
 pub returns-in-Closed-clause-row : goal.returns-in-Closed-clause-row
 returns-in-Closed-clause-row g c =
-    IfOk-weaker c.close.result _ _ (λ actions told.
+    IfOk-weaker c.close.result _ _ (λ actions reported.
     subst (λ (i : Input g.row.A.Denot g.row.S-Sink.Denot). SessionStep {A = g.row.A.Denot} {R = g.row.S-Source.Denot} {K = g.row.S-Sink.Denot} g.S.Store.Step c.args.users.now.users c.args.self.now.view c.args.self.now.held c.args.moment i c.args.store.now c.args.store.now c.args.floors.now c.args.floors.now c.close.new.self.view c.close.new.self.held actions.items) (sym c.in-Closed.is)
     (step_by g.S.Store.Step c.args.users.now.users c.args.self.now.view c.args.self.now.held c.args.moment input.Closed
     (beside c.args.self.now.held (closed_at c.args.self.now.view)) c.args.store.now c.args.store.now c.args.floors.now c.args.floors.now c.close.new.self.view c.close.new.self.held actions.items
     refl
-    (ran_then g.S.Store.Step _ c.close.new.self.view actions.items c.args.store.now c.args.floors.now told) c.close.ensures.held)) c.close.ensures.row
+    (ran_then g.S.Store.Step _ c.close.new.self.view actions.items c.args.store.now c.args.floors.now reported) c.close.ensures.held)) c.close.ensures.row
 
 pub returns-in-Closed-clause-stops : goal.returns-in-Closed-clause-stops
 returns-in-Closed-clause-stops g c =

@@ -1,5 +1,5 @@
 use Rattle.std.proofs.Common.{subst}
-use Rattle.share_world.specs.Turns.{HasAsk}
+use Rattle.share_world.specs.Performed.{HasAsk}
 use Rattle.share_world.proofs.Asking.{has_ask}
 use Rattle.share_world.proofs.lane.Lane.due.Goals as goal
 

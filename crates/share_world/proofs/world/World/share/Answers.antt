@@ -9,7 +9,7 @@ use Rattle.world_terms.specs.Decisions.{in_round, wants_too_much}
 use Rattle.world_terms.specs.Lanes.{Lane}
 use Rattle.share_world.proofs.Small.{few_in_round, ok_always}
 use Rattle.share_world.specs.Shares.{IsUnshared}
-use Rattle.share_world.specs.Turns.{HasAsk}
+use Rattle.share_world.specs.Performed.{HasAsk}
 use Rattle.share_world.proofs.world.World.share.Goals as goal
 
 pub share-requires-clause-few : goal.share-requires-clause-few

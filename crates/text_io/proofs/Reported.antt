@@ -2,9 +2,9 @@
 use Rattle.std.proofs.Common.{◌≡◌, Result, Ok, Err, IfErr, IfOk, OnOk, IsErrAnd, IsErrOf, subst, sym}
 
 -- a refusal that tells one fault and has another has that one
-pub told_as : {T E : Type 0} (r : Result T E) (e fault : E) → IsErrAnd r (λ f. f ≡ e) → IsErrOf r fault → e ≡ fault
-told_as (Ok value) e fault gives is = absurd (cc)
-told_as (Err f) e fault gives is = cc
+pub reported_as : {T E : Type 0} (r : Result T E) (e fault : E) → IsErrAnd r (λ f. f ≡ e) → IsErrOf r fault → e ≡ fault
+reported_as (Ok value) e fault gives is = absurd (cc)
+reported_as (Err f) e fault gives is = cc
 
 -- what a refusal must be, the fault that it has is
 pub if_err_of : {T E : Type 0} (r : Result T E) (fault : E) (P : E → Type 0) → IfErr r P → IsErrOf r fault → P fault

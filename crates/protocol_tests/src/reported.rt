@@ -16,7 +16,7 @@ fn add_item(rt: &impl Abort, alloc: Global, out: &mut Vec<u8>, item: &LineItem) 
 }
 
 /// Adds the output of a reader for these octets.
-pub(crate) fn add_told(
+pub(crate) fn add_reported(
     rt: &impl Abort,
     alloc: Global,
     out: &mut Vec<u8>,
@@ -30,11 +30,11 @@ pub(crate) fn add_told(
 }
 
 /// The output of a new reader for octets in these pieces.
-pub(crate) fn told(rt: &impl Abort, alloc: Global, pieces: &[&[u8]]) -> Vec<u8> {
+pub(crate) fn reported(rt: &impl Abort, alloc: Global, pieces: &[&[u8]]) -> Vec<u8> {
     let mut reader = LineReader::new(alloc);
     let mut out = Vec::new(alloc);
     for piece in pieces {
-        add_told(rt, alloc, &mut out, &mut reader, piece);
+        add_reported(rt, alloc, &mut out, &mut reader, piece);
     }
     out
 }
@@ -42,6 +42,6 @@ pub(crate) fn told(rt: &impl Abort, alloc: Global, pieces: &[&[u8]]) -> Vec<u8> 
 /// A line in two parts, without its end, reads as an item.
 pub(crate) fn check_line(rt: &impl Abort, alloc: Global, code: &str, rest: &str, item: &str) {
     let line = format!(in alloc; "{code}{rest}\r\n").expect(rt, "memory");
-    let found = told(rt, alloc, &[line.as_bytes()]);
+    let found = reported(rt, alloc, &[line.as_bytes()]);
     same_line(rt, found.as_slice(), item, line.as_str());
 }

@@ -16,7 +16,7 @@ use Rattle.session_table.specs.declared.actions.Action.{Action}
 use Rattle.session_table.specs.declared.actions.Action.TheVariants.{Say, Hook, OpenPassive, ConnectTo, DropData, Start, Abort, CloseControl, ReleaseFloor}
 use Rattle.control_session.specs.Sides.{Given, SideCall}
 use Rattle.control_session.specs.Sides.SideCall.{Opens, Connects, Drops, Starts, Aborts, Looks, Settles}
-use Rattle.control_session.specs.Told.{closes, texts}
+use Rattle.control_session.specs.Reported.{closes, texts}
 use Rattle.control_session.specs.Rows.{Outcome}
 use Rattle.control_session.specs.Rows.Outcome.{Made, Stopped}
 use Rattle.control_session.specs.Sessions.{nothing}
@@ -57,13 +57,13 @@ situated items now =
 
 -- Asks is the effect of a call on the data side, and Told that of a call on the handler.
 module _ {A D H Q K : Type 0} (Asks : D → SideCall A Q K → D → Type 0)
-    (Told : H → Event → H → Type 0) where
+    (Reported : H → Event → H → Type 0) where
   -- exactly the calls of the actions are made, in order
   abbrev pub Serves : List (Action A Q K) → D → H → D → H → Type 0
   Serves [] side hooks side' hooks' = (side' ≡ side) × (hooks' ≡ hooks)
   Serves (Say reply ∷ actions) side hooks side' hooks' = Serves actions side hooks side' hooks'
   Serves (Hook call ∷ actions) side hooks side' hooks' =
-      (mid : H) × Told hooks (event_of call) mid × Serves actions side mid side' hooks'
+      (mid : H) × Reported hooks (event_of call) mid × Serves actions side mid side' hooks'
   Serves (OpenPassive ∷ actions) side hooks side' hooks' =
       (mid : D) × Asks side Opens mid × Serves actions mid hooks side' hooks'
   Serves (ConnectTo to ∷ actions) side hooks side' hooks' =
@@ -82,7 +82,7 @@ module _ {A D H Q K : Type 0} (Asks : D → SideCall A Q K → D → Type 0)
 module _ {A S C D H Q K : Type 0}
     (Row : Standing → Given K → ℕ → S → S → Promises → Outcome A Q K → Type 0)
     (Gives : C → ℕ → C → Type 0) (Asks : D → SideCall A Q K → D → Type 0)
-    (Told : H → Event → H → Type 0) where
+    (Reported : H → Event → H → Type 0) where
   -- An input is taken by its row, at a moment of the clock. Floors are released, the calls of its
   -- actions are made, and these are their texts.
   pub record IsTurned (items : List Item) (before : Scene S C D H K) (says : List ℕ)
@@ -99,7 +99,7 @@ module _ {A S C D H Q K : Type 0}
         (Made promises after.session actions)
     pub owes : releases actions ++ before.owed ≡ paid ++ after.owed
     pub promises_are : after.promises ≡ released paid promises
-    pub serves : Serves Asks Told actions before.side before.hooks after.side after.hooks
+    pub serves : Serves Asks Reported actions before.side before.hooks after.side after.hooks
     pub closed : after.closed ≡ (before.closed || closes actions)
     pub lost : before.lost ≡ true → after.lost ≡ true
     pub says_is : says ≡ texts actions
@@ -153,7 +153,7 @@ module _ {A S C D H Q K : Type 0}
       pub lost : Bool
       pub last : Scene S C D H K
       pub row : Then session.view actions ≡ greeting session.view
-      pub serves : Serves Asks Told actions old.side old.hooks side hooks
+      pub serves : Serves Asks Reported actions old.side old.hooks side hooks
       pub said : List (List ℕ)
       pub acts : Acts said items
           (record {
@@ -190,5 +190,5 @@ module _ {A S C D H Q K : Type 0}
       pub part : (rest : List ℕ) × (texts actions ++ concat said ≡ written ++ rest)
 
     -- there was no memory to begin, and nothing was read or written; or there was a session
-    abbrev pub IsTold : Type 0
-    IsTold = (IsErrOf result Memory × (new ≡ old)) ⊎ IsEndToEnd
+    abbrev pub IsReported : Type 0
+    IsReported = (IsErrOf result Memory × (new ≡ old)) ⊎ IsEndToEnd

@@ -25,7 +25,7 @@ use Rattle.control_session.specs.Sessions.{IsServed, IsSession, nothing}
 use Rattle.control_session.specs.Sides.{Given, SideCall}
 use Rattle.control_session.specs.Sides.Given.{Line, Held, Came, Closed}
 use Rattle.control_session.specs.Sides.SideCall.{Aborts, Connects, Drops, Looks, Opens, Settles, Starts}
-use Rattle.control_session.specs.Told.{text_of, texts}
+use Rattle.control_session.specs.Reported.{text_of, texts}
 use Rattle.control_session.specs.Turns.{Carried, Carries, Heard, IsIdle, IsTurn, Move, Next, Runs, Situation, Went, asked_as, at, behind, concat, release_calls}
 use Rattle.control_session.specs.Turns.Move.{Takes, Tries, Asks, Reads, Ends, Fails, Pays}
 use Rattle.control_session.specs.declared.fault.ControlFault.{ControlFault}
@@ -33,8 +33,8 @@ use Rattle.control_session.proofs.Going.{concat_more, open_went}
 use Rattle.control_session.specs.declared.turn_fault.TurnFault.{TurnFault}
 use Rattle.control_session.specs.declared.turn_fault.TurnFault.TheVariants.{Write, Memory}
 use Rattle.session_host.specs.Alone.{AloneDoes, Parts}
-use Rattle.session_host.specs.Told.{Act, Acts, IsEndToEnd, IsTold, IsTurned, Scene, Serves, released, situated}
-use Rattle.session_host.specs.Told.Act.{Turns, Hears, Listens, Frees, Lacks}
+use Rattle.session_host.specs.Reported.{Act, Acts, IsEndToEnd, IsReported, IsTurned, Scene, Serves, released, situated}
+use Rattle.session_host.specs.Reported.Act.{Turns, Hears, Listens, Frees, Lacks}
 
 -- ---- octets that are known
 
@@ -72,21 +72,21 @@ CutBy None (Some fault) written said = (rest : List ℕ) × (said ≡ written ++
 CutBy (Some why) None written said = ⊥
 CutBy (Some why) (Some fault) written said = written ≡ []
 
-cut_by_more : (a b c : Option TurnFault) (first says second telling : List ℕ) → CutBy a b first says → CutBy b c second telling → CutBy a c (first ++ second) (says ++ telling)
-cut_by_more None b c first says second telling one two = by b c one two
+cut_by_more : (a b c : Option TurnFault) (first says second reporting : List ℕ) → CutBy a b first says → CutBy b c second reporting → CutBy a c (first ++ second) (says ++ reporting)
+cut_by_more None b c first says second reporting one two = by b c one two
   where
-    by : (b c : Option TurnFault) → CutBy None b first says → CutBy b c second telling → CutBy None c (first ++ second) (says ++ telling)
+    by : (b c : Option TurnFault) → CutBy None b first says → CutBy b c second reporting → CutBy None c (first ++ second) (says ++ reporting)
     by None None one two = ap (λ (x : List ℕ). x ++ second) one ∙ ap (λ (x : List ℕ). says ++ x) two
-    by None (Some fault) one (rest, is) = (rest, ap (λ (x : List ℕ). x ++ telling) (sym one) ∙ (ap (λ (x : List ℕ). first ++ x) is ∙ sym (append_assoc first second rest)))
+    by None (Some fault) one (rest, is) = (rest, ap (λ (x : List ℕ). x ++ reporting) (sym one) ∙ (ap (λ (x : List ℕ). first ++ x) is ∙ sym (append_assoc first second rest)))
     by (Some why) None one two = absurd two
     by (Some why) (Some fault) (rest, is) none = (
-      rest ++ telling,
-      ap (λ (x : List ℕ). x ++ telling) is
-          ∙ (append_assoc first rest telling ∙ ap (λ (x : List ℕ). x ++ (rest ++ telling)) (sym (append-nil first) ∙ ap (λ (x : List ℕ). first ++ x) (sym none))),
+      rest ++ reporting,
+      ap (λ (x : List ℕ). x ++ reporting) is
+          ∙ (append_assoc first rest reporting ∙ ap (λ (x : List ℕ). x ++ (rest ++ reporting)) (sym (append-nil first) ∙ ap (λ (x : List ℕ). first ++ x) (sym none))),
     )
-cut_by_more (Some why) None c first says second telling one two = absurd one
-cut_by_more (Some why) (Some fault) None first says second telling one two = absurd two
-cut_by_more (Some why) (Some fault) (Some last) first says second telling one two = ap (λ (x : List ℕ). x ++ second) one ∙ two
+cut_by_more (Some why) None c first says second reporting one two = absurd one
+cut_by_more (Some why) (Some fault) None first says second reporting one two = absurd two
+cut_by_more (Some why) (Some fault) (Some last) first says second reporting one two = ap (λ (x : List ℕ). x ++ second) one ∙ two
 
 cut_none : (lost : Option TurnFault) → CutBy lost lost [] []
 cut_none None = refl
@@ -120,11 +120,11 @@ behind_asked Held heard other is = refl
 behind_asked (Came event) heard other is = is
 behind_asked Closed heard other is = is
 
-module _ {A D H Q K : Type 0} (Asks' : D → SideCall A Q K → D → Type 0) (Told : H → Event → H → Type 0) where
+module _ {A D H Q K : Type 0} (Asks' : D → SideCall A Q K → D → Type 0) (Reported : H → Event → H → Type 0) where
   -- what one action makes of the data side and of the handler
   abbrev ServesOne : Action A Q K → D → H → D → H → Type 0
   ServesOne (Say reply) side hooks side' hooks' = (side' ≡ side) × (hooks' ≡ hooks)
-  ServesOne (Hook call) side hooks side' hooks' = (side' ≡ side) × Told hooks (event_of call) hooks'
+  ServesOne (Hook call) side hooks side' hooks' = (side' ≡ side) × Reported hooks (event_of call) hooks'
   ServesOne OpenPassive side hooks side' hooks' = Asks' side Opens side' × (hooks' ≡ hooks)
   ServesOne (ConnectTo to) side hooks side' hooks' = Asks' side (Connects to) side' × (hooks' ≡ hooks)
   ServesOne DropData side hooks side' hooks' = Asks' side Drops side' × (hooks' ≡ hooks)
@@ -133,14 +133,14 @@ module _ {A D H Q K : Type 0} (Asks' : D → SideCall A Q K → D → Type 0) (T
   ServesOne CloseControl side hooks side' hooks' = (side' ≡ side) × (hooks' ≡ hooks)
   ServesOne (ReleaseFloor user) side hooks side' hooks' = (side' ≡ side) × (hooks' ≡ hooks)
 
-  serves_as : (actions : List (Action A Q K)) (side side1 side' : D) (hooks hooks1 hooks' : H) → side1 ≡ side → hooks1 ≡ hooks → Serves Asks' Told actions side1 hooks1 side' hooks' → Serves Asks' Told actions side hooks side' hooks'
+  serves_as : (actions : List (Action A Q K)) (side side1 side' : D) (hooks hooks1 hooks' : H) → side1 ≡ side → hooks1 ≡ hooks → Serves Asks' Reported actions side1 hooks1 side' hooks' → Serves Asks' Reported actions side hooks side' hooks'
   serves_as actions side side1 side' hooks hooks1 hooks' same also rest =
-      subst (λ (s : D). Serves Asks' Told actions s hooks side' hooks') same (subst (λ (h : H). Serves Asks' Told actions side1 h side' hooks') also rest)
+      subst (λ (s : D). Serves Asks' Reported actions s hooks side' hooks') same (subst (λ (h : H). Serves Asks' Reported actions side1 h side' hooks') also rest)
 
   serves_more : (action : Action A Q K) (actions : List (Action A Q K)) (side side1 side' : D) (hooks hooks1 hooks' : H)
-      → ServesOne action side hooks side1 hooks1 → Serves Asks' Told actions side1 hooks1 side' hooks' → Serves Asks' Told (action ∷ actions) side hooks side' hooks'
+      → ServesOne action side hooks side1 hooks1 → Serves Asks' Reported actions side1 hooks1 side' hooks' → Serves Asks' Reported (action ∷ actions) side hooks side' hooks'
   serves_more (Say reply) actions side side1 side' hooks hooks1 hooks' (same, also) rest = serves_as actions side side1 side' hooks hooks1 hooks' same also rest
-  serves_more (Hook call) actions side side1 side' hooks hooks1 hooks' (same, told) rest = (hooks1, told, serves_as actions side side1 side' hooks1 hooks1 hooks' same refl rest)
+  serves_more (Hook call) actions side side1 side' hooks hooks1 hooks' (same, reported) rest = (hooks1, reported, serves_as actions side side1 side' hooks1 hooks1 hooks' same refl rest)
   serves_more OpenPassive actions side side1 side' hooks hooks1 hooks' (did, also) rest = (side1, did, serves_as actions side1 side1 side' hooks hooks1 hooks' refl also rest)
   serves_more (ConnectTo to) actions side side1 side' hooks hooks1 hooks' (did, also) rest = (side1, did, serves_as actions side1 side1 side' hooks hooks1 hooks' refl also rest)
   serves_more DropData actions side side1 side' hooks hooks1 hooks' (did, also) rest = (side1, did, serves_as actions side1 side1 side' hooks hooks1 hooks' refl also rest)
@@ -151,10 +151,10 @@ module _ {A D H Q K : Type 0} (Asks' : D → SideCall A Q K → D → Type 0) (T
 
 -- ---- what calls make of a host of its own
 
-module _ {A S C D R W H Q K : Type 0} (users : Users) (Gives : C → ℕ → C → Type 0) (Asks' : D → SideCall A Q K → D → Type 0) (Told : H → Event → H → Type 0)
+module _ {A S C D R W H Q K : Type 0} (users : Users) (Gives : C → ℕ → C → Type 0) (Asks' : D → SideCall A Q K → D → Type 0) (Reported : H → Event → H → Type 0)
     (remaining : R → Option (List ℕ)) (may_fail : R → Bool) (contents : W → Option (List ℕ)) (may_refuse : W → List ℕ → Type 0) where
   abbrev Does : Parts S C D R W H → HostCall A S Q K → Parts S C D R W H → Type 0
-  Does = AloneDoes users Gives Asks' Told remaining may_fail contents may_refuse
+  Does = AloneDoes users Gives Asks' Reported remaining may_fail contents may_refuse
 
   one : (old new : Parts S C D R W H) (calls : List (HostCall A S Q K)) (call : HostCall A S Q K) → calls ≡ call ∷ [] → Chain Does old calls new → Does old call new
   one old new calls call is chain =
@@ -228,19 +228,19 @@ module _ {A S C D R W H Q K : Type 0} (users : Users) (Gives : C → ℕ → C �
         quiet old new lost lost' same (beside_none old new still) (ap (λ (x : Parts S C D R W H). x.writer) still),
       )
 
-  carried_told : (action : Action A Q K) (lost lost' : Option TurnFault) (calls : List (HostCall A S Q K)) (old new : Parts S C D R W H)
-      → Carried action lost calls lost' → Chain Does old calls new → ServesOne Asks' Told action old.side old.hooks new.side new.hooks × Carrying old new lost lost' (text_of action)
-  carried_told (Say reply) None None calls old new is chain =
+  carried_reported : (action : Action A Q K) (lost lost' : Option TurnFault) (calls : List (HostCall A S Q K)) (old new : Parts S C D R W H)
+      → Carried action lost calls lost' → Chain Does old calls new → ServesOne Asks' Reported action old.side old.hooks new.side new.hooks × Carrying old new lost lost' (text_of action)
+  carried_reported (Say reply) None None calls old new is chain =
       let (did, rest) = one old new calls _ is chain in (
         (ap (λ (x : Parts S C D R W H). x.side) rest, ap (λ (x : Parts S C D R W H). x.hooks) rest),
         record { written = reply_text (answer_form reply); beside = beside_writer old new rest; appended = did; cut = refl },
       )
-  carried_told (Say reply) None (Some Write) calls old new is chain =
+  carried_reported (Say reply) None (Some Write) calls old new is chain =
       let (refuses, part, rest) = one old new calls _ is chain in (
         (ap (λ (x : Parts S C D R W H). x.side) rest, ap (λ (x : Parts S C D R W H). x.hooks) rest),
         record { written = part.0; beside = beside_writer old new rest; appended = part.3; cut = (part.1, part.2) },
       )
-  carried_told (Say reply) None (Some Memory) calls old new is chain =
+  carried_reported (Say reply) None (Some Memory) calls old new is chain =
       let still = nothing_done old new calls is chain in (
         (ap (λ (x : Parts S C D R W H). x.side) still, ap (λ (x : Parts S C D R W H). x.hooks) still),
         record {
@@ -250,7 +250,7 @@ module _ {A S C D R W H Q K : Type 0} (users : Users) (Gives : C → ℕ → C �
           cut = (reply_text (answer_form reply), refl);
         },
       )
-  carried_told (Say reply) (Some fault) lost' calls old new (is, same) chain =
+  carried_reported (Say reply) (Some fault) lost' calls old new (is, same) chain =
       let still = nothing_done old new calls is chain in (
         (ap (λ (x : Parts S C D R W H). x.side) still, ap (λ (x : Parts S C D R W H). x.hooks) still),
         record {
@@ -260,42 +260,42 @@ module _ {A S C D R W H Q K : Type 0} (users : Users) (Gives : C → ℕ → C �
           cut = subst (λ (l : Option TurnFault). CutBy (Some fault) l [] (reply_text (answer_form reply))) (sym same) refl;
         },
       )
-  carried_told (Hook call) lost lost' calls old new (is, same) chain =
+  carried_reported (Hook call) lost lost' calls old new (is, same) chain =
       let (did, rest) = one old new calls _ is chain in (
         (ap (λ (x : Parts S C D R W H). x.side) rest, did),
         quiet old new lost lost' same (beside_hooks old new rest) (ap (λ (x : Parts S C D R W H). x.writer) rest),
       )
-  carried_told OpenPassive lost lost' calls old new (is, same) chain = asked old new calls Opens lost lost' is same chain
-  carried_told (ConnectTo to) lost lost' calls old new (is, same) chain = asked old new calls (Connects to) lost lost' is same chain
-  carried_told DropData lost lost' calls old new (is, same) chain = asked old new calls Drops lost lost' is same chain
-  carried_told (Start job) lost lost' calls old new (is, same) chain = asked old new calls (Starts job) lost lost' is same chain
-  carried_told Abort lost lost' calls old new (is, same) chain = asked old new calls Aborts lost lost' is same chain
-  carried_told CloseControl lost lost' calls old new (is, same) chain = idle old new calls lost lost' is same chain
-  carried_told (ReleaseFloor user) lost lost' calls old new (is, same) chain = idle old new calls lost lost' is same chain
+  carried_reported OpenPassive lost lost' calls old new (is, same) chain = asked old new calls Opens lost lost' is same chain
+  carried_reported (ConnectTo to) lost lost' calls old new (is, same) chain = asked old new calls (Connects to) lost lost' is same chain
+  carried_reported DropData lost lost' calls old new (is, same) chain = asked old new calls Drops lost lost' is same chain
+  carried_reported (Start job) lost lost' calls old new (is, same) chain = asked old new calls (Starts job) lost lost' is same chain
+  carried_reported Abort lost lost' calls old new (is, same) chain = asked old new calls Aborts lost lost' is same chain
+  carried_reported CloseControl lost lost' calls old new (is, same) chain = idle old new calls lost lost' is same chain
+  carried_reported (ReleaseFloor user) lost lost' calls old new (is, same) chain = idle old new calls lost lost' is same chain
 
-  carrying_more : (a b c : Parts S C D R W H) (l0 l1 l2 : Option TurnFault) (says telling : List ℕ) → Carrying a b l0 l1 says → Carrying b c l1 l2 telling → Carrying a c l0 l2 (says ++ telling)
-  carrying_more a b c l0 l1 l2 says telling first second = record {
+  carrying_more : (a b c : Parts S C D R W H) (l0 l1 l2 : Option TurnFault) (says reporting : List ℕ) → Carrying a b l0 l1 says → Carrying b c l1 l2 reporting → Carrying a c l0 l2 (says ++ reporting)
+  carrying_more a b c l0 l1 l2 says reporting first second = record {
     written = first.written ++ second.written;
     beside = beside_then a b c first.beside second.beside;
     appended = appends_more (contents a.writer) (contents b.writer) (contents c.writer) first.written second.written first.appended second.appended;
-    cut = cut_by_more l0 l1 l2 first.written says second.written telling first.cut second.cut;
+    cut = cut_by_more l0 l1 l2 first.written says second.written reporting first.cut second.cut;
   }
 
-  carries_told : (actions : List (Action A Q K)) (lost lost' : Option TurnFault) (calls : List (HostCall A S Q K)) (old new : Parts S C D R W H)
-      → Carries actions lost calls lost' → Chain Does old calls new → Serves Asks' Told actions old.side old.hooks new.side new.hooks × Carrying old new lost lost' (texts actions)
-  carries_told [] lost lost' calls old new (is, same) chain = idle old new calls lost lost' is same chain
-  carries_told (action ∷ actions) lost lost' calls old new (first, rest, mid, is, carried, carries) chain =
+  carries_reported : (actions : List (Action A Q K)) (lost lost' : Option TurnFault) (calls : List (HostCall A S Q K)) (old new : Parts S C D R W H)
+      → Carries actions lost calls lost' → Chain Does old calls new → Serves Asks' Reported actions old.side old.hooks new.side new.hooks × Carrying old new lost lost' (texts actions)
+  carries_reported [] lost lost' calls old new (is, same) chain = idle old new calls lost lost' is same chain
+  carries_reported (action ∷ actions) lost lost' calls old new (first, rest, mid, is, carried, carries) chain =
       let (host, front, back) = chain_split Does old new first rest (subst (λ (x : List (HostCall A S Q K)). Chain Does old x new) is chain) in
-      let (serves, now) = carried_told action lost mid first old host carried front in
-      let (serving, later) = carries_told actions mid lost' rest host new carries back in (
-        serves_more Asks' Told action actions old.side host.side new.side old.hooks host.hooks new.hooks serves serving,
+      let (serves, now) = carried_reported action lost mid first old host carried front in
+      let (serving, later) = carries_reported actions mid lost' rest host new carries back in (
+        serves_more Asks' Reported action actions old.side host.side new.side old.hooks host.hooks new.hooks serves serving,
         carrying_more old host new lost mid lost' (text_of action) (texts actions) now later,
       )
 
-  paid_told : (paid : List ℕ) (old new : Parts S C D R W H) → Chain Does old (release_calls paid) new → new ≡ record old { promises = released paid old.promises }
-  paid_told [] old new same = same
-  paid_told (user ∷ paid) old new (mid, did, more) =
-      paid_told paid mid new more ∙ ap (λ (x : Parts S C D R W H). record x { promises = released paid x.promises }) did
+  paid_reported : (paid : List ℕ) (old new : Parts S C D R W H) → Chain Does old (release_calls paid) new → new ≡ record old { promises = released paid old.promises }
+  paid_reported [] old new same = same
+  paid_reported (user ∷ paid) old new (mid, did, more) =
+      paid_reported paid mid new more ∙ ap (λ (x : Parts S C D R W H). record x { promises = released paid x.promises }) did
 
   -- ---- moves
 
@@ -317,7 +317,7 @@ module _ {A S C D R W H Q K : Type 0} (users : Users) (Gives : C → ℕ → C �
     }
 
     abbrev Doing : List Item → Scene S C D H K → List ℕ → Scene S C D H K → Type 0
-    Doing = Act (Row users) Gives Asks' Told
+    Doing = Act (Row users) Gives Asks' Reported
 
     follows_next : (items later : List Item) (now : Situation K) (host : Parts S C D R W H) (given : Given K) (came : Option (DataEvent K)) (taken : List Item)
         → items ≡ now.heard.items ++ later → Next now given came taken → Next (situated items (scene_of now host)) given came taken
@@ -330,7 +330,7 @@ module _ {A S C D R W H Q K : Type 0} (users : Users) (Gives : C → ℕ → C �
     -- what a move makes of a session, of what was read and of what was written
     record Moved (items : List Item) (before : Situation K) (old : Parts S C D R W H) (after : Situation K) (new : Parts S C D R W H) : Type 0 where
       pub says : List (List ℕ)
-      pub acts : Acts (Row users) Gives Asks' Told says items (scene_of before old) (scene_of after new)
+      pub acts : Acts (Row users) Gives Asks' Reported says items (scene_of before old) (scene_of after new)
       pub written : List ℕ
       pub appended : Appends (contents old.writer) (contents new.writer) written
       pub cut : CutBy before.lost after.lost written (concat says)
@@ -346,13 +346,13 @@ module _ {A S C D R W H Q K : Type 0} (users : Users) (Gives : C → ℕ → C �
     still_at_end : (old new : Parts S C D R W H) (was is : Bool) → new.reader ≡ old.reader → is ≡ was → (was ≡ true → IsAtEnd (remaining old.reader)) → is ≡ true → IsAtEnd (remaining new.reader)
     still_at_end old new was is same stays ends ended = subst (λ (r : R). IsAtEnd (remaining r)) (sym same) (ends (sym stays ∙ ended))
 
-    turn_told : (items later : List Item) (before after : Situation K) (calls : List (HostCall A S Q K)) (old new : Parts S C D R W H)
+    turn_reported : (items later : List Item) (before after : Situation K) (calls : List (HostCall A S Q K)) (old new : Parts S C D R W H)
         → items ≡ before.heard.items ++ later → IsTurn Row before calls after → Chain Does old calls new → Moved items before old after new
-    turn_told items later before after calls old new is turn chain =
+    turn_reported items later before after calls old new is turn chain =
         let (lent, did, rest) = subst (λ (x : List (HostCall A S Q K)). Chain Does old x new) turn.trace chain in
         let (host, front, back) = chain_split Does lent new (release_calls turn.paid) turn.carried rest in
-        let freed = paid_told turn.paid lent host front in
-        let (serves, carrying) = carries_told turn.actions before.lost after.lost turn.carried host new turn.carries back in
+        let freed = paid_reported turn.paid lent host front in
+        let (serves, carrying) = carries_reported turn.actions before.lost after.lost turn.carried host new turn.carries back in
         let stores : new.store ≡ turn.store' =
         carrying.beside.store ∙ (ap (λ (x : Parts S C D R W H). x.store) freed ∙ ap (λ (x : Parts S C D R W H). x.store) did.rest) in
         let clocks : new.clock ≡ lent.clock = carrying.beside.clock ∙ ap (λ (x : Parts S C D R W H). x.clock) freed in
@@ -361,7 +361,7 @@ module _ {A S C D R W H Q K : Type 0} (users : Users) (Gives : C → ℕ → C �
         let writers : host.writer ≡ old.writer = ap (λ (x : Parts S C D R W H). x.writer) freed ∙ ap (λ (x : Parts S C D R W H). x.writer) did.rest in
         let sides : host.side ≡ old.side = ap (λ (x : Parts S C D R W H). x.side) freed ∙ ap (λ (x : Parts S C D R W H). x.side) did.rest in
         let handlers : host.hooks ≡ old.hooks = ap (λ (x : Parts S C D R W H). x.hooks) freed ∙ ap (λ (x : Parts S C D R W H). x.hooks) did.rest in
-        let turned : IsTurned (Row users) Gives Asks' Told items (scene_of before old) (texts turn.actions) (scene_of after new) = record {
+        let turned : IsTurned (Row users) Gives Asks' Reported items (scene_of before old) (texts turn.actions) (scene_of after new) = record {
           given = turn.given;
           moment = turn.moment;
           promises = turn.promises';
@@ -377,7 +377,7 @@ module _ {A S C D R W H Q K : Type 0} (users : Users) (Gives : C → ℕ → C �
           owes = turn.owes;
           promises_are = carrying.beside.promises
               ∙ (ap (λ (x : Parts S C D R W H). x.promises) freed ∙ ap (λ (x : Parts S C D R W H). released turn.paid x.promises) did.rest);
-          serves = serves_as Asks' Told turn.actions old.side host.side new.side old.hooks host.hooks new.hooks sides handlers serves;
+          serves = serves_as Asks' Reported turn.actions old.side host.side new.side old.hooks host.hooks new.hooks sides handlers serves;
           closed = turn.closed;
           lost = stays_lost before.lost after.lost carrying.written (texts turn.actions) carrying.cut;
           says_is = refl;
@@ -412,9 +412,9 @@ module _ {A S C D R W H Q K : Type 0} (users : Users) (Gives : C → ℕ → C �
     uncut : (before after : Situation K) → after.lost ≡ before.lost → CutBy before.lost after.lost [] []
     uncut before after same = subst (λ (l : Option TurnFault). CutBy before.lost l [] []) (sym same) (cut_none before.lost)
 
-    asks_told : (items : List Item) (before after : Situation K) (old new : Parts S C D R W H) (event : Option (DataEvent K)) → before.came ≡ None → after ≡ record before { came = event; heard = asked_as true before.heard }
+    asks_reported : (items : List Item) (before after : Situation K) (old new : Parts S C D R W H) (event : Option (DataEvent K)) → before.came ≡ None → after ≡ record before { came = event; heard = asked_as true before.heard }
         → (Asks' old.side (Looks event) new.side) ⊎ ((is_closed before.session.view.stage ≡ true) × Asks' old.side (Settles event) new.side) → new ≡ record old { side = new.side } → Moved items before old after new
-    asks_told items before after old new event none same asks rest =
+    asks_reported items before after old new event none same asks rest =
         plain items before after old new
         (Hears event none
         (ap (λ (x : Situation K). scene_of x new) same ∙ ap (λ (x : Parts S C D R W H). scene_of (record before { came = event; heard = asked_as true before.heard }) x) rest) asks refl)
@@ -422,10 +422,10 @@ module _ {A S C D R W H Q K : Type 0} (users : Users) (Gives : C → ℕ → C �
         (ap (λ (x : Situation K). x.heard.octets) same) (ap (λ (x : Situation K). x.heard.ended) same) (uncut before after (ap (λ (x : Situation K). x.lost) same))
 
     -- something is read, and nothing else is done
-    reads_told : (items : List Item) (before after : Situation K) (old new : Parts S C D R W H) (heard : Heard) (octets : List ℕ) → IsIdle before → before.closed ≡ false → heard.asked ≡ false → after ≡ record before { heard = heard }
+    reads_reported : (items : List Item) (before after : Situation K) (old new : Parts S C D R W H) (heard : Heard) (octets : List ℕ) → IsIdle before → before.closed ≡ false → heard.asked ≡ false → after ≡ record before { heard = heard }
         → new ≡ record old { reader = new.reader } → Consumes (remaining old.reader) (remaining new.reader) octets → heard.octets ≡ before.heard.octets ++ octets
         → (heard.ended ≡ true → IsAtEnd (remaining new.reader)) → Moved items before old after new
-    reads_told items before after old new heard octets idle live unasked same rest consumed more ends = record {
+    reads_reported items before after old new heard octets idle live unasked same rest consumed more ends = record {
       says = [] ∷ [];
       acts = (
         scene_of after new,
@@ -446,10 +446,10 @@ module _ {A S C D R W H Q K : Type 0} (users : Users) (Gives : C → ℕ → C �
     never : {X : Type 0} (b : Bool) → b ≡ false → b ≡ true → X
     never b not is = absurd (false≢true (sym not ∙ is))
 
-    move_told : (items later : List Item) (before after : Situation K) (calls : List (HostCall A S Q K)) (old new : Parts S C D R W H)
+    move_reported : (items later : List Item) (before after : Situation K) (calls : List (HostCall A S Q K)) (old new : Parts S C D R W H)
         → items ≡ before.heard.items ++ later → Move Row before calls after → Chain Does old calls new → Moved items before old after new
-    move_told items later before after calls old new is (Takes turn) chain = turn_told items later before after calls old new is turn chain
-    move_told items later before after calls old new is (Tries given moment lent store store' promises came taken next stopped same trace) chain =
+    move_reported items later before after calls old new is (Takes turn) chain = turn_reported items later before after calls old new is turn chain
+    move_reported items later before after calls old new is (Tries given moment lent store store' promises came taken next stopped same trace) chain =
         let did = one old new calls (Tried before.session moment lent store store' promises) trace chain in
         let stores : new.store ≡ store' = ap (λ (x : Parts S C D R W H). x.store) did.rest in
         let rest : new ≡ record old { clock = new.clock; store = new.store } =
@@ -464,22 +464,22 @@ module _ {A S C D R W H Q K : Type 0} (users : Users) (Gives : C → ℕ → C �
         (ap (λ (x : Parts S C D R W H). x.reader) rest) (ap (λ (x : Parts S C D R W H). x.writer) rest)
         (ap (λ (x : Situation K). x.heard.octets) same) (ap (λ (x : Situation K). x.heard.ended) same)
         (subst (λ (l : Option TurnFault). CutBy before.lost l [] []) (sym (ap (λ (x : Situation K). x.lost) same)) (stopped_cut before.lost))
-    move_told items later before after calls old new is (Asks event none same (inl trace)) chain =
+    move_reported items later before after calls old new is (Asks event none same (inl trace)) chain =
         let (did, rest) = one old new calls (Asked (Looks event)) trace chain in
-        asks_told items before after old new event none same (inl did) rest
-    move_told items later before after calls old new is (Asks event none same (inr (gone, trace))) chain =
+        asks_reported items before after old new event none same (inl did) rest
+    move_reported items later before after calls old new is (Asks event none same (inr (gone, trace))) chain =
         let (did, rest) = one old new calls (Asked (Settles event)) trace chain in
-        asks_told items before after old new event none same (inr (gone, did)) rest
-    move_told items later before after calls old new is (Reads octets found idle live unended same trace) chain =
+        asks_reported items before after old new event none same (inr (gone, did)) rest
+    move_reported items later before after calls old new is (Reads octets found idle live unended same trace) chain =
         let (did, some) = one old new calls (Read octets) trace chain in
-        reads_told items before after old new _ octets idle live refl same did.rest did.taken refl (λ ended. never before.heard.ended unended ended)
-    move_told items later before after calls old new is (Ends idle live unended same trace) chain =
+        reads_reported items before after old new _ octets idle live refl same did.rest did.taken refl (λ ended. never before.heard.ended unended ended)
+    move_reported items later before after calls old new is (Ends idle live unended same trace) chain =
         let (did, ends) = one old new calls ReadEnd trace chain in
-        reads_told items before after old new _ [] idle live refl same did.rest did.taken (sym (append-nil before.heard.octets)) (λ ended. ends)
-    move_told items later before after calls old new is (Fails idle live unended same trace) chain =
+        reads_reported items before after old new _ [] idle live refl same did.rest did.taken (sym (append-nil before.heard.octets)) (λ ended. ends)
+    move_reported items later before after calls old new is (Fails idle live unended same trace) chain =
         let (did, fails) = one old new calls ReadFailed trace chain in
-        reads_told items before after old new _ [] idle live refl same did.rest did.taken (sym (append-nil before.heard.octets)) (λ ended. never before.heard.ended unended ended)
-    move_told items later before after calls old new is (Pays user owed owes same trace) chain =
+        reads_reported items before after old new _ [] idle live refl same did.rest did.taken (sym (append-nil before.heard.octets)) (λ ended. never before.heard.ended unended ended)
+    move_reported items later before after calls old new is (Pays user owed owes same trace) chain =
         let rest = one old new calls (Released user) trace chain in
         plain items before after old new
         (Frees user owed owes
@@ -488,8 +488,8 @@ module _ {A S C D R W H Q K : Type 0} (users : Users) (Gives : C → ℕ → C �
         (ap (λ (x : Situation K). x.heard.octets) same) (ap (λ (x : Situation K). x.heard.ended) same) (uncut before after (ap (λ (x : Situation K). x.lost) same))
 
     acts_more : (items : List Item) (first second : List (List ℕ)) (a b c : Scene S C D H K)
-        → Acts (Row users) Gives Asks' Told first items a b → Acts (Row users) Gives Asks' Told second items b c → Acts (Row users) Gives Asks' Told (first ++ second) items a c
-    acts_more items [] second a b c same rest = subst (λ (x : Scene S C D H K). Acts (Row users) Gives Asks' Told second items x c) same rest
+        → Acts (Row users) Gives Asks' Reported first items a b → Acts (Row users) Gives Asks' Reported second items b c → Acts (Row users) Gives Asks' Reported (first ++ second) items a c
+    acts_more items [] second a b c same rest = subst (λ (x : Scene S C D H K). Acts (Row users) Gives Asks' Reported second items x c) same rest
     acts_more items (says ∷ first) second a b c (mid, does, more) rest = (mid, does, acts_more items first second mid b c more rest)
 
     moved_more : (items : List Item) (x y z : Situation K) (a b c : Parts S C D R W H) → Moved items x a y b → Moved items y b z c → Moved items x a z c
@@ -542,28 +542,28 @@ module _ {A S C D R W H Q K : Type 0} (users : Users) (Gives : C → ℕ → C �
         let rest = runs_grow moves mid after more in
         (first.0 ++ rest.0, rest.1 ∙ (ap (λ (x : List Item). x ++ rest.0) first.1 ∙ append_assoc before.heard.items first.0 rest.0))
 
-    runs_told : (items later : List Item) (moves : List (List (HostCall A S Q K))) (before after : Situation K) (old new : Parts S C D R W H)
+    runs_reported : (items later : List Item) (moves : List (List (HostCall A S Q K))) (before after : Situation K) (old new : Parts S C D R W H)
         → items ≡ after.heard.items ++ later → Runs Row moves before after → Chain Does old (concat moves) new → Moved items before old after new
-    runs_told items later [] before after old new is same chain = moved_none items before after old new same chain
-    runs_told items later (calls ∷ moves) before after old new is (mid, move, more) chain =
+    runs_reported items later [] before after old new is same chain = moved_none items before after old new same chain
+    runs_reported items later (calls ∷ moves) before after old new is (mid, move, more) chain =
         let (host, front, back) = chain_split Does old new calls (concat moves) chain in
         let grown = runs_grow (calls ∷ moves) before after (mid, move, more) in
         moved_more items before mid after old host new
-        (move_told items (grown.0 ++ later) before mid calls old host (is ∙ (ap (λ (x : List Item). x ++ later) grown.1 ∙ append_assoc before.heard.items grown.0 later)) move front)
-        (runs_told items later moves mid after host new is more back)
+        (move_reported items (grown.0 ++ later) before mid calls old host (is ∙ (ap (λ (x : List Item). x ++ later) grown.1 ∙ append_assoc before.heard.items grown.0 later)) move front)
+        (runs_reported items later moves mid after host new is more back)
 
-    went_told : (items later : List Item) (before after : Situation K) (old new : Parts S C D R W H) → items ≡ after.heard.items ++ later → Went Row Does old before new after → Moved items before old after new
-    went_told items later before after old new is went = runs_told items later went.moves before after old new is went.runs went.asked
+    went_reported : (items later : List Item) (before after : Situation K) (old new : Parts S C D R W H) → items ≡ after.heard.items ++ later → Went Row Does old before new after → Moved items before old after new
+    went_reported items later before after old new is went = runs_reported items later went.moves before after old new is went.runs went.asked
 
     -- ---- the whole
 
-    whole_told : {T : Type 0} (result : Result T ControlFault) (lost : Option TurnFault) (written said : List ℕ) → OnOk result (lost ≡ None) → CutBy None lost written said → OnOk result (written ≡ said)
-    whole_told (Ok value) lost written said none cut = subst (λ (l : Option TurnFault). CutBy None l written said) none cut
-    whole_told (Err fault) lost written said none cut = tt
+    whole_reported : {T : Type 0} (result : Result T ControlFault) (lost : Option TurnFault) (written said : List ℕ) → OnOk result (lost ≡ None) → CutBy None lost written said → OnOk result (written ≡ said)
+    whole_reported (Ok value) lost written said none cut = subst (λ (l : Option TurnFault). CutBy None l written said) none cut
+    whole_reported (Err fault) lost written said none cut = tt
 
-    part_told : (lost : Option TurnFault) (written said : List ℕ) → CutBy None lost written said → (rest : List ℕ) × (said ≡ written ++ rest)
-    part_told None written said same = ([], sym same ∙ sym (append-nil written))
-    part_told (Some fault) written said cut = cut
+    part_reported : (lost : Option TurnFault) (written said : List ℕ) → CutBy None lost written said → (rest : List ℕ) × (said ≡ written ++ rest)
+    part_reported None written said same = ([], sym same ∙ sym (append-nil written))
+    part_reported (Some fault) written said cut = cut
 
     on_ok : {T : Type 0} (result : Result T ControlFault) (P P' : Type 0) → (P → P') → OnOk result P → OnOk result P'
     on_ok (Ok value) P P' to holds = to holds
@@ -573,30 +573,30 @@ module _ {A S C D R W H Q K : Type 0} (users : Users) (Gives : C → ℕ → C �
     on_err (Ok value) P P' to holds = tt
     on_err (Err fault) P P' to holds = to holds
 
-    over_told : (last : Situation K) (reader : R) → (last.heard.ended ≡ true → IsAtEnd (remaining reader)) → (last.closed ≡ true) ⊎ ((last.heard.ended ≡ true) × (last.heard.items ≡ last.taken))
+    over_reported : (last : Situation K) (reader : R) → (last.heard.ended ≡ true → IsAtEnd (remaining reader)) → (last.closed ≡ true) ⊎ ((last.heard.ended ≡ true) × (last.heard.items ≡ last.taken))
         → (last.closed ≡ true) ⊎ (IsAtEnd (remaining reader) × (last.heard.items ≡ last.taken))
-    over_told last reader ends (inl closed) = inl closed
-    over_told last reader ends (inr (ended, all)) = inr (ends ended, all)
+    over_reported last reader ends (inl closed) = inl closed
+    over_reported last reader ends (inr (ended, all)) = inr (ends ended, all)
 
-    settled_told : (items : List Item) (now : Situation K) (old new : Parts S C D R W H) (event : Option (DataEvent K)) → now.came ≡ None → is_closed now.session.view.stage ≡ true → Does old (Asked (Settles event)) new
+    settled_reported : (items : List Item) (now : Situation K) (old new : Parts S C D R W H) (event : Option (DataEvent K)) → now.came ≡ None → is_closed now.session.view.stage ≡ true → Does old (Asked (Settles event)) new
         → Moved items now old (record now { came = event; heard = asked_as true now.heard }) new
-    settled_told items now old new event none gone (did, rest) = asks_told items now (record now { came = event; heard = asked_as true now.heard }) old new event none refl (inr (gone, did)) rest
+    settled_reported items now old new event none gone (did, rest) = asks_reported items now (record now { came = event; heard = asked_as true now.heard }) old new event none refl (inr (gone, did)) rest
 
-    pub session_told : {T : Type 0} (turns : ℕ) (result : Result T ControlFault) (session : Standing) (old new : Parts S C D R W H)
-        → IsSession Row Does turns result session old new → IsEndToEnd (Row users) Gives Asks' Told remaining contents result session old new
-    session_told turns result session old new is =
+    pub session_reported : {T : Type 0} (turns : ℕ) (result : Result T ControlFault) (session : Standing) (old new : Parts S C D R W H)
+        → IsSession Row Does turns result session old new → IsEndToEnd (Row users) Gives Asks' Reported remaining contents result session old new
+    session_reported turns result session old new is =
         let closing = is.closing in
         let begun = at {K = K} session None [] nothing [] false is.lost in
         let left = at {K = K} closing.session None is.stood.taken is.stood.heard closing.owes is.stood.closed is.stood.lost in
         let settled = record left { came = closing.event; heard = asked_as true left.heard } in
         let items = is.last.heard.items in
         let (later, grown) = runs_grow closing.rest.moves settled is.last closing.rest.runs in
-        let (serves, greets) = carries_told is.actions None is.lost is.said old is.mid is.greets is.greeted in
+        let (serves, greets) = carries_reported is.actions None is.lost is.said old is.mid is.greets is.greeted in
         let moved =
-        moved_more items begun is.stood is.last is.mid is.turned new (went_told items later begun is.stood is.mid is.turned grown (open_went Row Does is.mid is.turned begun is.stood is.went))
-        (moved_more items is.stood left is.last is.turned closing.mid new (went_told items later is.stood left is.turned closing.mid grown closing.first)
-        (moved_more items left settled is.last closing.mid closing.mid' new (settled_told items left closing.mid closing.mid' closing.event refl closing.closed_then closing.settled)
-        (went_told items [] settled is.last closing.mid' new (sym (append-nil items)) closing.rest))) in
+        moved_more items begun is.stood is.last is.mid is.turned new (went_reported items later begun is.stood is.mid is.turned grown (open_went Row Does is.mid is.turned begun is.stood is.went))
+        (moved_more items is.stood left is.last is.turned closing.mid new (went_reported items later is.stood left is.turned closing.mid grown closing.first)
+        (moved_more items left settled is.last closing.mid closing.mid' new (settled_reported items left closing.mid closing.mid' closing.event refl closing.closed_then closing.settled)
+        (went_reported items [] settled is.last closing.mid' new (sym (append-nil items)) closing.rest))) in
         let cut = cut_by_more None is.lost is.last.lost greets.written (texts is.actions) moved.written (concat moved.says) greets.cut moved.cut in
         let begins = scene_of begun is.mid in
         record {
@@ -611,9 +611,9 @@ module _ {A S C D R W H Q K : Type 0} (users : Users) (Gives : C → ℕ → C �
           said = moved.says;
           row = is.row;
           serves = serves;
-          acts = subst (λ (c : C). Acts (Row users) Gives Asks' Told moved.says items (record begins { store = old.store; promises = old.promises; clock = c }) (scene_of is.last new)) greets.beside.clock
-              (subst (λ (p : Promises). Acts (Row users) Gives Asks' Told moved.says items (record begins { store = old.store; promises = p }) (scene_of is.last new)) greets.beside.promises
-              (subst (λ (s : S). Acts (Row users) Gives Asks' Told moved.says items (record begins { store = s }) (scene_of is.last new)) greets.beside.store moved.acts));
+          acts = subst (λ (c : C). Acts (Row users) Gives Asks' Reported moved.says items (record begins { store = old.store; promises = old.promises; clock = c }) (scene_of is.last new)) greets.beside.clock
+              (subst (λ (p : Promises). Acts (Row users) Gives Asks' Reported moved.says items (record begins { store = old.store; promises = p }) (scene_of is.last new)) greets.beside.promises
+              (subst (λ (s : S). Acts (Row users) Gives Asks' Reported moved.says items (record begins { store = s }) (scene_of is.last new)) greets.beside.store moved.acts));
           closed = is.closed_then;
           answered = is.answered;
           paid = is.paid;
@@ -625,13 +625,13 @@ module _ {A S C D R W H Q K : Type 0} (users : Users) (Gives : C → ℕ → C �
           consumed = subst (λ (r : R). Consumes (remaining r) (remaining new.reader) moved.octets) greets.beside.reader moved.consumed;
           heard = subst (λ (x : List ℕ). OnOk result (OnlyReadsAs x items)) moved.heard is.heard;
           cut = subst (λ (x : List ℕ). OnErr result ((fed unfed : List ℕ) × (x ≡ fed ++ unfed) × OnlyReadsAs fed items)) moved.heard is.cut;
-          over = on_ok result _ _ (over_told is.last new.reader (moved.at_end (λ ended. absurd (false≢true ended)))) is.all;
+          over = on_ok result _ _ (over_reported is.last new.reader (moved.at_end (λ ended. absurd (false≢true ended)))) is.all;
           appended = appends_more (contents old.writer) (contents is.mid.writer) (contents new.writer) greets.written moved.written greets.appended moved.appended;
-          whole = whole_told result is.last.lost (greets.written ++ moved.written) (texts is.actions ++ concat moved.says) is.whole cut;
-          part = part_told is.last.lost (greets.written ++ moved.written) (texts is.actions ++ concat moved.says) cut;
+          whole = whole_reported result is.last.lost (greets.written ++ moved.written) (texts is.actions ++ concat moved.says) is.whole cut;
+          part = part_reported is.last.lost (greets.written ++ moved.written) (texts is.actions ++ concat moved.says) cut;
         }
 
-    pub served_told : {T : Type 0} (turns : ℕ) (result : Result T ControlFault) (session : Standing) (old new : Parts S C D R W H)
-        → IsServed Row Does turns result session old new → IsTold (Row users) Gives Asks' Told remaining contents result session old new
-    served_told turns result session old new (inl unserved) = inl unserved
-    served_told turns result session old new (inr is) = inr (session_told turns result session old new is)
+    pub served_reported : {T : Type 0} (turns : ℕ) (result : Result T ControlFault) (session : Standing) (old new : Parts S C D R W H)
+        → IsServed Row Does turns result session old new → IsReported (Row users) Gives Asks' Reported remaining contents result session old new
+    served_reported turns result session old new (inl unserved) = inl unserved
+    served_reported turns result session old new (inr is) = inr (session_reported turns result session old new is)

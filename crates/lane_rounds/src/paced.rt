@@ -22,7 +22,7 @@ const WINDOW: u64 = 32 * TICK_MICROS;
 
 /// The rounds of a desk with their pace, and the tallies of the transfers that they granted to. All that the rounds have
 /// issued since is in a tally. They cannot be dropped.
-pub struct Turns<B: PartsName, N> {
+pub struct TalliedRounds<B: PartsName, N> {
     pub(crate) rounds: LentRounds<B, N>,
     tallies: Tallies,
     names: HeldNames,
@@ -31,13 +31,13 @@ pub struct Turns<B: PartsName, N> {
     ghost counted: { rounds.rounds.rounds.book.issued ≡ tallied tallies + before },
 }
 
-impl<B: PartsName, N> Turns<B, N> {
+impl<B: PartsName, N> TalliedRounds<B, N> {
     /// The rounds of a desk, with nothing tallied. What holds transfers back is counted if that is wanted.
-    pub fn new(rounds: LentRounds<B, N>, is_wanted: bool) -> Turns<B, N>
+    pub fn new(rounds: LentRounds<B, N>, is_wanted: bool) -> TalliedRounds<B, N>
         ensures rounds { result.rounds ≡ rounds }
     {
         let before = rounds.issued();
-        Turns {
+        TalliedRounds {
             rounds,
             tallies: Tallies::new(),
             names: HeldNames::new(is_wanted),
@@ -114,7 +114,7 @@ impl<B: PartsName, N> Turns<B, N> {
     pub fn into_rounds(self) -> LentRounds<B, N>
         ensures rounds { result ≡ self.rounds }
     {
-        let Turns {
+        let TalliedRounds {
             rounds,
             tallies: _,
             names: _,

@@ -124,12 +124,12 @@ impl ErrorText<'_, '_> {
         cause: &Cause<'_>,
         fault: TextFault,
     ) -> fmt::Result {
-        let told = TextReason {
+        let reported = TextReason {
             fault,
             cause: *cause,
             output: self.output,
         };
-        write!(f, "{told}")
+        write!(f, "{reported}")
     }
 
     fn share_above<W: fmt::Write>(

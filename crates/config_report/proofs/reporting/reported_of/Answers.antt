@@ -1,5 +1,5 @@
 use Rattle.std.proofs.Common.{rules}
-use Rattle.config_report.proofs.reporting.told_of.Goals as goal
+use Rattle.config_report.proofs.reporting.reported_of.Goals as goal
 
 pub returns-in-Ok-text_of-clause-report : goal.returns-in-Ok-text_of-clause-report
 returns-in-Ok-text_of-clause-report g c =

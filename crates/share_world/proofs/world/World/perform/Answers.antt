@@ -1,11 +1,11 @@
 use Rattle.std.proofs.Common.{◌≡◌, arith, refl, ◌<◌, length, true, sym, ◌∙◌, ap}
 use Rattle.world_terms.specs.Decisions.{AllPosted}
 use Rattle.world_terms.specs.Steps.{lane_of}
-use Rattle.share_world.specs.Turns.{is_collect}
+use Rattle.share_world.specs.Performed.{is_collect}
 use Rattle.share_world.proofs.Asking.{all_left, none_left}
-use Rattle.share_world.proofs.Turning.{books_at, not_posted, turn_seen}
-use Rattle.share_world.proofs.world.World.turn.Goals as goal
-use Rattle.share_world.proofs.world.World.turn.Goals.{else-is_collect-via-then-is_collect+else-not-all_posted, else-is_collect-via-else-is_collect}
+use Rattle.share_world.proofs.Performing.{books_at, not_posted, perform_seen}
+use Rattle.share_world.proofs.world.World.perform.Goals as goal
+use Rattle.share_world.proofs.world.World.perform.Goals.{else-is_collect-via-then-is_collect+else-not-all_posted, else-is_collect-via-else-is_collect}
 use Rattle.share_world.proofs.Sharing.{set_length}
 
 pub returns-then-not-all_posted-clause-step : goal.returns-then-not-all_posted-clause-step
@@ -22,8 +22,8 @@ pub invariant_of-self : goal.invariant_of-self
 invariant_of-self g c =
     let less : c.lane_of-lane.result < length c.self.inside.lanes.items = omega arith in
     record {
-      booked = books_at c.args.event c.turn.result c.self.inside.lanes.items c.lane_of-lane.result c.self.inside.issued c.index_mut.result.now c.turn.new.self less c.index_mut.ensures.value c.turn.ensures.sound c.turn.ensures.turn c.self.invariant.booked;
-      few = omega (arith, set_length c.self.inside.lanes.items c.lane_of-lane.result c.turn.new.self, c.self.invariant.few);
+      booked = books_at c.args.event c.perform.result c.self.inside.lanes.items c.lane_of-lane.result c.self.inside.issued c.index_mut.result.now c.perform.new.self less c.index_mut.ensures.value c.perform.ensures.sound c.perform.ensures.perform c.self.invariant.booked;
+      few = omega (arith, set_length c.self.inside.lanes.items c.lane_of-lane.result c.perform.new.self, c.self.invariant.few);
     }
 
 pub returns-clause-step : goal.returns-clause-step
@@ -33,5 +33,5 @@ returns-clause-step g c =
       | else-is_collect-via-then-is_collect+else-not-all_posted w ↦ λ e. all_left w.deref.result.now c.self.inside.lanes.items w.all_posted.result w.all_posted.ensures.posted.0 w.if-not-all_posted.false w.deref.ensures.value
       | else-is_collect-via-else-is_collect w ↦ λ e. absurd (cc)
     ] in
-    turn_seen c.self.inside.limits c.self.inside.lanes.items c.self.inside.last_tick c.self.inside.issued c.args.self.now c.args.event c.turn.result c.lane_of-lane.result c.index_mut.result.now c.turn.new.self
-    c.self.view_is c.lane_of-lane.ensures.lane less c.index_mut.ensures.value c.requires.lanes ready c.turn.ensures.turn
+    perform_seen c.self.inside.limits c.self.inside.lanes.items c.self.inside.last_tick c.self.inside.issued c.args.self.now c.args.event c.perform.result c.lane_of-lane.result c.index_mut.result.now c.perform.new.self
+    c.self.view_is c.lane_of-lane.ensures.lane less c.index_mut.ensures.value c.requires.lanes ready c.perform.ensures.perform

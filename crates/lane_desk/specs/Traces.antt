@@ -1,15 +1,15 @@
 -- The views of the round's seat and its relation to a desk, under names for callers.
 use Rattle.std.specs.Prelude.{◌≡◌, List}
 use Rattle.desk_rule.specs.declared.view.LaneView.{LaneView}
-use Rattle.desk_rule.specs.declared.view.TurnView.{TurnView}
+use Rattle.desk_rule.specs.declared.view.TraceView.{TraceView}
 use Rattle.lane_desk.specs.declared.desk.Desk.{Desk}
 use Rattle.lane_desk.specs.declared.round.RoundDesk.{RoundDesk}
 use Rattle.lane_desk.specs.Seats.{desk_id}
 use Rattle.lane_desk.specs.Held.{round_in}
 
 module _ {N : Type 0} where
-  abbrev pub turns : (RoundDesk N) → List TurnView
-  turns r = (round_in r.seat.me.0).turns
+  abbrev pub traces : (RoundDesk N) → List TraceView
+  traces r = (round_in r.seat.me.0).traces
 
   abbrev pub back : (RoundDesk N) → List LaneView
   back r = (round_in r.seat.me.0).back

@@ -3,7 +3,7 @@
 use crate::fault::Fault;
 use ftp_terms::DataType;
 use ftp_wire::{HostPort, port_text};
-use handler_hooks::{Hooks, tell};
+use handler_hooks::{Hooks, report};
 use memory_store::{MemSink, MemSource};
 use session_table::{Action, Answer, HookCall, Octets};
 use std::alloc::Global;
@@ -18,40 +18,40 @@ pub(crate) type Actions = Vec<Action<Global, MemSource<Global>, MemSink<Global>>
 /// Maximum number of pieces of a sent file that are printed, each of at most 8 octets.
 const PIECES: usize = 8;
 
-pub(crate) fn put(told: &mut Vec<u8>, text: &str) -> Result<(), Fault> {
-    Ok(told.extend_from_slice(text.as_bytes())?)
+pub(crate) fn put(reported: &mut Vec<u8>, text: &str) -> Result<(), Fault> {
+    Ok(reported.extend_from_slice(text.as_bytes())?)
 }
 
 /// Writes a word and a name, in brackets, on a line.
-fn put_named(told: &mut Vec<u8>, word: &str, name: &str) -> Result<(), Fault> {
-    put(told, word)?;
-    put(told, name)?;
-    put(told, "]\r\n")
+fn put_named(reported: &mut Vec<u8>, word: &str, name: &str) -> Result<(), Fault> {
+    put(reported, word)?;
+    put(reported, name)?;
+    put(reported, "]\r\n")
 }
 
-pub(crate) fn put_answer(told: &mut Vec<u8>, answer: Answer<Global>) -> Result<(), Fault> {
-    Ok(answer.into_reply().write_to(told)?)
+pub(crate) fn put_answer(reported: &mut Vec<u8>, answer: Answer<Global>) -> Result<(), Fault> {
+    Ok(answer.into_reply().write_to(reported)?)
 }
 
 /// A handler that notes its calls.
 #[derive(Drop)]
 struct Noter {
-    told: Vec<u8>,
+    reported: Vec<u8>,
     noted: Result<(), Fault>,
 }
 
 impl Noter {
     fn note(&mut self, text: &str) {
-        self.noted = put(&mut self.told, text);
+        self.noted = put(&mut self.reported, text);
     }
 
     fn note_named(&mut self, word: &str, name: &str) {
-        self.noted = put_named(&mut self.told, word, name);
+        self.noted = put_named(&mut self.reported, word, name);
     }
 }
 
 impl Hooks for Noter {
-    ghost Told = { λ _ _ _. Unit {0} };
+    ghost Reported = { λ _ _ _. Unit {0} };
 
     fn on_connect(&mut self) {
         self.note("[connected]\r\n");
@@ -92,49 +92,59 @@ impl Hooks for Noter {
 
 /// Writes the call of a handler.
 pub(crate) fn put_hook(
-    told: &mut Vec<u8>,
+    reported: &mut Vec<u8>,
     alloc: Global,
     call: &HookCall<Global>,
 ) -> Result<(), Fault> {
     let mut noter = Noter {
-        told: mem::replace(told, Vec::new(alloc)),
+        reported: mem::replace(reported, Vec::new(alloc)),
         noted: Ok(()),
     };
-    tell(&mut noter, call);
-    let Noter { told: all, noted } = noter;
-    *told = all;
+    report(&mut noter, call);
+    let Noter {
+        reported: all,
+        noted,
+    } = noter;
+    *reported = all;
     noted
 }
 
-pub(crate) fn put_connect(told: &mut Vec<u8>, alloc: Global, to: HostPort) -> Result<(), Fault> {
+pub(crate) fn put_connect(
+    reported: &mut Vec<u8>,
+    alloc: Global,
+    to: HostPort,
+) -> Result<(), Fault> {
     let text = port_text(alloc, &to)?;
-    put_named(told, "[connect ", text.as_str())
+    put_named(reported, "[connect ", text.as_str())
 }
 
 /// Writes the first octets of a file.
-pub(crate) fn put_octets(told: &mut Vec<u8>, source: &mut MemSource<Global>) -> Result<(), Fault> {
+pub(crate) fn put_octets(
+    reported: &mut Vec<u8>,
+    source: &mut MemSource<Global>,
+) -> Result<(), Fault> {
     let mut buffer = [0; 8];
     for _ in 0..PIECES {
         let count = source.read(&mut buffer)?;
-        told.extend_from_slice(&buffer[..count])?;
+        reported.extend_from_slice(&buffer[..count])?;
     }
     Ok(())
 }
 
 fn put_sent(
-    told: &mut Vec<u8>,
+    reported: &mut Vec<u8>,
     source: &mut MemSource<Global>,
     data_type: DataType,
 ) -> Result<(), Fault> {
     put(
-        told,
+        reported,
         match data_type {
             DataType::Ascii => "[send A ",
             DataType::Image => "[send I ",
         },
     )?;
-    put_octets(told, source)?;
-    put(told, "]\r\n")
+    put_octets(reported, source)?;
+    put(reported, "]\r\n")
 }
 
 fn taken(data_type: DataType) -> &'static str {
@@ -144,22 +154,22 @@ fn taken(data_type: DataType) -> &'static str {
     }
 }
 
-fn put_listing(told: &mut Vec<u8>, listing: Octets<Global>) -> Result<(), Fault> {
-    Ok(told.extend_from_slice(listing.as_slice())?)
+fn put_listing(reported: &mut Vec<u8>, listing: Octets<Global>) -> Result<(), Fault> {
+    Ok(reported.extend_from_slice(listing.as_slice())?)
 }
 
 /// Writes a transfer that starts. The sink of an upload is kept.
 pub(crate) fn put_job(
-    told: &mut Vec<u8>,
+    reported: &mut Vec<u8>,
     kept: &mut Option<MemSink<Global>>,
     job: Job,
 ) -> Result<(), Fault> {
     match job {
         Job::TakeFile(sink, data_type) => {
             *kept = Some(sink);
-            put(told, taken(data_type))
+            put(reported, taken(data_type))
         }
-        Job::SendFile(mut source, data_type) => put_sent(told, &mut source, data_type),
-        Job::Text(listing) => put_listing(told, listing),
+        Job::SendFile(mut source, data_type) => put_sent(reported, &mut source, data_type),
+        Job::Text(listing) => put_listing(reported, listing),
     }
 }

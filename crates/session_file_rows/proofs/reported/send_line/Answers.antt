@@ -1,7 +1,7 @@
 use Rattle.std.proofs.Common.{◌∙◌, ◌∷◌, ◌++◌, [], ap, sym}
 use Rattle.std.proofs.lemmas.List.{append-nil}
 use Rattle.ftp_terms.specs.LineText.{text_of}
-use Rattle.session_file_rows.proofs.told.send_line.Goals as goal
+use Rattle.session_file_rows.proofs.reported.send_line.Goals as goal
 
 pub returns-clause-row : goal.returns-clause-row
 returns-clause-row g c =

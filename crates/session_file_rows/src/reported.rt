@@ -48,7 +48,7 @@ fn send_line<A: Allocator + Clone, R: Drop, K: Drop>(
     send_octets(state, Octets::new(octets))
 }
 
-fn tell_lines<A: Allocator + Clone, R: Drop, K: Drop>(
+fn report_lines<A: Allocator + Clone, R: Drop, K: Drop>(
     state: &State<A>,
     lines: Vec<LineText<A>, A>,
 ) -> Result<Vec<Action<A, R, K>, A>, AllocError>
@@ -61,7 +61,7 @@ fn tell_lines<A: Allocator + Clone, R: Drop, K: Drop>(
     state.reply(Answer::Made(reply))
 }
 
-fn tell_line<A: Allocator + Clone, R: Drop, K: Drop>(
+fn report_line<A: Allocator + Clone, R: Drop, K: Drop>(
     state: &State<A>,
     line: LineText<A>,
 ) -> Result<Vec<Action<A, R, K>, A>, AllocError>
@@ -70,11 +70,11 @@ fn tell_line<A: Allocator + Clone, R: Drop, K: Drop>(
 {
     let mut lines = with_room(state.alloc()?, 1)?;
     push_reserved(&mut lines, line);
-    tell_lines(state, lines)
+    report_lines(state, lines)
 }
 
 /// A directory's entries.
-pub(crate) fn tell_entries<A: Allocator + Clone, R: Drop, K: Drop>(
+pub(crate) fn report_entries<A: Allocator + Clone, R: Drop, K: Drop>(
     state: &mut State<A>,
     users: &Authorizer<A>,
     above: &VPath<A>,
@@ -93,13 +93,13 @@ pub(crate) fn tell_entries<A: Allocator + Clone, R: Drop, K: Drop>(
         }
         Way::InReply => {
             let lines = lines_of(state, users, above, style, entries)?;
-            tell_lines(state, lines)
+            report_lines(state, lines)
         }
     }
 }
 
 /// A file itself.
-pub(crate) fn tell_file<A: Allocator + Clone, R: Drop, K: Drop>(
+pub(crate) fn report_file<A: Allocator + Clone, R: Drop, K: Drop>(
     state: &mut State<A>,
     users: &Authorizer<A>,
     path: &VPath<A>,
@@ -114,6 +114,6 @@ pub(crate) fn tell_file<A: Allocator + Clone, R: Drop, K: Drop>(
     let line = line_of_file(state, users, path, style, meta)?;
     match way {
         Way::OverData => send_line(state, &line),
-        Way::InReply => tell_line(state, line),
+        Way::InReply => report_line(state, line),
     }
 }

@@ -1,8 +1,0 @@
-use Rattle.std.proofs.Common.{subst, sym}
-use Rattle.std.specs.Prelude.{Ok}
-use Rattle.world_terms.specs.declared.event.Event.{Event}
-use Rattle.share_world.specs.Turns.{LaneReply}
-use Rattle.share_world.proofs.lane.Lane.turn.Goals as goal
-
-pub returns-in-Collect-clause-turn : goal.returns-in-Collect-clause-turn
-returns-in-Collect-clause-turn g c = subst (λ (e : Event). LaneReply e (Ok c.collect.result) c.args.self.now c.collect.new.self) (sym c.in-Collect.is) (c.collect.ensures.turn c.in-Collect.lane)

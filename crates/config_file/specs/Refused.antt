@@ -85,5 +85,5 @@ IsFirstFault document place key problem =
 
 -- a fault, unless memory ran out
 abbrev pub Reports : (Place → List ℕ → Problem → Type 0) → Fault KeyFault → Type 0
-Reports Refuses (fault.At header reported) = Refuses (place_of header) reported.key.now reported.problem
+Reports Refuses (fault.At header found) = Refuses (place_of header) found.key.now found.problem
 Reports Refuses fault.Memory = Unit {0}

@@ -19,7 +19,8 @@ use Rattle.config_report.specs.declared.warnings.TheConstants.{OWN_FIRST, OWN_LA
 
 -- the address announced for passive connections is 0.0.0.0
 abbrev pub is_unreported : ServerTable → Bool
-is_unreported server = nat_eq (ipv4_bits (reported_address server.masquerade_address server.address)) 0
+is_unreported server =
+    nat_eq (ipv4_bits (reported_address server.masquerade_address server.address)) 0
 
 -- a passive port is among those that the machine takes for its own connections
 abbrev pub is_among_own : ServerTable → Bool

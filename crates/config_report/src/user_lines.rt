@@ -65,7 +65,8 @@ fn write_overrides(
 /// Writes a text of a reply, unless it is the usual one.
 fn write_text(text: &mut String, head: &str, usual: &str, reported: &str) -> Result<(), AllocError>
     ensures line { OnOk result
-        (string_bytes text.new ≡ string_bytes text.old ++ text_line head.now usual.now reported.now) }
+        (string_bytes text.new ≡ string_bytes text.old
+        ++ text_line head.now usual.now reported.now) }
 {
     if reported == usual {
         return Ok(());

@@ -32,7 +32,8 @@ IsUnread gives path _ = ⊥
 -- ---- two texts
 
 -- the report on the change from the old text to the new one, with that verdict, is appended
-abbrev pub IsChangeReported : Bool → List ℕ → List ℕ → Bool → Option (List ℕ) → Option (List ℕ) → Type 0
+abbrev pub IsChangeReported :
+    Bool → List ℕ → List ℕ → Bool → Option (List ℕ) → Option (List ℕ) → Type 0
 IsChangeReported json new old refused before after =
     (report : ChangeReport) × IsReportOf json old new report × (report.is_refused ≡ refused)
     × Appends before after (string_bytes report.text)

@@ -19,7 +19,8 @@ module _ {N : Type 0} where
       → (s.lane ≡ i) × (s.seat.table_id ≡ z))
 
   -- each lane was closed, from what the round and the seat knew of it
-  abbrev pub AllClosed : List TraceView → List (LaneSeat N) → List TraceView → List LaneView → Type 0
+  abbrev pub AllClosed :
+      List TraceView → List (LaneSeat N) → List TraceView → List LaneView → Type 0
   AllClosed ts seats ts' xs' =
       (length xs' ≡ length seats)
       × ((i : ℕ) (s : (LaneSeat N)) → slice_get seats i ≡ Some s

@@ -19,7 +19,8 @@ posted_all (l ∷ ls) (n ∷ ns) ts = posted_all ls ns (slice_set ts l (has_post
 -- on each of the lanes an ask was collected and not answered, and no lane occurs twice
 abbrev pub AreDue : List ℕ → List TraceView → Type 0
 AreDue [] ts = ⊤
-AreDue (l ∷ ls) ts = (l < length ts) × (is_due (trace_at ts l) ≡ true) × NamesNot l ls × AreDue ls ts
+AreDue (l ∷ ls) ts =
+    (l < length ts) × (is_due (trace_at ts l) ≡ true) × NamesNot l ls × AreDue ls ts
 
 -- each ask collected was answered
 abbrev pub AllAnswered : List TraceView → Type 0

@@ -61,6 +61,6 @@ pub record IsRefusedRoundOver (A : Type 0) (given : ℕ → Bool) (rates : Rates
     pub refused : IsRefused A rates tick (asks_from 0 found) book reason
 
 -- A refused round of all lanes.
-abbrev pub IsRefusedRound : (A : Type 0) → Rates → ℕ → BookView → List TraceView → List TraceView → ℕ
-    → RoundRefusal → Type 0
+abbrev pub IsRefusedRound : (A : Type 0) → Rates → ℕ → BookView → List TraceView
+    → List TraceView → ℕ → RoundRefusal → Type 0
 IsRefusedRound A = IsRefusedRoundOver A every

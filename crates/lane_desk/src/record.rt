@@ -78,7 +78,8 @@ impl<N> RoundDesk<N> {
         ensures undrawn { book.new.undrawn ≡ book.old.undrawn }
         ensures refused { IfErr result (λ f. IsRefusedRoundOver A (is_given given.now) limits.now
             (moment / 100) book.old (traces self.old) (traces self.new) f.answered f.reason) }
-        ensures unposted { OnErr result (posted_in (traces self.new) ≡ posted_in (traces self.old)) }
+        ensures unposted { OnErr result
+            (posted_in (traces self.new) ≡ posted_in (traces self.old)) }
         ensures unchanged { OnErr result (book.new ≡ book.old) }
     {
         let tick = moment / 100;
@@ -137,7 +138,8 @@ impl<N> RoundDesk<N> {
         ensures undrawn { book.new.undrawn ≡ book.old.undrawn }
         ensures refused { IfErr result (λ f. IsRefusedRound A limits.now (moment / 100) book.old
             (traces self.old) (traces self.new) f.answered f.reason) }
-        ensures unposted { OnErr result (posted_in (traces self.new) ≡ posted_in (traces self.old)) }
+        ensures unposted { OnErr result
+            (posted_in (traces self.new) ≡ posted_in (traces self.old)) }
         ensures unchanged { OnErr result (book.new ≡ book.old) }
     {
         self.round_of(alloc, desk, limits, moment, book, &[true; MAX_LANES])

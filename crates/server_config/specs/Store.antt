@@ -114,7 +114,8 @@ IsRefusedDir dirs old place reported =
 
 abbrev pub IsRefusedFile : List FileTable → Memory → Place → StoreProblem → Type 0
 IsRefusedFile files old place reported =
-    IsRefusedRow TableName.File (λ file. file.path.now) MakesFile IsFileProblem files old place reported
+    IsRefusedRow TableName.File (λ file. file.path.now) MakesFile IsFileProblem files old place
+    reported
 
 -- a directory is refused, or otherwise a file
 abbrev pub IsNotMade : ServerTable → List DirTable → List FileTable → Place → StoreProblem → Type 0

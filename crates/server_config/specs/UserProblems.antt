@@ -18,4 +18,5 @@ pub record IsStrayLetter (text : List ℕ) (character : ℕ) : Type 0 where
 abbrev pub IsReportedAs : List ℕ → AuthorizerFault → UserProblem → Type 0
 IsReportedAs letters fault (BadLetter character) =
     (fault ≡ AuthorizerFault.BadLetter) × IsStrayLetter letters character
-IsReportedAs letters fault (Refused reported) = (reported ≡ fault) × (fault ≢ AuthorizerFault.BadLetter)
+IsReportedAs letters fault (Refused reported) =
+    (reported ≡ fault) × (fault ≢ AuthorizerFault.BadLetter)

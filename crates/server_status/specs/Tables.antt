@@ -10,7 +10,8 @@ own reported name kind = record { reported = reported; within = None; name = nam
 
 -- a member of an object within it
 abbrev pub inner : List ℕ → List ℕ → List ℕ → Kind → MemberRow
-inner reported within name kind = record { reported = reported; within = Some within; name = name; kind = kind }
+inner reported within name kind =
+    record { reported = reported; within = Some within; name = name; kind = kind }
 
 -- the version, which is judged before all others
 abbrev pub version_rows : List MemberRow

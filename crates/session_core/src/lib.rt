@@ -7,8 +7,8 @@
 //! let mut session = Session::new(rt.alloc(), settings(), PEER)?; // of a client at that address
 //! says(rt, session.greet(), "220 Ready\r\n");
 //! let line = Input::Line(LineItem::Command(Command::Pwd));
-//! let told = session.step(users, floors, store, line, 0); // at the moment 0
-//! says(rt, told, "530 Log in first\r\n");
+//! let reported = session.step(users, floors, store, line, 0); // at the moment 0
+//! says(rt, reported, "530 Log in first\r\n");
 //! holds(rt, !session.is_logged_in());
 //! holds(rt, !session.held_due()); // otherwise the next input is Input::Held
 //! ```

@@ -28,5 +28,6 @@ module _ {A R K : Type 0} where
   abbrev pub IsListed : Users → View → Style → Way → Path → List Entry → View → List (Action A R K)
       → Type 0
   IsListed users view style way above entries view' actions =
-      (lines : List (List ℕ)) × AreReported (map (entry_reported users view above style) entries) lines
+      (lines : List (List ℕ))
+      × AreReported (map (entry_reported users view above style) entries) lines
       × (Then view' actions ≡ reported_by way view lines)

@@ -2,10 +2,10 @@
 //! row there.
 //!
 //! ```text
-//! let told = mkd_row(state, store, &place); // or what the store refused
-//! says(rt, told, "257 \"/in\"\r\n");
-//! let told = rnfr_row(state, store, place); // the path is kept for RNTO
-//! says(rt, told, "350 Send RNTO\r\n");
+//! let reported = mkd_row(state, store, &place); // or what the store refused
+//! says(rt, reported, "257 \"/in\"\r\n");
+//! let reported = rnfr_row(state, store, place); // the path is kept for RNTO
+//! says(rt, reported, "350 Send RNTO\r\n");
 //! ```
 #![tactic(auto)]
 

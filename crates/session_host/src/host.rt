@@ -70,7 +70,8 @@ impl<
 
     ghost Step = { S.Step };
 
-    ghost Does = { SoleDoes C.Gives D.Asks H.Reported R.remaining R.may_fail W.contents W.may_refuse };
+    ghost Does = { SoleDoes C.Gives D.Asks H.Reported R.remaining R.may_fail W.contents
+        W.may_refuse };
 
     fn step(
         &mut self,

@@ -3,8 +3,8 @@
 //! ```text
 //! state.change_directory(path); // each such call changes just what its name says
 //! holds(rt, state.cwd().text() == "/in");
-//! let told = state.reply_notice(Notice::DirectoryChanged); // actions, of which one is a reply
-//! says(rt, told, "250 Directory changed\r\n");
+//! let reported = state.reply_notice(Notice::DirectoryChanged); // actions, of which one is a reply
+//! says(rt, reported, "250 Directory changed\r\n");
 //! ```
 #![tactic(auto)]
 

@@ -4,8 +4,8 @@
 //! ```text
 //! says(rt, type_row(state, DataType::Image), "200 Type is I\r\n");
 //! says(rt, rest_row(state, 1000), "350 Restart at 1000\r\n");
-//! let told = pasv_row(state); // a port is asked for: the reply comes with it
-//! says(rt, told, "");
+//! let reported = pasv_row(state); // a port is asked for: the reply comes with it
+//! says(rt, reported, "");
 //! ```
 #![tactic(auto)]
 

@@ -87,8 +87,9 @@ module _ {A R K : Type 0} where
   -- a plan, and then this change of the state
   abbrev pub then_left : (View → View) → Plan A R K → Plan A R K
   then_left change (Then view actions) = Then (change view) actions
-  then_left change (WithLine reported next) = WithLine reported (λ line. then_left change (next line))
-  then_left change (WithLines reported next) = WithLines reported (λ lines. then_left change (next lines))
+  then_left change (WithLine text next) = WithLine text (λ line. then_left change (next line))
+  then_left change (WithLines texts next) =
+      WithLines texts (λ lines. then_left change (next lines))
   then_left change (Ask call next) = Ask call (λ answer. then_left change (next answer))
   then_left change (AskAdmit user next) = AskAdmit user (λ fits. then_left change (next fits))
 
@@ -200,7 +201,8 @@ module _ {A R K : Type 0} where
   end_row users view errand aborted end finished =
       cond (is_closed view.stage) (Then (record view { work = Idle }) [])
       (and_quits users (record view { work = Idle })
-      (end_reply view.control aborted (end_reported end finished) ++ end_hook errand end) view.control)
+      (end_reply view.control aborted (end_reported end finished) ++ end_hook errand end)
+      view.control)
 
   -- a returned sink is finished in every case
   abbrev pub ended_with : Users → View → ℕ → Errand Path → Bool → End → Option K → Plan A R K

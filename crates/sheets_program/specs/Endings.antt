@@ -53,7 +53,8 @@ IsReportedEnd NoMemory old new ending = IsOutOfMemory ending
 IsReportedEnd (NoCommand text is_help) old new Done =
     IsTrue is_help × Appends old new (string_bytes text)
 IsReportedEnd (NoCommand text is_help) old new Flawed = ⊥
-IsReportedEnd (NoCommand text is_help) old new (Refused reported) = IsFalse is_help × (reported ≡ text)
+IsReportedEnd (NoCommand text is_help) old new (Refused reported) =
+    IsFalse is_help × (reported ≡ text)
 IsReportedEnd (NoCommand text is_help) old new (Text fault cause) =
     IsTrue is_help × (fault ≡ WriteFault)
 IsReportedEnd (NoCommand text is_help) old new (Share fault cause) = ⊥

@@ -31,7 +31,8 @@ pub fn turn_out<S: Source, K: Write + Drop, A: Allocator, N, D: Allocator>(
         × (out.new ≡ out.old) × (tally.new ≡ tally.old)) }
     ensures some { IfSome result (TurnsOut S.remaining K.contents (seat_view seat.old)
         (seat_view seat.new) out.old out.new tally.old tally.new) }
-    ensures reported { IsReported tally.old (seat_view seat.old) → IsReported tally.new (seat_view seat.new) }
+    ensures reported { IsReported tally.old (seat_view seat.old)
+        → IsReported tally.new (seat_view seat.new) }
     ensures sending { (before text : List ℕ)
         → IsSending S.remaining K.contents before text out.old.flow
         → IsSending S.remaining K.contents before text out.new.flow }
@@ -61,7 +62,8 @@ pub fn turn_in<K: Read + Drop, T: Sink, A: Allocator, N, D: Allocator>(
         × (upload.new ≡ upload.old) × (tally.new ≡ tally.old)) }
     ensures some { IfSome result (TurnsIn K.remaining T.collected T.target (seat_view seat.old)
         (seat_view seat.new) upload.old upload.new tally.old tally.new) }
-    ensures reported { IsReported tally.old (seat_view seat.old) → IsReported tally.new (seat_view seat.new) }
+    ensures reported { IsReported tally.old (seat_view seat.old)
+        → IsReported tally.new (seat_view seat.new) }
     ensures receiving { (before octets : List ℕ)
         → IsReceiving K.remaining T.collected before octets upload.old
         → IsReceiving K.remaining T.collected before octets upload.new }

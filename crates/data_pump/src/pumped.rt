@@ -59,9 +59,9 @@ pub struct Pumped {
 #[derive(Clone, Copy, Debug, PartialEq, Eq, Error)]
 pub enum OpenFault {
     /// The first read of the source failed.
-    #[error("ReadFault")]
+    #[error("the first read of the source failed")]
     ReadFault,
     /// There was no memory for the buffer, or for the store's read.
-    #[error("Memory")]
+    #[error("out of memory")]
     Memory,
 }

@@ -7,10 +7,10 @@ use thiserror::Error;
 #[derive(Clone, Copy, Debug, PartialEq, Eq, Error)]
 pub enum DeskFault {
     /// It would have more than 64 lanes.
-    #[error("TooMany")]
+    #[error("a desk has at most 64 lanes")]
     TooMany,
     /// Memory ran out.
-    #[error("Memory")]
+    #[error("out of memory")]
     Memory,
 }
 

@@ -9,16 +9,16 @@ use thiserror::Error;
 #[derive(Clone, Copy, Debug, PartialEq, Eq, Error)]
 pub enum RoundRefusal {
     /// The tick is not above that of the book's last entry, which the variant contains.
-    #[error("NotYet")]
+    #[error("the tick is not above {0}, that of the last round")]
     NotYet(u64),
     /// The book would have issued more than `MAX_ISSUED` octets.
-    #[error("BookFull")]
+    #[error("the book has no room for these octets")]
     BookFull,
     /// The limit tree of the tick has a fault.
-    #[error("Plan")]
+    #[error("the limit tree of the tick is refused: {0}")]
     Plan(TreeFault),
     /// Memory ran out.
-    #[error("Memory")]
+    #[error("out of memory")]
     Memory,
 }
 

@@ -8,13 +8,13 @@ use thiserror::Error;
 #[derive(Clone, Copy, Debug, PartialEq, Eq, Error)]
 pub enum LimitsFault {
     /// A rate is above `MAX_RATE`.
-    #[error("RateTooLarge")]
+    #[error("a rate is too large")]
     RateTooLarge,
     /// Two rows are for the same group or the same user.
-    #[error("Twice")]
+    #[error("two rows are for the same group or user")]
     Twice,
     /// A user is in a group that has no row.
-    #[error("NoSuchGroup")]
+    #[error("a user is in a group without a row")]
     NoSuchGroup,
 }
 
@@ -25,7 +25,7 @@ pub enum PlanFault {
     #[error("{0}")]
     Tree(TreeFault),
     /// Memory ran out.
-    #[error("Memory")]
+    #[error("out of memory")]
     Memory,
 }
 

@@ -18,13 +18,13 @@ use thiserror::Error;
 #[derive(Clone, Copy, Debug, PartialEq, Eq, Error)]
 pub enum CarryFault {
     /// The guarantees of all counted sessions add up to more than `MAX_PROMISED`.
-    #[error("TooLarge")]
+    #[error("the guarantees of all sessions are too large")]
     TooLarge,
     /// The guarantees of the counted sessions under a name are above its rate. Each session of a user has the name of
     /// their session 0. Of several broken limits, the first is that of a user, each user's sessions before the user, in
     /// the order of the numbers; then of a group, in the order of the numbers; then of a way; then of the server. Of
     /// two ways, down is first.
-    #[error("Broken")]
+    #[error("guarantees add up to more than a rate")]
     Broken {
         /// The name of the limit.
         name: Name,
@@ -33,7 +33,7 @@ pub enum CarryFault {
         /// The rate that the sum is above.
         rate: u64,
     },
-    #[error("Memory")]
+    #[error("out of memory")]
     Memory,
 }
 

@@ -8,17 +8,17 @@ use thiserror::Error;
 #[derive(Clone, Copy, Debug, PartialEq, Eq, Error)]
 pub enum Unplanned {
     /// There are more transfers than sessions at once.
-    #[error("TooManySessions")]
+    #[error("more transfers than sessions at once")]
     TooManySessions,
     /// There are more transfers than lanes.
-    #[error("TooManyTransfers")]
+    #[error("more transfers than lanes")]
     TooManyTransfers,
     /// The guarantees of the sessions are not admitted: the place of the first transfer whose session is refused, and
     /// a name whose rate they exceed.
-    #[error("NotGuaranteed")]
+    #[error("the guarantees of the sessions are not admitted")]
     NotGuaranteed(usize, Option<Name>),
     /// More than 25 transfers by a rate above `MAX_PLANNED`.
-    #[error("RateTooLarge")]
+    #[error("too many transfers at this rate")]
     RateTooLarge,
     /// The rates are refused: a user is in a group that has no row.
     #[error("{0}")]
@@ -27,7 +27,7 @@ pub enum Unplanned {
     #[error("{0}")]
     Tree(PlanFault),
     /// Memory ran out.
-    #[error("Memory")]
+    #[error("out of memory")]
     Memory,
 }
 

@@ -7,10 +7,10 @@ use thiserror::Error;
 #[derive(Clone, Copy, Debug, PartialEq, Eq, Error)]
 pub enum WorldFault {
     /// There would be more than `grant_ledger::MAX_LANES` lanes.
-    #[error("TooMany")]
+    #[error("there are too many lanes")]
     TooMany,
     /// Memory ran out.
-    #[error("Memory")]
+    #[error("out of memory")]
     Memory,
 }
 

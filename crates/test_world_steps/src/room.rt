@@ -39,7 +39,7 @@ fn report_answer<W: Write>(writer: &mut W, answer: EventAnswer) -> Result<(), Fa
 fn report_fault<W: Write>(writer: &mut W, fault: StepFault) -> Result<(), Fault> {
     match fault {
         StepFault::NotYet(last) => writeln!(writer, "NotYet {last}")?,
-        fault => writeln!(writer, "{fault}")?,
+        fault => writeln!(writer, "{fault:?}")?,
     }
     Ok(())
 }

@@ -7,10 +7,10 @@ use thiserror::Error;
 #[derive(Clone, Copy, Debug, PartialEq, Eq, Error)]
 pub enum BoardFault {
     /// The board would have no places.
-    #[error("BadSize")]
+    #[error("a board has at least one place")]
     BadSize,
     /// There is no memory for the places or the passes.
-    #[error("Memory")]
+    #[error("out of memory")]
     Memory,
 }
 

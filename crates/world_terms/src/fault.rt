@@ -8,25 +8,25 @@ use thiserror::Error;
 #[derive(Clone, Copy, Debug, PartialEq, Eq, Error)]
 pub enum StepFault {
     /// The event is not possible in the lane's state, or not all decided amounts are posted.
-    #[error("WrongState")]
+    #[error("the event is not possible in this state")]
     WrongState,
     /// There is no lane with that number.
-    #[error("NoLane")]
+    #[error("there is no lane with this number")]
     NoLane,
     /// More is moved than is in hand, or an ask wants more than the largest want.
-    #[error("TooMuch")]
+    #[error("more octets than are possible")]
     TooMuch,
     /// The tick is not above that of the last decision, which the variant contains.
-    #[error("NotYet")]
+    #[error("the tick is not above {0}, that of the last decision")]
     NotYet(u64),
     /// The octets issued would exceed the most that one book issues.
-    #[error("BookFull")]
+    #[error("the book has no room for these octets")]
     BookFull,
     /// Memory ran out.
-    #[error("Memory")]
+    #[error("out of memory")]
     Memory,
     /// The guarantees of the asks do not fit the limits of the tick.
-    #[error("FloorsOver")]
+    #[error("guarantees exceed the limits of the tick")]
     FloorsOver,
 }
 

@@ -12,9 +12,9 @@ ghost use Rattle.session_state.specs.Waiting.{if_quitting};
 ghost use Rattle.session_table.specs.declared.stages.Work.TheVariants.{Idle};
 
 use authorizer::Authorizer;
-use session_state::{Farewell, State, push_farewell, push_reserved, room_for};
+use session_state::{Farewell, RowResult, State, push_farewell, push_reserved, room_for};
 use session_table::{Action, Answer, Control, End, Errand, HookCall, Notice, Refusal, Stage};
-use std::alloc::{AllocError, Allocator};
+use std::alloc::Allocator;
 use virtual_path::VPath;
 use virtual_tree::{Store, StoreFault};
 
@@ -175,7 +175,7 @@ pub fn end_transfer<A: Allocator + Clone, S: Store<A>>(
     end: End,
     sink: &mut Option<S::Sink>,
     moment: u64,
-) -> Result<Vec<Action<A, S::Source, S::Sink>, A>, AllocError>
+) -> RowResult<A, S::Source, S::Sink>
     ensures row { IfOk result (λ actions.
         RanByStore S.Step (ended_row users.now.users state.old moment end sink.old)
         store.old store.new state.new actions.items) }

@@ -40,7 +40,7 @@ pub struct DataConnection {
     writes: Writes,
 }
 
-/// What a handle has written.
+/// The writes of a handle so far.
 #[derive(Clone, Copy, Debug, PartialEq, Eq)]
 enum Writes {
     /// Nothing yet.

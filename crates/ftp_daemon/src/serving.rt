@@ -81,7 +81,7 @@ fn furnish<S: Store<Global>, H: Hooks, B: PartsName, P: Drop>(
         jobs: SharedEventCount::new(),
         tickets,
         lanes,
-        bell: EventCount::new(),
+        waker: EventCount::new(),
         ending: ServerShutdown::new(),
     };
     (house, pace, cadence, signs)

@@ -88,7 +88,7 @@ where
     let mut buffer = Vec::new(rt.alloc());
     let mut last = None;
     for _ in rt.forever() {
-        let seen = lines.bell.seen();
+        let seen = lines.waker.seen();
         if last.is_none() && lines.is_closed() {
             last = Some(micros(rt));
         }
@@ -116,9 +116,9 @@ fn time_since<R: Clock>(rt: &R, moment: Option<u64>) -> Option<u64> {
 // Sleeps until a line is offered, and then a moment more for those that follow it, unless no more come.
 fn gather<R: Wait + Clock>(rt: &R, lines: &SharedLines, seen: u64) {
     lines
-        .bell
+        .waker
         .wait(rt, seen, 0, Duration::from_secs(LONGEST_SLEEP));
-    if lines.bell.seen() != seen && !lines.is_closed() {
+    if lines.waker.seen() != seen && !lines.is_closed() {
         thread::sleep(rt, Duration::from_millis(GATHER));
     }
 }

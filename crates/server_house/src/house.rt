@@ -52,7 +52,7 @@ pub struct House<S: Store<Global>, H: Hooks, B: PartsName> {
     /// For each lane, what rounds report to it.
     pub lanes: Vec<LaneSign>,
     /// Increased when a lane needs a round.
-    pub bell: EventCount,
+    pub waker: EventCount,
     pub ending: ServerShutdown,
 }
 

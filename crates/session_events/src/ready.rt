@@ -9,7 +9,7 @@ use crate::ends::quit_if_waiting;
 use authorizer::Authorizer;
 use ftp_terms::LineText;
 use ftp_wire::{HostPort, port_text};
-use session_state::{Farewell, RowResult, State, made, push_reserved, room_for};
+use session_state::{GoodbyeReply, RowResult, State, made, push_reserved, room_for};
 use session_table::{Action, Answer, Passive, Refusal};
 use std::alloc::{AllocError, Allocator};
 
@@ -74,7 +74,7 @@ fn report_port<A: Allocator + Clone, R: Drop, K: Drop>(
     ensures unchanged { OnErr result (state.new ≡ state.old) }
 {
     let mut actions = say_port(state, passive, port)?;
-    let parting = Farewell::if_waiting(state, users)?;
+    let parting = GoodbyeReply::if_waiting(state, users)?;
     state.end_waiting();
     state.prepare();
     quit_if_waiting(state, users, parting, &mut actions);
@@ -92,7 +92,7 @@ fn report_none<A: Allocator + Clone, R: Drop, K: Drop>(
     ensures unchanged { OnErr result (state.new ≡ state.old) }
 {
     let mut actions = room_for(state, 5)?;
-    let parting = Farewell::if_waiting(state, users)?;
+    let parting = GoodbyeReply::if_waiting(state, users)?;
     let none = Answer::Refusal(Refusal::NoPassivePort);
     push_reserved(&mut actions, Action::Say(none));
     state.end_waiting();

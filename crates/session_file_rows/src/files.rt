@@ -6,7 +6,7 @@ ghost use Rattle.session_table.specs.TransferRows.{appe_row, reads, retr_row, st
 
 use crate::outcomes::{push_refusal, push_start};
 use session_state::{Location, RowResult, State, room_for};
-use session_table::{Errand, Job};
+use session_table::{Job, TransferContent};
 use std::alloc::Allocator;
 use virtual_tree::{Store, WriteMode};
 
@@ -28,8 +28,8 @@ fn reads<A: Allocator + Clone, S: Store<A>>(
         Err(fault) => push_refusal(state, fault, &mut actions),
         Ok(source) => {
             let job = Job::SendFile(source, state.data_type());
-            let errand = Errand::Sending(location.into_path());
-            push_start(state, errand, job, &mut actions);
+            let content = TransferContent::Sending(location.into_path());
+            push_start(state, content, job, &mut actions);
         }
     }
     Ok(actions)
@@ -73,8 +73,8 @@ fn writes<A: Allocator + Clone, S: Store<A>>(
         Err(fault) => push_refusal(state, fault, &mut actions),
         Ok(sink) => {
             let job = Job::TakeFile(sink, state.data_type());
-            let errand = Errand::Taking(location.into_path());
-            push_start(state, errand, job, &mut actions);
+            let content = TransferContent::Taking(location.into_path());
+            push_start(state, content, job, &mut actions);
         }
     }
     Ok(actions)

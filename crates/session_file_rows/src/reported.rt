@@ -14,7 +14,7 @@ use authorizer::Authorizer;
 use ftp_reply::{Reply, ReplyCode};
 use ftp_terms::{LineText, Meta};
 use session_state::{RowResult, State, push_reserved, with_room};
-use session_table::{Action, Answer, Errand, Job, Notice, Octets, Style};
+use session_table::{Action, Answer, Job, Notice, Octets, Style, TransferContent};
 use std::alloc::Allocator;
 use virtual_path::VPath;
 use virtual_tree::ListedEntry;
@@ -31,7 +31,7 @@ fn send_octets<A: Allocator + Clone, R: Drop, K: Drop>(
     let mut actions = with_room(state.alloc()?, 2)?;
     push_reserved(&mut actions, Action::Say(Answer::Notice(Notice::Opening)));
     push_reserved(&mut actions, Action::Start(Job::Text(octets)));
-    state.begin(Errand::Listing);
+    state.begin(TransferContent::Listing);
     Ok(actions)
 }
 

@@ -1,6 +1,6 @@
 use Rattle.std.proofs.Common.{sym, ◌∙◌}
 use Rattle.memory_store.proofs.Moves.{not_under, under, goes_on, stripped}
-use Rattle.memory_store.proofs.spot.rest_under.Goals as goal
+use Rattle.memory_store.proofs.key.rest_under.Goals as goal
 
 pub returns-in-None : goal.returns-in-None
 returns-in-None c = λ front path plain plain_path is are. not_under c.args.directory.now c.args.text.now c.in-None.ensures.cases front path is are

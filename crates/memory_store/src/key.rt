@@ -3,7 +3,7 @@
 ghost use Rattle.std.specs.Prelude.{◌≡◌, ◌++◌, ◌∷◌, ◌||◌, [], true, false, drop, length, nat_eq, slice_index, MatchOption, IfOk};
 ghost use Rattle.std.specs.List.{AllByRecursion};
 ghost use Rattle.virtual_path.specs.Path.{Path, slashed, names_of, names_in, parent_of, is_name, HasNoSlash};
-ghost use Rattle.memory_store.specs.Tree.{names_cmp, path_cmp, spot_of, begins_with};
+ghost use Rattle.memory_store.specs.Tree.{names_cmp, path_cmp, key_of, begins_with};
 
 use crate::entry::Entry;
 use std::alloc::{AllocError, Allocator};
@@ -16,24 +16,24 @@ use virtual_tree::ListedEntry;
 ///
 /// Spots are ordered so that a directory's entries are adjacent and sorted by name.
 #[derive(Drop)]
-pub(crate) struct Spot<A: Allocator> {
+pub(crate) struct PathKey<A: Allocator> {
     directory: String<A>,
     name: String<A>,
 }
 
-impl<A: Allocator> Model for Spot<A> {
+impl<A: Allocator> Model for PathKey<A> {
     ghost use Rattle.std.specs.Prelude.{◌++◌, ◌∷◌, [], List, ℕ, string_bytes};
     ghost use Rattle.virtual_path.specs.Path.{names_in};
-    ghost use Rattle.memory_store.specs.Held.{IsSpotText};
+    ghost use Rattle.memory_store.specs.Held.{IsPathKeyText};
 
     ghost Value = { List (List ℕ) };
 
-    ghost view = { λ spot. names_in (string_bytes spot.directory) ++ string_bytes spot.name ∷ [] };
+    ghost view = { λ key. names_in (string_bytes key.directory) ++ string_bytes key.name ∷ [] };
 
-    ghost invariant = { λ spot. IsSpotText (string_bytes spot.directory) (string_bytes spot.name) };
+    ghost invariant = { λ key. IsPathKeyText (string_bytes key.directory) (string_bytes key.name) };
 }
 
-impl<A: Allocator> PartialEq for Spot<A> {
+impl<A: Allocator> PartialEq for PathKey<A> {
     ghost use Rattle.std.proofs.Common.{rules};
     ghost use Rattle.std.specs.Cmp.Rules.{comparing};
     ghost use Rattle.memory_store.specs.Orders.{paths_total};
@@ -44,12 +44,12 @@ impl<A: Allocator> PartialEq for Spot<A> {
 
     ghost laws = { Prim.search (comparing, rules, paths_total) };
 
-    fn eq(&self, other: &Spot<A>) -> bool {
+    fn eq(&self, other: &PathKey<A>) -> bool {
         self.cmp(other).is_eq()
     }
 }
 
-impl<A: Allocator> Eq for Spot<A> {
+impl<A: Allocator> Eq for PathKey<A> {
     ghost use Rattle.std.proofs.Common.{rules};
     ghost use Rattle.std.specs.Cmp.Rules.{comparing};
     ghost use Rattle.memory_store.specs.Orders.{paths_total};
@@ -57,7 +57,7 @@ impl<A: Allocator> Eq for Spot<A> {
     ghost laws = { Prim.search (comparing, rules, paths_total) };
 }
 
-impl<A: Allocator> Ord for Spot<A> {
+impl<A: Allocator> Ord for PathKey<A> {
     ghost use Rattle.std.proofs.Common.{rules};
     ghost use Rattle.std.specs.Cmp.Rules.{comparing};
     ghost use Rattle.memory_store.specs.Orders.{paths_total};
@@ -71,13 +71,13 @@ impl<A: Allocator> Ord for Spot<A> {
 
     ghost matches_eq = { Prim.search (comparing, rules) };
 
-    fn cmp(&self, other: &Spot<A>) -> Ordering {
+    fn cmp(&self, other: &PathKey<A>) -> Ordering {
         let order = compare_names(self.directory.as_str(), other.directory.as_str());
         order.then(self.name.cmp(&other.name))
     }
 }
 
-impl<A: Allocator> PartialOrd for Spot<A> {
+impl<A: Allocator> PartialOrd for PathKey<A> {
     ghost use Rattle.std.proofs.Common.{rules};
     ghost use Rattle.std.specs.Cmp.{partial_order_from_own_ties};
     ghost use Rattle.std.specs.Cmp.Rules.{comparing};
@@ -90,26 +90,26 @@ impl<A: Allocator> PartialOrd for Spot<A> {
     ghost laws = { partial_order_from_own_ties (Prim.search (comparing, rules, paths_total))
         (Prim.search (comparing, rules, paths_total)) };
 
-    fn partial_cmp(&self, other: &Spot<A>) -> Option<Ordering> {
+    fn partial_cmp(&self, other: &PathKey<A>) -> Option<Ordering> {
         Some(self.cmp(other))
     }
 }
 
-impl<A: Allocator + Clone> Spot<A> {
+impl<A: Allocator + Clone> PathKey<A> {
     ghost use Rattle.std.specs.Prelude.{◌≡◌, ◌++◌, ◌∷◌, [], IfOk};
     ghost use Rattle.virtual_path.specs.Path.{Path, slashed, names_in, parent_of};
     ghost use Rattle.virtual_tree.specs.Calls.{entry_of};
-    ghost use Rattle.memory_store.specs.Tree.{last_of, spot_of, reported_of, moved};
+    ghost use Rattle.memory_store.specs.Tree.{last_of, key_of, reported_of, moved};
 
     /// The spot with this text, which has `/` before each name; none if the text is empty, as the root's
     /// is.
-    fn split(alloc: &A, text: &str) -> Result<Option<Spot<A>>, AllocError>
+    fn split(alloc: &A, text: &str) -> Result<Option<PathKey<A>>, AllocError>
         requires { slashed (names_in text.now) ≡ text.now }
-        ensures { IfOk result (λ found. found ≡ spot_of (names_in text.now)) }
+        ensures { IfOk result (λ found. found ≡ key_of (names_in text.now)) }
     {
         match split_last(text) {
             None => Ok(None),
-            Some((directory, name)) => Ok(Some(Spot {
+            Some((directory, name)) => Ok(Some(PathKey {
                 directory: String::from_str(alloc.clone()?, directory)?,
                 name: String::from_str(alloc.clone()?, name)?,
             })),
@@ -117,37 +117,40 @@ impl<A: Allocator + Clone> Spot<A> {
     }
 
     /// The spot of a path; none for the root.
-    pub fn of<B: Allocator>(alloc: &A, path: &VPath<B>) -> Result<Option<Spot<A>>, AllocError>
-        ensures { IfOk result (λ found. found ≡ spot_of path.now) }
+    pub fn of<B: Allocator>(alloc: &A, path: &VPath<B>) -> Result<Option<PathKey<A>>, AllocError>
+        ensures { IfOk result (λ found. found ≡ key_of path.now) }
     {
-        Spot::split(alloc, directory_text(path))
+        PathKey::split(alloc, directory_text(path))
     }
 
     /// The spot of the directory above a path; none if that is the root.
-    pub fn above<B: Allocator>(alloc: &A, path: &VPath<B>) -> Result<Option<Spot<A>>, AllocError>
-        ensures { IfOk result (λ found. found ≡ spot_of (parent_of path.now)) }
+    pub fn above<B: Allocator>(alloc: &A, path: &VPath<B>) -> Result<Option<PathKey<A>>, AllocError>
+        ensures { IfOk result (λ found. found ≡ key_of (parent_of path.now)) }
     {
         match split_last(directory_text(path)) {
             None => Ok(None),
-            Some((directory, _)) => Spot::split(alloc, directory),
+            Some((directory, _)) => PathKey::split(alloc, directory),
         }
     }
 
     /// A copy of the spot.
-    pub fn copy(&self, alloc: &A) -> Result<Spot<A>, AllocError>
-        ensures { IfOk result (λ spot. spot ≡ self.now) }
+    pub fn copy(&self, alloc: &A) -> Result<PathKey<A>, AllocError>
+        ensures { IfOk result (λ key. key ≡ self.now) }
     {
-        Ok(Spot {
+        Ok(PathKey {
             directory: String::from_str(alloc.clone()?, self.directory.as_str())?,
             name: String::from_str(alloc.clone()?, self.name.as_str())?,
         })
     }
 
     /// A spot before all entries of a directory.
-    pub(crate) fn first_in<B: Allocator>(alloc: &A, path: &VPath<B>) -> Result<Spot<A>, AllocError>
-        ensures { IfOk result (λ spot. spot ≡ path.now ++ [] ∷ []) }
+    pub(crate) fn first_in<B: Allocator>(
+        alloc: &A,
+        path: &VPath<B>,
+    ) -> Result<PathKey<A>, AllocError>
+        ensures { IfOk result (λ key. key ≡ path.now ++ [] ∷ []) }
     {
-        Ok(Spot {
+        Ok(PathKey {
             directory: String::from_str(alloc.clone()?, directory_text(path))?,
             name: String::new(alloc.clone()?),
         })
@@ -155,12 +158,12 @@ impl<A: Allocator + Clone> Spot<A> {
 
     /// A spot after all entries of a directory: its own directory, one with an empty name in the given one, is the next
     /// in the order of directories.
-    pub(crate) fn past<B: Allocator>(alloc: &A, path: &VPath<B>) -> Result<Spot<A>, AllocError>
-        ensures { IfOk result (λ spot. spot ≡ (path.now ++ [] ∷ []) ++ [] ∷ []) }
+    pub(crate) fn past<B: Allocator>(alloc: &A, path: &VPath<B>) -> Result<PathKey<A>, AllocError>
+        ensures { IfOk result (λ key. key ≡ (path.now ++ [] ∷ []) ++ [] ∷ []) }
     {
         let mut directory = String::from_str(alloc.clone()?, directory_text(path))?;
         directory.push_str("/")?;
-        Ok(Spot {
+        Ok(PathKey {
             directory,
             name: String::new(alloc.clone()?),
         })
@@ -192,12 +195,12 @@ impl<A: Allocator + Clone> Spot<A> {
         alloc: &A,
         from: &VPath<B>,
         to: &VPath<B>,
-        before: &Spot<A>,
-        afterwards: &Spot<A>,
-    ) -> Result<Spot<A>, AllocError>
+        before: &PathKey<A>,
+        afterwards: &PathKey<A>,
+    ) -> Result<PathKey<A>, AllocError>
         requires before { before.now ≡ from.now }
         requires afterwards { afterwards.now ≡ to.now }
-        ensures { IfOk result (λ spot. spot ≡ moved from.now to.now self.now) }
+        ensures { IfOk result (λ key. key ≡ moved from.now to.now self.now) }
     {
         if before == self {
             return afterwards.copy(alloc);
@@ -209,15 +212,15 @@ impl<A: Allocator + Clone> Spot<A> {
     }
 
     /// The same name in another directory.
-    fn moved_under(&self, alloc: &A, to: &str, rest: &str) -> Result<Spot<A>, AllocError>
+    fn moved_under(&self, alloc: &A, to: &str, rest: &str) -> Result<PathKey<A>, AllocError>
         requires to { slashed (names_in to.now) ≡ to.now }
         requires rest { slashed (names_in rest.now) ≡ rest.now }
         ensures { IfOk result
-            (λ spot. spot ≡ (names_in to.now ++ names_in rest.now) ++ last_of self.now ∷ []) }
+            (λ key. key ≡ (names_in to.now ++ names_in rest.now) ++ last_of self.now ∷ []) }
     {
         let mut directory = String::from_str(alloc.clone()?, to)?;
         directory.push_str(rest)?;
-        Ok(Spot {
+        Ok(PathKey {
             directory,
             name: String::from_str(alloc.clone()?, self.name.as_str())?,
         })

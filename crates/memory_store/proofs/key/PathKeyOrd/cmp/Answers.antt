@@ -2,8 +2,8 @@ use Rattle.std.proofs.Common.{◌∙◌, ap, string_bytes, [], ◌∷◌, ◌++�
 use Rattle.std.specs.Ordering.{ordering_then}
 use Rattle.virtual_path.specs.Path.{Path, names_of, names_in}
 use Rattle.memory_store.specs.Tree.{names_cmp, path_cmp}
-use Rattle.memory_store.proofs.Spots.{compared}
-use Rattle.memory_store.proofs.spot.SpotOrd.cmp.Goals as goal
+use Rattle.memory_store.proofs.PathKeys.{compared}
+use Rattle.memory_store.proofs.key.PathKeyOrd.cmp.Goals as goal
 
 pub returns : goal.returns
 returns g c =

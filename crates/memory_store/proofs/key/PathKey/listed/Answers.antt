@@ -3,8 +3,8 @@ use Rattle.ftp_terms.specs.declared.entries.Meta.{Meta}
 use Rattle.virtual_path.specs.Path.{is_name, names_in}
 use Rattle.virtual_tree.specs.Calls.{Entry}
 use Rattle.memory_store.specs.Tree.{last_of}
-use Rattle.memory_store.proofs.Spots.{last_of-push}
-use Rattle.memory_store.proofs.spot.Spot.listed.Goals as goal
+use Rattle.memory_store.proofs.PathKeys.{last_of-push}
+use Rattle.memory_store.proofs.key.PathKey.listed.Goals as goal
 
 pub returns-then-not-is_name : goal.returns-then-not-is_name
 returns-then-not-is_name g c =

@@ -4,7 +4,7 @@ use Rattle.std.specs.Ordering.{nat_cmp}
 use Rattle.std.proofs.lemmas.Iterator.Consumers.{YieldsList-at}
 use Rattle.std.proofs.lemmas.Iterator.Search.{cmp_from_yields_List}
 use Rattle.std.proofs.lemmas.Iterator.Splits.{YieldsList-from_str_split}
-use Rattle.memory_store.proofs.spot.compare_names.Goals as goal
+use Rattle.memory_store.proofs.key.compare_names.Goals as goal
 
 pub returns : goal.returns
 returns c =

@@ -13,8 +13,8 @@ use Rattle.virtual_path.proofs.Parts.{IsCut, cut_plain}
 use Rattle.virtual_path.proofs.Splits.{names_of-slashed}
 use Rattle.virtual_path.proofs.Texts.{path_text-slashed, slashed-append, slashed-push}
 use Rattle.virtual_path.proofs.Walks.{no_slash_in_names}
-use Rattle.memory_store.specs.Held.{IsSpotText}
-use Rattle.memory_store.specs.Tree.{names_cmp, path_cmp, spot_of, last_of}
+use Rattle.memory_store.specs.Held.{IsPathKeyText}
+use Rattle.memory_store.specs.Tree.{names_cmp, path_cmp, key_of, last_of}
 use Rattle.memory_store.proofs.Trees.{exact_names}
 
 -- no name of it has a slash
@@ -113,8 +113,8 @@ root_if_plain (name ∷ names) text e plain = let first = subst HasNoSlash e pla
     never : is_slash 47 ≡ false → ⊥
     never e = cc
 
-pub no_spot : (text : List ℕ) → slashed (names_in text) ≡ text → HasNoSlash text → None ≡ spot_of (names_in text)
-no_spot text is plain = ap spot_of (sym (root_if_plain (names_in text) text (sym is) plain))
+pub no_key : (text : List ℕ) → slashed (names_in text) ≡ text → HasNoSlash text → None ≡ key_of (names_in text)
+no_key text is plain = ap key_of (sym (root_if_plain (names_in text) text (sym is) plain))
 
 pub text_cut : (text front back : List ℕ) → slashed (names_in text) ≡ text → text ≡ front ++ 47 ∷ back → HasNoSlash back → IsCut (names_in text) front back
 text_cut text front back is whole plain = cut_plain text (names_in text) front back (plain_names text) (sym is) whole plain
@@ -122,9 +122,9 @@ text_cut text front back is whole plain = cut_plain text (names_in text) front b
 pub path_cut : (path : Path) (text front back : List ℕ) → IsPlain path → text ≡ slashed path → text ≡ front ++ 47 ∷ back → HasNoSlash back → IsCut path front back
 path_cut path text front back plain is whole back_plain = cut_plain text path front back plain is whole back_plain
 
-some_spot : (path : Path) → path ≢ [] → Some path ≡ spot_of path
-some_spot [] full = absurd (full refl)
-some_spot (name ∷ names) full = refl
+some_key : (path : Path) → path ≢ [] → Some path ≡ key_of path
+some_key [] full = absurd (full refl)
+some_key (name ∷ names) full = refl
 
 pub front_names : (path : Path) (front back : List ℕ) → IsPlain path → IsCut path front back → names_in front ≡ parent_of path
 front_names path front back plain cut = names_of_text (parent_of path) front (parent_plain path plain) cut.front_is
@@ -132,11 +132,11 @@ front_names path front back plain cut = names_of_text (parent_of path) front (pa
 pub front_kept : (path : Path) (front back : List ℕ) → IsPlain path → IsCut path front back → slashed (names_in front) ≡ front
 front_kept path front back plain cut = text_kept (parent_of path) front (parent_plain path plain) cut.front_is
 
-pub spot_from_cut : (path : Path) (front back : List ℕ) → IsPlain path → IsCut path front back → Some (names_in front ++ back ∷ []) ≡ spot_of path
-spot_from_cut path front back plain cut =
+pub key_from_cut : (path : Path) (front back : List ℕ) → IsPlain path → IsCut path front back → Some (names_in front ++ back ∷ []) ≡ key_of path
+key_from_cut path front back plain cut =
     ap (λ (p : Path). Some (p ++ back ∷ [])) (front_names path front back plain cut)
     ∙ ap (λ (p : Path). Some p) (sym cut.names)
-    ∙ some_spot path cut.full
+    ∙ some_key path cut.full
 
 -- ---- a directory's text
 
@@ -170,11 +170,11 @@ joined_plain front rest = each-append HasNoSlash (names_in front) (names_in rest
 
 -- ---- what is kept of a spot
 
-pub spot_text : (directory name : List ℕ) (kept_directory kept_name : List ℕ) → slashed (names_in directory) ≡ directory → HasNoSlash name → kept_directory ≡ directory → kept_name ≡ name → IsSpotText kept_directory kept_name
-spot_text directory name kept_directory kept_name is plain same_directory same_name = record {
+pub key_text : (directory name : List ℕ) (kept_directory kept_name : List ℕ) → slashed (names_in directory) ≡ directory → HasNoSlash name → kept_directory ≡ directory → kept_name ≡ name → IsPathKeyText kept_directory kept_name
+key_text directory name kept_directory kept_name is plain same_directory same_name = record {
   slashes = subst (λ t. slashed (names_in t) ≡ t) (sym same_directory) is;
   no_slash = subst HasNoSlash (sym same_name) plain;
 }
 
-pub spot_text_from_cut : (path : Path) (front back kept_front kept_back : List ℕ) → IsPlain path → IsCut path front back → HasNoSlash back → kept_front ≡ front → kept_back ≡ back → IsSpotText kept_front kept_back
-spot_text_from_cut path front back kept_front kept_back plain cut name_plain = spot_text front back kept_front kept_back (front_kept path front back plain cut) name_plain
+pub key_text_from_cut : (path : Path) (front back kept_front kept_back : List ℕ) → IsPlain path → IsCut path front back → HasNoSlash back → kept_front ≡ front → kept_back ≡ back → IsPathKeyText kept_front kept_back
+key_text_from_cut path front back kept_front kept_back plain cut name_plain = key_text front back kept_front kept_back (front_kept path front back plain cut) name_plain

@@ -1,8 +1,8 @@
 use Rattle.std.proofs.Common.{◌∙◌, subst, ℕ, List, length, ◌≤◌, ◌<◌}
 use Rattle.virtual_path.specs.Path.{path_text}
 use Rattle.virtual_path.proofs.Walks.{no_slash_in_path}
-use Rattle.memory_store.proofs.Spots.{root_text, slashed_if_long}
-use Rattle.memory_store.proofs.spot.directory_text.Goals as goal
+use Rattle.memory_store.proofs.PathKeys.{root_text, slashed_if_long}
+use Rattle.memory_store.proofs.key.directory_text.Goals as goal
 
 pub returns-then-text-le1-clause-text : goal.returns-then-text-le1-clause-text
 returns-then-text-le1-clause-text g c = root_text c.args.path.now c.text-text.ensures.names (subst (λ (t : List ℕ). length t ≤ 1) c.text-text.ensures.text c.if-text-le1.true)

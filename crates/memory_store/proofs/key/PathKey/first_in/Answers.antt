@@ -1,11 +1,11 @@
 use Rattle.std.proofs.Common.{◌∙◌, ap, List, [], ◌∷◌, ◌++◌, ℕ, string_bytes}
 use Rattle.virtual_path.specs.Path.{Path, names_in}
-use Rattle.memory_store.proofs.Spots.{text_kept, names_of_text, spot_text}
-use Rattle.memory_store.proofs.spot.Spot.first_in.Goals as goal
+use Rattle.memory_store.proofs.PathKeys.{text_kept, names_of_text, key_text}
+use Rattle.memory_store.proofs.key.PathKey.first_in.Goals as goal
 
 pub invariant_of-result : goal.invariant_of-result
 invariant_of-result g c =
-    spot_text c.directory_text.result.now [] _ _
+    key_text c.directory_text.result.now [] _ _
     (text_kept c.args.path.now c.directory_text.result.now c.directory_text.ensures.names c.directory_text.ensures.text) tt c.in_ok-from_str.ensures.ok c.new.ensures.bytes
 
 pub returns : goal.returns

@@ -8,7 +8,7 @@ use event_word::{has_passed, micros};
 use lent_parts::PartsName;
 use passive_ports::AdmitFault;
 use recorded_store::Recorder;
-use server_house::{House, NotServed, ServerEvent, ServerHooks, ShutdownStage};
+use server_house::{ClientSession, House, NotServed, ServerEvent, ServerHooks, ShutdownStage};
 use socket_host::serve_session;
 use std::alloc::Global;
 use std::io::{ErrorKind, Write};
@@ -76,22 +76,19 @@ fn is_enough(sessions: u64, admitted: u64) -> bool {
     sessions != 0 && admitted >= sessions
 }
 
-// An admitted client: its address, and the key of its connection in the registry. Its connection is among the arrivals.
-#[derive(Clone, Copy)]
-struct Client {
-    peer: [u8; 4],
-    key: usize,
-}
-
 // Takes the connection of a client from the arrivals.
-fn take_arrival<R, S, H, B>(rt: &R, house: &House<S, H, B>, key: usize) -> Option<TcpStream>
+fn take_arrival<R, S, H, B>(
+    rt: &R,
+    house: &House<S, H, B>,
+    session: ClientSession,
+) -> Option<TcpStream>
 where
     R: Wait,
     S: Store<Global>,
     H: ServerHooks,
     B: PartsName,
 {
-    match house.arrivals.get(key) {
+    match house.arrivals.get(session.number) {
         Some(arrival) => arrival.lock(rt).take(),
         None => None,
     }
@@ -102,22 +99,21 @@ fn arrive<R, S, H, B>(
     rt: &R,
     house: &House<S, H, B>,
     stream: TcpStream,
-    peer: [u8; 4],
-    key: usize,
-) -> Option<Client>
+    session: ClientSession,
+) -> Option<ClientSession>
 where
     R: Wait,
     S: Store<Global>,
     H: ServerHooks,
     B: PartsName,
 {
-    match house.arrivals.get(key) {
+    match house.arrivals.get(session.number) {
         Some(arrival) => {
             *arrival.lock(rt) = Some(stream);
-            Some(Client { peer, key })
+            Some(session)
         }
         None => {
-            house.registry.lock(rt).leave(key);
+            house.registry.lock(rt).leave(session.number);
             None
         }
     }
@@ -168,7 +164,7 @@ fn admit<R, S, H, B>(
     house: &House<S, H, B>,
     stream: TcpStream,
     from: SocketAddr,
-) -> Option<Client>
+) -> Option<ClientSession>
 where
     R: Wait,
     S: Store<Global>,
@@ -182,7 +178,7 @@ where
     }
     let admitted = house.registry.lock(rt).admit(peer);
     match admitted {
-        Ok(key) => arrive(rt, house, stream, peer, key),
+        Ok(number) => arrive(rt, house, stream, ClientSession { peer, number }),
         Err(fault) => {
             refuse(rt, house, stream, peer, NotServed::NotAdmitted(fault));
             None
@@ -196,7 +192,7 @@ fn next_client<R, S, H, B>(
     house: &House<S, H, B>,
     listener: &TcpListener,
     reported: &mut Option<u64>,
-) -> Option<Client>
+) -> Option<ClientSession>
 where
     R: Wait + Clock,
     S: Store<Global>,
@@ -218,32 +214,30 @@ where
 }
 
 // Serves a client to the end.
-fn serve_client<R, S, H, B>(rt: &R, house: &House<S, H, B>, client: Client)
+fn serve_client<R, S, H, B>(rt: &R, house: &House<S, H, B>, session: ClientSession)
 where
     R: Wait + Clock + Net<Listener = TcpListener, Stream = TcpStream> + AllocGlobal,
     S: Store<Global> + Recorder,
     H: ServerHooks,
     B: PartsName,
 {
-    let Client { peer, key } = client;
-    if let Some(stream) = take_arrival(rt, house, key) {
-        serve_session(rt, house, stream, peer, key);
+    if let Some(stream) = take_arrival(rt, house, session) {
+        serve_session(rt, house, stream, session);
     }
 }
 
 // Turns away a client for which no thread could be started: it leaves the registry.
-fn turn_away<R, S, H, B>(rt: &R, house: &House<S, H, B>, client: Client)
+fn turn_away<R, S, H, B>(rt: &R, house: &House<S, H, B>, session: ClientSession)
 where
     R: Wait,
     S: Store<Global>,
     H: ServerHooks,
     B: PartsName,
 {
-    let Client { peer, key } = client;
-    if let Some(stream) = take_arrival(rt, house, key) {
-        refuse(rt, house, stream, peer, NotServed::NoThread);
+    if let Some(stream) = take_arrival(rt, house, session) {
+        refuse(rt, house, stream, session.peer, NotServed::NoThread);
     }
-    house.registry.lock(rt).leave(key);
+    house.registry.lock(rt).leave(session.number);
 }
 
 /// Accepts control connections until the wanted number of sessions has begun, or the sessions are to end; then stops
@@ -280,13 +274,13 @@ where
                     break;
                 }
                 match next_client(rt, house, &listener, &mut reported) {
-                    Some(client) => {
+                    Some(session) => {
                         let started = Builder::new()
                             .stack_size(STACK)
-                            .spawn_scoped(scope, move || serve_client(rt, house, client));
+                            .spawn_scoped(scope, move || serve_client(rt, house, session));
                         match started {
                             Ok(_) => admitted = admitted.saturating_add(1),
-                            Err(_) => turn_away(rt, house, client),
+                            Err(_) => turn_away(rt, house, session),
                         }
                     }
                     None => {}

@@ -10,7 +10,6 @@ use crate::reloading::{ReloadFault, ReloadSign, take};
 use data_sockets::socket_address;
 use event_word::{has_passed, micros};
 use grant_ledger::MAX_LANES;
-use handler_hooks::Hooks;
 use lane_rounds::{TalliedRounds, look};
 use lent_parts::PartsName;
 use round_tally::Tallies;
@@ -131,7 +130,7 @@ fn end<R, S, H, B>(rt: &R, house: &House<S, H, B>)
 where
     R: Wait + Clock + Net<Listener = TcpListener, Stream = TcpStream>,
     S: Store<Global>,
-    H: Hooks,
+    H: Drop,
     B: PartsName,
 {
     house.ending.begin(ShutdownStage::Sessions);
@@ -257,7 +256,7 @@ fn wake<R, S, H, B>(rt: &R, house: &House<S, H, B>)
 where
     R: Wait + Clock + Net<Listener = TcpListener, Stream = TcpStream>,
     S: Store<Global>,
-    H: Hooks,
+    H: Drop,
     B: PartsName,
 {
     let own = socket_address(house.numbers.address, house.numbers.port);

@@ -9,7 +9,6 @@ ghost use Rattle.server_house.specs.Tickets.{is_upload};
 use crate::clock::RoundClock;
 use crate::gate::LaneGate;
 use crate::paced::TalliedRounds;
-use handler_hooks::Hooks;
 use lent_parts::{LentDesk, LentPass, LentWorker, PartsName};
 use line_rates::Way;
 use server_house::{House, LaneSign, SessionTicket, ShutdownStage};
@@ -57,7 +56,7 @@ fn run_transfer<'h, R, S, H, B, N>(
 where
     R: Wait + Clock + RoundClock + AllocGlobal,
     S: Store<Global>,
-    H: Hooks,
+    H: Drop,
     B: PartsName,
     requires clock { IsTestOf R.when B.when }
     requires free { (seat_view worker.old.seat).state ≡ Free }
@@ -94,7 +93,7 @@ pub fn work_lane<R, S, H, B, N>(
 where
     R: Wait + Clock + RoundClock + AllocGlobal,
     S: Store<Global>,
-    H: Hooks,
+    H: Drop,
     B: PartsName,
     requires clock { IsTestOf R.when B.when }
 {

@@ -21,8 +21,8 @@ pub use ending::{ServerShutdown, ShutdownStage, stages_stay_begun};
 pub use house::{House, copy_settings};
 pub use lane::LaneSign;
 pub use server_hooks::{
-    BegunTransfer, LaneLook, NotServed, ServerEvent, ServerHooks, ServerLook, SessionEvent,
-    SessionRefusal, StoreNote, TransferKind, TransferRecord,
+    BegunTransfer, ClientSession, LaneLook, NotServed, ServerEvent, ServerHooks, ServerLook,
+    SessionEvent, SessionRefusal, StoreNote, TransferKind, TransferRecord,
 };
 pub use terms::{HeldTerms, SharedTerms, Terms};
 pub use ticket::{LaneEnds, SessionEnd, SessionJob, SessionTicket};

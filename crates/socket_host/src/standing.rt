@@ -72,7 +72,9 @@ impl Standing {
     }
 
     /// The name of the user who was logged in last.
-    pub fn name(&self) -> &str {
+    pub fn name(&self) -> &str
+        ensures name { result.now ≡ string_bytes self.now.name }
+    {
         self.name.as_str()
     }
 

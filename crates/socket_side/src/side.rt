@@ -16,7 +16,6 @@ use crate::running::{Prepared, Running, is_upload, lane_job, over};
 use data_sockets::{DataConnection, Outgoing, Progress, TransferEnd, accept_from, socket_address};
 use event_word::{has_passed, micros};
 use ftp_wire::HostPort;
-use handler_hooks::Hooks;
 use lent_parts::PartsName;
 use passive_ports::{MOST_TRIES, open_passive};
 use server_house::{EndCause, House, LaneEnds, SessionEnd, SessionJob};
@@ -97,7 +96,7 @@ fn event_of<K: Drop>(end: Option<TransferEnd<K>>) -> Option<DataEvent<K>>
 }
 
 /// The data side of the session of one control connection. It cannot be dropped: it leaves its ticket.
-pub struct SocketSide<'h, R, S: Store<Global>, H: Hooks, B: PartsName> {
+pub struct SocketSide<'h, R, S: Store<Global>, H: Drop, B: PartsName> {
     rt: &'h R,
     house: &'h House<S, H, B>,
     // the peer whose data connections are accepted; none for any
@@ -120,7 +119,7 @@ impl<'h, R, S, H, B> SocketSide<'h, R, S, H, B>
 where
     R: Wait + Clock + Net<Listener = TcpListener, Stream = TcpStream> + AllocGlobal,
     S: Store<Global>,
-    H: Hooks,
+    H: Drop,
     B: PartsName,
 {
     /// The data side of the session with this number, at its ticket, with nothing prepared and nothing running. It accepts

@@ -1,9 +1,10 @@
 //! Control connections: admission, and a thread for each.
 
-ghost use Rattle.std.specs.Prelude.{◌≡◌};
+ghost use Rattle.std.specs.Prelude.{◌≡◌, ◌≢◌, ◌≤◌, ◌↔◌, IsTrue, false};
 ghost use Rattle.std.specs.Thread.{IsSend, IsSync};
-ghost use Rattle.ftp_daemon.specs.Accepting.{is_reported};
+ghost use Rattle.ftp_daemon.specs.Accepting.{is_reported, refusal};
 
+use data_sockets::address_octets;
 use event_word::{has_passed, micros};
 use lent_parts::PartsName;
 use passive_ports::AdmitFault;
@@ -31,7 +32,10 @@ const PAUSE: u64 = 20;
 /// The time between two reports of such failures at least, in microseconds.
 const QUIET: u64 = 1_000_000;
 
-fn refusal(why: NotServed) -> &'static [u8] {
+// The reply to a client that is not served.
+fn refusal(why: NotServed) -> &'static [u8]
+    ensures text { result.now ≡ refusal why }
+{
     match why {
         NotServed::NotAdmitted(AdmitFault::TooMany) => b"421 Too many connections\r\n",
         NotServed::NotAdmitted(AdmitFault::TooManyOfAddress) => {
@@ -63,16 +67,11 @@ where
     let _ = stream.shutdown(Shutdown::Write);
 }
 
-// The address of a peer; it is always IPv4, since the server listens on IPv4.
-fn octets_of(address: SocketAddr) -> [u8; 4] {
-    match address {
-        SocketAddr::V4(from) => from.ip().octets(),
-        SocketAddr::V6(_) => [0; 4],
-    }
-}
-
 // Returns whether no more sessions are to be admitted; for `sessions`, 0 is no limit.
-fn is_enough(sessions: u64, admitted: u64) -> bool {
+fn is_enough(sessions: u64, admitted: u64) -> bool
+    ensures endless { sessions ≡ 0 → result ≡ false }
+    ensures enough { sessions ≢ 0 → (IsTrue result ↔ (sessions ≤ admitted)) }
+{
     sessions != 0 && admitted >= sessions
 }
 
@@ -171,7 +170,7 @@ where
     H: ServerHooks,
     B: PartsName,
 {
-    let peer = octets_of(from);
+    let peer = address_octets(from);
     if house.ending.has_begun(ShutdownStage::Drain) {
         refuse(rt, house, stream, peer, NotServed::Ending);
         return None;

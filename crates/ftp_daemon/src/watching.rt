@@ -7,14 +7,13 @@ ghost use Rattle.line_rates.specs.Rates.{Rates};
 
 use crate::draining::{Due, next_due};
 use crate::reloading::{ReloadFault, ReloadSign, take};
-use data_sockets::socket_address;
 use event_word::{has_passed, micros};
 use grant_ledger::MAX_LANES;
 use lane_rounds::{TalliedRounds, look};
 use lent_parts::PartsName;
 use round_tally::Tallies;
 use server_house::{
-    House, LaneLook, LaneSign, ServerEvent, ServerHooks, ServerLook, ShutdownStage,
+    House, LaneLook, LaneSign, OwnAddress, ServerEvent, ServerHooks, ServerLook, ShutdownStage,
 };
 use std::alloc::Global;
 use std::net::{Net, TcpListener, TcpStream};
@@ -259,7 +258,7 @@ where
     H: Drop,
     B: PartsName,
 {
-    let own = socket_address(house.numbers.address, house.numbers.port);
+    let own = OwnAddress::of_server(&house.numbers).socket();
     for _ in rt.forever() {
         if house.ending.has_begun(ShutdownStage::Lanes) {
             return;

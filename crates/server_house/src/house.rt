@@ -1,6 +1,6 @@
 //! The shared parts of a server.
 
-ghost use Rattle.std.specs.Prelude.{◌≡◌, IfOk, [], ◌∷◌};
+ghost use Rattle.std.specs.Prelude.{◌≡◌, IfOk, [], ◌∷◌, slice_index_or};
 ghost use Rattle.server_house.specs.Settings.{AreSettingsAt, announced};
 
 use crate::ending::ServerShutdown;
@@ -64,8 +64,10 @@ impl<S: Store<Global>, H: Drop, B: PartsName> House<S, H, B> {
         }
     }
 
-    /// The store of the session of a connection.
-    pub fn store_of(&self, key: usize) -> &Mutex<S> {
+    /// The store of the session of a connection: its own, or the shared one if it has none.
+    pub fn store_of(&self, key: usize) -> &Mutex<S>
+        ensures own { result.now ≡ slice_index_or self.now.own_stores.items key self.now.store }
+    {
         match self.own_stores.get(key) {
             Some(own) => own,
             None => &self.store,

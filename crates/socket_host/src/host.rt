@@ -13,6 +13,7 @@ ghost use Rattle.session_table.specs.Views.{is_closed};
 ghost use Rattle.socket_host.specs.Cuts.{cause_of_cut};
 ghost use Rattle.socket_host.specs.Records.{ends_file, ends_listing, is_end, is_text, job_kind, path_of};
 ghost use Rattle.socket_host.specs.Refusals.{refusal_of};
+ghost use Rattle.socket_host.specs.Standing.{Follows};
 ghost use Rattle.socket_host.specs.Texts.{is_without_port, last_reply, time_out_reply};
 ghost use Rattle.socket_host.specs.Unsaid.{AnyCall};
 
@@ -321,7 +322,9 @@ where
     }
 
     // Follows who is logged in, and when.
-    fn follow(&mut self, call: &HookCall<Global>) {
+    fn follow(&mut self, call: &HookCall<Global>)
+        ensures follows { Follows self.old.standing call.now self.new.standing }
+    {
         match call {
             HookCall::Login(name) => {
                 self.standing.log_in(self.rt.alloc(), name.as_str());
@@ -657,13 +660,14 @@ where
 
     fn start(&mut self, job: &mut Option<Job<Global, S::Source, S::Sink>>) {
         if let Some(job) = job.take() {
+            let since = micros(self.rt);
             self.begun = Begun {
-                since: micros(self.rt),
+                since,
                 kind: kind_of(&job),
                 is_text: is_text(&job),
             };
             self.report_begin();
-            self.side.start(job, self.standing.user());
+            self.side.start(job, self.standing.user(), since);
         }
     }
 
@@ -672,7 +676,7 @@ where
     }
 
     fn look(&mut self) -> Option<DataEvent<S::Sink>> {
-        let event = self.side.look(self.standing.user());
+        let event = self.side.look(self.standing.user(), micros(self.rt));
         if is_without_port(&event) {
             if let Some(error) = self.side.port_fault() {
                 self.report(SessionEvent::NoPort(error));

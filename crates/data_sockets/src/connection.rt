@@ -1,7 +1,8 @@
 //! A data connection that a lane moves octets on, and that its session may shut down.
 
-ghost use Rattle.std.specs.Prelude.{◌≡◌, IfOk};
+ghost use Rattle.std.specs.Prelude.{◌≡◌, ◌<◌, ◌↔◌, IfOk, IsTrue, false};
 ghost use Rattle.data_sockets.specs.Sockets.{socket_of};
+ghost use Rattle.data_sockets.specs.declared.connection.Writes.TheVariants.{Nothing, One, Prepared};
 
 use crate::retry::{read_through, write_through};
 use last_fault::{fault_of, fault_word};
@@ -11,6 +12,15 @@ use std::io::{Read, Write};
 use std::net::{Shutdown, TcpStream};
 use std::sync::Arc;
 use std::sync::atomic::{AtomicU64, Ordering};
+use std::time::Duration;
+
+/// The time without progress after which a write fails, in milliseconds: a third of a minute, since a write that moved some
+/// octets before its time-out counts as progress, so a peer that reads nothing takes three such times.
+const STANDSTILL: u64 = 20_000;
+
+/// Most octets of a first write that needs no options: the machine admits a first buffer of that size whatever its limits
+/// are, so the write does not wait, and nothing was sent before that it could be held back for.
+const FEW: usize = 4_096;
 
 /// A socket, the last error of a call on it, and whether it was aborted.
 #[derive(Drop)]
@@ -26,6 +36,33 @@ struct Socket {
 #[derive(Drop)]
 pub struct DataConnection {
     socket: Arc<Socket, Global>,
+    // the writes by this handle
+    writes: Writes,
+}
+
+/// The writes of a handle so far.
+#[derive(Clone, Copy, Debug, PartialEq, Eq)]
+enum Writes {
+    /// Nothing yet.
+    Nothing,
+    /// A first write, and its options are not set.
+    One,
+    /// Its options are set.
+    Prepared,
+}
+
+// Returns whether the options of a socket are to be set before a write of this many octets: one that may wait for the
+// peer, or that follows another.
+fn needs_options(writes: Writes, count: usize) -> bool
+    ensures prepared { writes ≡ Prepared → result ≡ false }
+    ensures later { writes ≡ One → IsTrue result }
+    ensures first { writes ≡ Nothing → IsTrue result ↔ FEW < count }
+{
+    match writes {
+        Writes::Nothing => count > FEW,
+        Writes::One => true,
+        Writes::Prepared => false,
+    }
 }
 
 impl DataConnection {
@@ -39,7 +76,10 @@ impl DataConnection {
             aborted: AtomicU64::new(0),
         };
         let socket = Arc::new(alloc, socket)?;
-        Ok(DataConnection { socket })
+        Ok(DataConnection {
+            socket,
+            writes: Writes::Nothing,
+        })
     }
 
     /// Another handle of the same socket.
@@ -47,12 +87,30 @@ impl DataConnection {
         ensures socket { IfOk result (λ other. socket_of other ≡ socket_of self.now) }
     {
         let socket = Arc::try_clone(&self.socket)?;
-        Ok(DataConnection { socket })
+        Ok(DataConnection {
+            socket,
+            writes: Writes::Nothing,
+        })
     }
 
     /// The last error of a read or write by any handle, if there was one.
     pub fn fault(&self) -> Option<io::Error> {
         fault_of(self.socket.fault.load(Ordering::SeqCst))
+    }
+
+    // Sets what writes need, if this one does: no octets are held back for the peer's answer (RFC 896), and a write to a
+    // peer that reads nothing fails in the end.
+    fn prepare(&mut self, count: usize) {
+        if needs_options(self.writes, count) {
+            let _ = self.socket.stream.set_nodelay(true);
+            let _ = self
+                .socket
+                .stream
+                .set_write_timeout(Some(Duration::from_millis(STANDSTILL)));
+            self.writes = Writes::Prepared;
+        } else if self.writes == Writes::Nothing {
+            self.writes = Writes::One;
+        }
     }
 
     // Keeps the error of a call for the other handles.
@@ -90,6 +148,7 @@ impl Read for DataConnection {
 
 impl Write for DataConnection {
     fn write(&mut self, octets: &[u8]) -> io::Result<usize> {
+        self.prepare(octets.len());
         let mut stream: &TcpStream = &self.socket.stream;
         let answer = write_through(&mut stream, octets);
         self.noted(answer)

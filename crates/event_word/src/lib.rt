@@ -8,11 +8,11 @@
 //! count at any moment, since other threads change it; that waits end and no signal is lost is tested.
 //!
 //! ```text
-//! let bell = EventCount::new();
-//! let seen = bell.seen(); // before the look for what is signalled
-//! bell.signal();
-//! bell.wait(&rt, seen, 0, Duration::from_secs(60)); // returns at once
-//! assert!(rt; bell.seen() != seen);
+//! let waker = EventCount::new();
+//! let seen = waker.seen(); // before the look for what is signalled
+//! waker.signal();
+//! waker.wait(&rt, seen, 0, Duration::from_secs(60)); // returns at once
+//! assert!(rt; waker.seen() != seen);
 //! ```
 #![tactic(auto)]
 

@@ -72,6 +72,6 @@ where
     fn end_lanes(&self) {
         self.house.ending.begin(ShutdownStage::Lanes);
         self.house.jobs.signal_all();
-        self.house.bell.signal();
+        self.house.waker.signal();
     }
 }

@@ -80,7 +80,7 @@ fn furnish<S: Store<Global>, H: Drop, B: PartsName, P: Drop>(
         jobs: SharedEventCount::new(),
         tickets,
         lanes,
-        bell: EventCount::new(),
+        waker: EventCount::new(),
         ending: ServerShutdown::new(),
     };
     (house, pace, cadence, signs)

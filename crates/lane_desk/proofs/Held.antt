@@ -13,8 +13,8 @@ module _ {N : Type 0} where
   not_held fs i e = ap (λ b. cond b ((i, Blank) ∷ []) []) e
 
   -- a turn at a held lane
-  pub traces_by : (fs : List Bool) (i n : ℕ) → get_or fs i false ≡ true → turned (stack {N = N} fs (suc i) n) ≡ stack {N = N} fs i (suc n)
-  traces_by fs i n e =
+  pub rotates_by : (fs : List Bool) (i n : ℕ) → get_or fs i false ≡ true → turned (stack {N = N} fs (suc i) n) ≡ stack {N = N} fs i (suc n)
+  rotates_by fs i n e =
       ap (λ (x : List (ℕ × (LaneSlot N))). turned ((x ++ below {N = N} fs i) ++ above {N = N} fs (suc i) n)) (is_held fs i e)
       ∙ append_assoc (below {N = N} fs i) (above {N = N} fs (suc i) n) ((i, Blank) ∷ [])
       ∙ ap (λ (x : List (ℕ × (LaneSlot N))). below {N = N} fs i ++ (above {N = N} fs (suc i) n ++ x)) (sym (is_held fs i e))
@@ -57,8 +57,8 @@ module _ {N : Type 0} where
       ∙ ap (λ (x : List (ℕ × (LaneSlot N))). (x ++ below {N = N} (set fs j false) j) ++ above {N = N} (set fs j false) (suc j) n) (sym (not_held (set fs j false) j (get_or-set_same fs j false false near)))
       ∙ passes_by (set fs j false) j n (get_or-set_same fs j false false near)
 
-  pub traces_at : (fs : List Bool) (i p n m : ℕ) → i ≡ suc p → m ≡ suc n → get_or fs p false ≡ true → turned (stack {N = N} fs i n) ≡ stack {N = N} fs p m
-  traces_at fs i p n m e f h = ap (λ (z : ℕ). turned (stack {N = N} fs z n)) e ∙ traces_by fs p n h ∙ ap (stack {N = N} fs p) (sym f)
+  pub rotates_at : (fs : List Bool) (i p n m : ℕ) → i ≡ suc p → m ≡ suc n → get_or fs p false ≡ true → turned (stack {N = N} fs i n) ≡ stack {N = N} fs p m
+  rotates_at fs i p n m e f h = ap (λ (z : ℕ). turned (stack {N = N} fs z n)) e ∙ rotates_by fs p n h ∙ ap (stack {N = N} fs p) (sym f)
 
   pub passes_at : (fs : List Bool) (i p n m : ℕ) → i ≡ suc p → m ≡ suc n → get_or fs p false ≡ false → stack {N = N} fs i n ≡ stack {N = N} fs p m
   passes_at fs i p n m e f h = ap (λ (z : ℕ). stack {N = N} fs z n) e ∙ passes_by fs p n h ∙ ap (stack {N = N} fs p) (sym f)

@@ -39,7 +39,7 @@ fn rotate_down<N>(
     while i > to {
         i -= 1;
         if held[i] {
-            seat.trace();
+            seat.turn();
         }
     }
 }

@@ -31,14 +31,14 @@ where
     requires clock { IsTestOf R.when B.when }
 {
     for _ in rt.forever() {
-        let seen = house.bell.seen();
+        let seen = house.waker.seen();
         if house.ending.has_begun(ShutdownStage::Lanes) {
             return;
         }
         let now = rt.moment();
         let _ = try_one(rt.alloc(), house, desk, paced, None, now);
         house
-            .bell
+            .waker
             .wait(rt, seen, 0, Duration::from_millis(BACKSTOP));
     }
     unreachable!()

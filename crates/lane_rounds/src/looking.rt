@@ -62,7 +62,7 @@ where
         if let Some(guard) = paced.try_lock() {
             let look = guard.look(&running);
             drop(guard);
-            house.bell.signal();
+            house.waker.signal();
             return Some(look);
         }
         thread::sleep(rt, Duration::from_micros(PAUSE));

@@ -167,7 +167,7 @@ pub(crate) fn try_one<S: Store<Global>, H: Drop, B: PartsName, N>(
         Some(mut guard) => match due_by(house, &guard.rounds, sign, now) {
             Due::At(moment) => Tried::NotBefore(moment),
             Due::Now => {
-                let seen = house.bell.seen();
+                let seen = house.waker.seen();
                 hold_one(alloc, house, desk, &mut *guard, now);
                 Tried::Held(seen)
             }
@@ -191,14 +191,14 @@ pub(crate) fn help<S: Store<Global>, H: Drop, B: PartsName, N>(
 ) -> Option<u64>
     requires when { B.when now ≡ true }
 {
-    house.bell.raise();
+    house.waker.raise();
     let mut seen = match try_one(alloc, house, desk, paced, Some(sign), now) {
         Tried::Held(seen) => seen,
         Tried::ByAnother => return Some(now.saturating_add(TICK_MICROS)),
         Tried::NotBefore(moment) => return Some(moment),
     };
     for _ in 1..IN_A_ROW {
-        if house.bell.seen() == seen {
+        if house.waker.seen() == seen {
             return None;
         }
         match try_one(alloc, house, desk, paced, None, now) {
@@ -206,6 +206,6 @@ pub(crate) fn help<S: Store<Global>, H: Drop, B: PartsName, N>(
             Tried::ByAnother | Tried::NotBefore(_) => return None,
         }
     }
-    house.bell.signal();
+    house.waker.signal();
     None
 }

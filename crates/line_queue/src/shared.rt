@@ -16,7 +16,7 @@ pub struct SharedLines {
     pub(crate) notes: Mutex<LineQueue>,
     pub(crate) transfers: Mutex<LineQueue>,
     // increased when a line is offered, and at the end; the thread that writes waits on it
-    pub(crate) bell: EventCount,
+    pub(crate) waker: EventCount,
     // 1 once no more lines come
     closed: AtomicU64,
 }
@@ -63,7 +63,7 @@ impl SharedLines {
         Ok(SharedLines {
             notes: Mutex::new(notes),
             transfers: Mutex::new(transfers),
-            bell: EventCount::new(),
+            waker: EventCount::new(),
             closed: AtomicU64::new(0),
         })
     }
@@ -71,19 +71,19 @@ impl SharedLines {
     /// Offers a note, with its end. One that could not be made is counted as a line that is dropped.
     pub fn note<R: Wait>(&self, rt: &R, line: Result<String, AllocError>) {
         offer(&mut self.notes.lock(rt), line);
-        self.bell.signal();
+        self.waker.signal();
     }
 
     /// Offers a line of the transfer log, with its end. One that could not be made is counted as a line that is dropped.
     pub fn transfer<R: Wait>(&self, rt: &R, line: Result<String, AllocError>) {
         offer(&mut self.transfers.lock(rt), line);
-        self.bell.signal();
+        self.waker.signal();
     }
 
     /// Ends the thread that writes, once it has written what is left or has waited long enough for its readers.
     pub fn close(&self) {
         self.closed.store(1, Ordering::SeqCst);
-        self.bell.signal();
+        self.waker.signal();
     }
 
     // Moves the count of dropped lines of the transfer log to a note.

@@ -19,6 +19,10 @@ const PAUSE: u16 = 20;
 /// The longest sleep, in seconds: a lost signal would cost no more.
 const LONGEST_SLEEP: u64 = 1;
 
+/// The time after the first line, in milliseconds, in which others may come that are written with it: a write and a
+/// wake-up for each line would cost more than the line.
+const GATHER: u64 = 5;
+
 // Copies the octets of the next write. Returns whether there are any, and whether they go on with a line.
 fn copy_next(queue: &LineQueue, buffer: &mut Vec<u8>) -> Result<bool, AllocError>
     ensures next { OnOk result (buffer.new.items ≡ next_octets queue.now) }
@@ -84,7 +88,7 @@ where
     let mut buffer = Vec::new(rt.alloc());
     let mut last = None;
     for _ in rt.forever() {
-        let seen = lines.bell.seen();
+        let seen = lines.waker.seen();
         if last.is_none() && lines.is_closed() {
             last = Some(micros(rt));
         }
@@ -93,9 +97,7 @@ where
         let second = round(rt, &lines.transfers, transfers, &mut buffer);
         match next_step(first, second, time_since(rt, last)) {
             Step::Again => {}
-            Step::Sleep => lines
-                .bell
-                .wait(rt, seen, 0, Duration::from_secs(LONGEST_SLEEP)),
+            Step::Sleep => gather(rt, lines, seen),
             Step::Pause => pause(rt, first, notes),
             Step::End => return lines.left(rt),
         }
@@ -108,6 +110,16 @@ fn time_since<R: Clock>(rt: &R, moment: Option<u64>) -> Option<u64> {
     match moment {
         Some(moment) => Some(micros(rt).saturating_sub(moment)),
         None => None,
+    }
+}
+
+// Sleeps until a line is offered, and then a moment more for those that follow it, unless no more come.
+fn gather<R: Wait + Clock>(rt: &R, lines: &SharedLines, seen: u64) {
+    lines
+        .waker
+        .wait(rt, seen, 0, Duration::from_secs(LONGEST_SLEEP));
+    if lines.waker.seen() != seen && !lines.is_closed() {
+        thread::sleep(rt, Duration::from_millis(GATHER));
     }
 }
 

@@ -8,7 +8,7 @@ use Rattle.virtual_tree.specs.declared.fault.StoreFault.{StoreFault}
 use Rattle.virtual_tree.specs.declared.fault.StoreFault.TheVariants as fault
 use Rattle.virtual_tree.specs.Calls.{in_answer}
 use Rattle.memory_store.specs.Held.{IsHeld}
-use Rattle.memory_store.specs.Tree.{Spot, Tree, size_at, total}
+use Rattle.memory_store.specs.Tree.{PathKey, Tree, size_at, total}
 use Rattle.memory_store.specs.Tree.Node.{File}
 use Rattle.memory_store.specs.InMemory.{Memory, Upload, Changes, left_by, filled, finish_octets}
 use Rattle.memory_store.proofs.Trees.{total-insert, size_within}
@@ -42,21 +42,21 @@ decided_filled old upload moment octets fits within =
 sums : (after before all kept came : ℕ) → after + before ≡ all + (kept + came) → before ≤ all → all - before + kept + came ≡ after
 sums after before all kept came sum within = omega arith
 
-pub held_within : (tree : Tree) (p : Spot) (octets : List ℕ) → size_at (get tree p) ≡ length octets → length octets ≤ total tree
+pub held_within : (tree : Tree) (p : PathKey) (octets : List ℕ) → size_at (get tree p) ≡ length octets → length octets ≤ total tree
 held_within tree p octets is = size_within tree p (total tree) (length octets) refl (sym is)
 
 -- what the files hold afterwards
-pub filled_total : (old : Memory) (upload : Upload) (moment : ℕ) (octets : List ℕ) → size_at (get old.tree upload.spot) ≡ length octets
+pub filled_total : (old : Memory) (upload : Upload) (moment : ℕ) (octets : List ℕ) → size_at (get old.tree upload.key) ≡ length octets
     → total old.tree - length octets + min upload.kept (length octets) + length upload.octets ≡ total (filled old.tree upload moment octets)
 filled_total old upload moment octets is =
     sums (total (filled old.tree upload moment octets)) (length octets) (total old.tree) (min upload.kept (length octets)) (length upload.octets)
     (ap (λ n. total (filled old.tree upload moment octets) + n) (sym is)
-    ∙ total-insert old.tree upload.spot (File (take upload.kept octets ++ upload.octets) moment)
+    ∙ total-insert old.tree upload.key (File (take upload.kept octets ++ upload.octets) moment)
     ∙ ap (λ n. total old.tree + n) (length-append (take upload.kept octets) upload.octets ∙ ap (λ n. n + length upload.octets) (length-take upload.kept octets)))
-    (held_within old.tree upload.spot octets is)
+    (held_within old.tree upload.key octets is)
 
 -- as it is counted
-pub passed_is : (old : Memory) (upload : Upload) (moment : ℕ) (octets : List ℕ) (first came : ℕ) → size_at (get old.tree upload.spot) ≡ length octets → first ≡ min upload.kept (length octets) → came ≡ length upload.octets
+pub passed_is : (old : Memory) (upload : Upload) (moment : ℕ) (octets : List ℕ) (first came : ℕ) → size_at (get old.tree upload.key) ≡ length octets → first ≡ min upload.kept (length octets) → came ≡ length upload.octets
     → total old.tree - length octets + first + came ≡ total (filled old.tree upload moment octets)
 passed_is old upload moment octets first came is first_is came_is =
     ap (λ n. total old.tree - length octets + first + n) came_is
@@ -66,7 +66,7 @@ above : (capacity first came after : ℕ) → first + came ≡ after → capacit
 above capacity first came after sum more = omega arith
 
 -- more was received than the capacity
-pub more_passes : (old : Memory) (upload : Upload) (moment : ℕ) (octets : List ℕ) → size_at (get old.tree upload.spot) ≡ length octets → old.capacity < length upload.octets
+pub more_passes : (old : Memory) (upload : Upload) (moment : ℕ) (octets : List ℕ) → size_at (get old.tree upload.key) ≡ length octets → old.capacity < length upload.octets
     → nat_lt old.capacity (total (filled old.tree upload moment octets)) ≡ true
 more_passes old upload moment octets is more =
     lt-ltb old.capacity (total (filled old.tree upload moment octets))
@@ -77,7 +77,7 @@ between : (capacity most came : ℕ) → capacity ≤ most → most < came → c
 between capacity most came within more = omega arith
 
 -- more was received than a sink holds, and the capacity is no greater
-pub cut_passes : (old : Memory) (upload : Upload) (moment : ℕ) (octets : List ℕ) → size_at (get old.tree upload.spot) ≡ length octets → old.capacity ≤ upload.most → nat_lt upload.most (length upload.octets) ≡ true
+pub cut_passes : (old : Memory) (upload : Upload) (moment : ℕ) (octets : List ℕ) → size_at (get old.tree upload.key) ≡ length octets → old.capacity ≤ upload.most → nat_lt upload.most (length upload.octets) ≡ true
     → nat_lt old.capacity (total (filled old.tree upload moment octets)) ≡ true
 cut_passes old upload moment octets is within cut =
     more_passes old upload moment octets is (between old.capacity upload.most (length upload.octets) within (ltb-true upload.most (length upload.octets) cut))

@@ -1,6 +1,6 @@
 pub mod Listings
 pub mod Moves
-pub mod Spots
+pub mod PathKeys
 pub mod Trees
 pub mod Fills
 pub mod UploadLaws

@@ -15,9 +15,9 @@ use Rattle.std.specs.FinMap.{get, insert, from_entries}
 use Rattle.virtual_path.specs.Path.{Path, slashed, IsBeneath}
 use Rattle.virtual_path.proofs.Beneath.{rest_beneath, beneath_rest}
 use Rattle.virtual_path.proofs.Texts.{slashed-append}
-use Rattle.memory_store.specs.Tree.{Node, Spot, Tree, names_cmp, path_cmp, is_same, size_of, size_at, total, begins_with, moved, moved_entry, last_of}
+use Rattle.memory_store.specs.Tree.{Node, PathKey, Tree, names_cmp, path_cmp, is_same, size_of, size_at, total, begins_with, moved, moved_entry, last_of}
 use Rattle.memory_store.proofs.Listings.{same_entries}
-use Rattle.memory_store.proofs.Spots.{IsPlain, last_of-push}
+use Rattle.memory_store.proofs.PathKeys.{IsPlain, last_of-push}
 use Rattle.memory_store.specs.Orders.{names_total, paths_total}
 use Rattle.memory_store.proofs.Trees.{exact_texts, exact_names, exact_paths, sizes, total-insert, total-from_entries, total_sizes}
 
@@ -102,21 +102,21 @@ moved_under from to directory name other is =
     ∙ ap (λ (rest : Path). to ++ rest) (sym (drop-push from directory name is))
     ∙ ap (λ b. cond b (to ++ drop (length from) (directory ++ name ∷ [])) (directory ++ name ∷ [])) (sym (begins-push from directory name other ∙ is))
 
-pub stays : (from to directory : Path) (name : List ℕ) (spot : Spot) → directory ++ name ∷ [] ≡ spot → from ≢ spot → begins_with from directory ≡ false → spot ≡ moved from to spot
-stays from to directory name spot view other is =
+pub stays : (from to directory : Path) (name : List ℕ) (key : PathKey) → directory ++ name ∷ [] ≡ key → from ≢ key → begins_with from directory ≡ false → key ≡ moved from to key
+stays from to directory name key view other is =
     sym view ∙ moved_not from to directory name (λ e. other (e ∙ view)) is ∙ ap (moved from to) view
 
-pub goes_along : (from to directory : Path) (name : List ℕ) (spot : Spot) → directory ++ name ∷ [] ≡ spot → from ≢ spot → begins_with from directory ≡ true → (to ++ drop (length from) directory) ++ last_of spot ∷ [] ≡ moved from to spot
-goes_along from to directory name spot view other is =
+pub goes_along : (from to directory : Path) (name : List ℕ) (key : PathKey) → directory ++ name ∷ [] ≡ key → from ≢ key → begins_with from directory ≡ true → (to ++ drop (length from) directory) ++ last_of key ∷ [] ≡ moved from to key
+goes_along from to directory name key view other is =
     ap (λ (t : List ℕ). (to ++ drop (length from) directory) ++ t ∷ []) (ap last_of (sym view) ∙ last_of-push directory name)
     ∙ moved_under from to directory name (λ e. other (e ∙ view)) is
     ∙ ap (moved from to) view
 
-pub equal_spots : (a b : Spot) → eq_by_cmp path_cmp a b ≡ true → a ≡ b
-equal_spots a b e = exact_paths a b (only_equal (path_cmp a b) e)
+pub equal_keys : (a b : PathKey) → eq_by_cmp path_cmp a b ≡ true → a ≡ b
+equal_keys a b e = exact_paths a b (only_equal (path_cmp a b) e)
 
-pub unequal_spots : (a b : Spot) → eq_by_cmp path_cmp a b ≡ false → a ≢ b
-unequal_spots a b e same = never (sym e ∙ ap (eq_by_cmp path_cmp a) (sym same) ∙ ap is_eq (tied_itself paths_total a))
+pub unequal_keys : (a b : PathKey) → eq_by_cmp path_cmp a b ≡ false → a ≢ b
+unequal_keys a b e same = never (sym e ∙ ap (eq_by_cmp path_cmp a) (sym same) ∙ ap is_eq (tied_itself paths_total a))
   where
     never : false ≡ true → ⊥
     never e = cc
@@ -162,7 +162,7 @@ goes_on directory text rest whole end front path is are =
 pub stripped : (directory text rest : List ℕ) → StripsPrefix (FindsTextPrefix directory) text rest → text ≡ directory ++ rest
 stripped directory text rest is = is.1.1 ∙ ap (λ (t : List ℕ). directory ++ t) (sym is.2)
 
-last_entry : {A : Type 0} (shows : A → Spot × Node) (s t : List (Spot × Node)) (r : Option A) (x : A) → r ≡ Some x → TakesLast shows s r t → s ≡ t ++ shows x ∷ []
+last_entry : {A : Type 0} (shows : A → PathKey × Node) (s t : List (PathKey × Node)) (r : Option A) (x : A) → r ≡ Some x → TakesLast shows s r t → s ≡ t ++ shows x ∷ []
 last_entry shows s t None x is step = absurd (nothing x is)
   where
     nothing : {A : Type 0} (x : A) → None ≡ Some x → ⊥
@@ -172,33 +172,33 @@ last_entry shows s t (Some y) x is step = step ∙ ap (λ e. t ++ shows e ∷ []
     same : {A : Type 0} (y x : A) → Some y ≡ Some x → y ≡ x
     same y x e = cc
 
-pub parts_of_all : {A : Type 0} (shows : A → Spot × Node) (all s t done : List (Spot × Node)) (r : Option A) (x : A) → all ≡ s ++ done → r ≡ Some x → TakesLast shows s r t → all ≡ (t ++ shows x ∷ []) ++ done
-parts_of_all shows all s t done r x is found step = is ∙ ap (λ (es : List (Spot × Node)). es ++ done) (last_entry shows s t r x found step)
+pub parts_of_all : {A : Type 0} (shows : A → PathKey × Node) (all s t done : List (PathKey × Node)) (r : Option A) (x : A) → all ≡ s ++ done → r ≡ Some x → TakesLast shows s r t → all ≡ (t ++ shows x ∷ []) ++ done
+parts_of_all shows all s t done r x is found step = is ∙ ap (λ (es : List (PathKey × Node)). es ++ done) (last_entry shows s t r x found step)
 
-pub none_left : {A : Type 0} (shows : A → Spot × Node) (all s t done : List (Spot × Node)) (r : Option A) → all ≡ s ++ done → r ≡ None → TakesLast shows s r t → done ≡ all
-none_left shows all s t done None is found step = sym (is ∙ ap (λ (es : List (Spot × Node)). es ++ done) step.0)
+pub none_left : {A : Type 0} (shows : A → PathKey × Node) (all s t done : List (PathKey × Node)) (r : Option A) → all ≡ s ++ done → r ≡ None → TakesLast shows s r t → done ≡ all
+none_left shows all s t done None is found step = sym (is ∙ ap (λ (es : List (PathKey × Node)). es ++ done) step.0)
 none_left shows all s t done (Some x) is found step = absurd (something x found)
   where
     something : {A : Type 0} (x : A) → Some x ≡ None → ⊥
     something x e = cc
 
-pub whole_sizes : (tree : Tree) (es : List (Spot × Node)) (stored : ℕ) → IsStrictlySortedBy path_cmp (keys_of es) → from_entries {R = path_cmp} es ≡ tree → stored ≡ total (from_entries {R = path_cmp} es) → sizes es ≡ stored
+pub whole_sizes : (tree : Tree) (es : List (PathKey × Node)) (stored : ℕ) → IsStrictlySortedBy path_cmp (keys_of es) → from_entries {R = path_cmp} es ≡ tree → stored ≡ total (from_entries {R = path_cmp} es) → sizes es ≡ stored
 whole_sizes tree es stored sorted view is = ap sizes (sym (same_entries es sorted)) ∙ sym (total_sizes (from_entries {R = path_cmp} es)) ∙ sym is
 
 -- ---- all entries, moved
 
-sizes-append : (es fs : List (Spot × Node)) → sizes (es ++ fs) ≡ sizes es + sizes fs
+sizes-append : (es fs : List (PathKey × Node)) → sizes (es ++ fs) ≡ sizes es + sizes fs
 sizes-append [] fs = sym (zero-add (sizes fs))
 sizes-append (e ∷ es) fs = ap (λ n. size_of e.1 + n) (sizes-append es fs) ∙ sym (add_assoc (size_of e.1) (sizes es) (sizes fs))
 
-sizes-moved : (from to : Path) (es : List (Spot × Node)) → sizes (map (moved_entry from to) es) ≡ sizes es
+sizes-moved : (from to : Path) (es : List (PathKey × Node)) → sizes (map (moved_entry from to) es) ≡ sizes es
 sizes-moved from to [] = refl
 sizes-moved from to (e ∷ es) = ap (λ n. size_of e.1 + n) (sizes-moved from to es)
 
 small : (after at held moved size front all bound : ℕ) → after + at ≡ held + size → held ≤ moved → front + size + moved ≡ all → all < bound → after < bound
 small after at held moved size front all bound put less sum bounded = omega arith
 
-sum_of_parts : (rest done es : List (Spot × Node)) (x : Spot × Node) → es ≡ (rest ++ x ∷ []) ++ done → sizes rest + size_of x.1 + sizes done ≡ sizes es
+sum_of_parts : (rest done es : List (PathKey × Node)) (x : PathKey × Node) → es ≡ (rest ++ x ∷ []) ++ done → sizes rest + size_of x.1 + sizes done ≡ sizes es
 sum_of_parts rest done es x e =
     ap (λ n. sizes rest + n + sizes done) (sym (add-zero (size_of x.1)))
     ∙ ap (λ n. n + sizes done) (sym (sizes-append rest (x ∷ [])))
@@ -206,7 +206,7 @@ sum_of_parts rest done es x e =
     ∙ ap sizes (sym e)
 
 -- there is room for one more entry
-pub put_fits : (from to : Path) (rest done es : List (Spot × Node)) (x : Spot × Node) (tree : Tree) (stored : ℕ) → es ≡ (rest ++ x ∷ []) ++ done → tree ≡ from_entries {R = path_cmp} (map (moved_entry from to) done) → sizes es ≡ stored → stored < 2 ^ 64
+pub put_fits : (from to : Path) (rest done es : List (PathKey × Node)) (x : PathKey × Node) (tree : Tree) (stored : ℕ) → es ≡ (rest ++ x ∷ []) ++ done → tree ≡ from_entries {R = path_cmp} (map (moved_entry from to) done) → sizes es ≡ stored → stored < 2 ^ 64
     → total (insert tree (moved from to x.0) x.1) < 2 ^ 64
 put_fits from to rest done es x tree stored e is all bound =
     small (total (insert tree (moved from to x.0) x.1)) (size_at (get tree (moved from to x.0))) (total tree) (sizes done) (size_of x.1) (sizes rest) stored (2 ^ 64)

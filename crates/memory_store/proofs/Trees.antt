@@ -12,7 +12,7 @@ use Rattle.std.specs.FinMap.{get, insert, remove, empty, entries, from_entries, 
 use Rattle.std.specs.FinMap.Entries.{find, put, is_sorted, by_order, below_all}
 use Rattle.virtual_path.specs.Path.{parent_of}
 use Rattle.memory_store.specs.Orders.{paths_total}
-use Rattle.memory_store.specs.Tree.{Node, Spot, Tree, names_cmp, path_cmp, size_of, size_at, total}
+use Rattle.memory_store.specs.Tree.{Node, PathKey, Tree, names_cmp, path_cmp, size_of, size_at, total}
 
 pub exact_texts : IsAntisymmetric (slice_cmp nat_cmp)
 exact_texts = slice_cmp-IsAntisymmetric nat_cmp-IsAntisymmetric
@@ -29,39 +29,39 @@ second_ties Greater s e = cc
 pub exact_paths : IsAntisymmetric path_cmp
 exact_paths a b e = exact_names a b (second_ties (names_cmp (parent_of a) (parent_of b)) (names_cmp a b) e)
 
-find_spot : (es : List (Spot × Node)) (q : Spot) → find path_cmp q es ≡ lookup (is_at (path_cmp q)) es
-find_spot [] q = refl
-find_spot (e ∷ es) q = ap (cond (is_at (path_cmp q) e.0) (Some e.1)) (find_spot es q)
+find_key : (es : List (PathKey × Node)) (q : PathKey) → find path_cmp q es ≡ lookup (is_at (path_cmp q)) es
+find_key [] q = refl
+find_key (e ∷ es) q = ap (cond (is_at (path_cmp q) e.0) (Some e.1)) (find_key es q)
 
 -- what the tree of these entries has at a spot
-pub get_spot : (es : List (Spot × Node)) (q : Spot) → get (from_entries {R = path_cmp} es) q ≡ lookup (is_at (path_cmp q)) es
-get_spot es q = get-from_entries paths_total es q ∙ find_spot es q
+pub get_key : (es : List (PathKey × Node)) (q : PathKey) → get (from_entries {R = path_cmp} es) q ≡ lookup (is_at (path_cmp q)) es
+get_key es q = get-from_entries paths_total es q ∙ find_key es q
 
 -- entries that differ at one spot make trees that differ there
-pub one_put : (es fs : List (Spot × Node)) (p : Spot) (node : Node) → ((q : Spot) → lookup (is_at (path_cmp q)) fs ≡ cond (is_at (path_cmp p) q) (Some node) (lookup (is_at (path_cmp q)) es)) → from_entries {R = path_cmp} fs ≡ insert (from_entries es) p node
+pub one_put : (es fs : List (PathKey × Node)) (p : PathKey) (node : Node) → ((q : PathKey) → lookup (is_at (path_cmp q)) fs ≡ cond (is_at (path_cmp p) q) (Some node) (lookup (is_at (path_cmp q)) es)) → from_entries {R = path_cmp} fs ≡ insert (from_entries es) p node
 one_put es fs p node h = same_map paths_total exact_paths _ _ (λ q.
-    get_spot fs q ∙ h q ∙ ap (λ b. cond b (Some node) (lookup (is_at (path_cmp q)) es)) ((eq_by_cmp_equiv paths_total).symm p q)
-    ∙ sym (get-insert paths_total (from_entries es) p node q ∙ ap (cond (is_at (path_cmp q) p) (Some node)) (get_spot es q)))
+    get_key fs q ∙ h q ∙ ap (λ b. cond b (Some node) (lookup (is_at (path_cmp q)) es)) ((eq_by_cmp_equiv paths_total).symm p q)
+    ∙ sym (get-insert paths_total (from_entries es) p node q ∙ ap (cond (is_at (path_cmp q) p) (Some node)) (get_key es q)))
 
-pub one_taken : (es fs : List (Spot × Node)) (p : Spot) → ((q : Spot) → lookup (is_at (path_cmp q)) fs ≡ cond (is_at (path_cmp p) q) None (lookup (is_at (path_cmp q)) es)) → from_entries {R = path_cmp} fs ≡ remove (from_entries es) p
+pub one_taken : (es fs : List (PathKey × Node)) (p : PathKey) → ((q : PathKey) → lookup (is_at (path_cmp q)) fs ≡ cond (is_at (path_cmp p) q) None (lookup (is_at (path_cmp q)) es)) → from_entries {R = path_cmp} fs ≡ remove (from_entries es) p
 one_taken es fs p h = same_map paths_total exact_paths _ _ (λ q.
-    get_spot fs q ∙ h q ∙ ap (λ b. cond b None (lookup (is_at (path_cmp q)) es)) ((eq_by_cmp_equiv paths_total).symm p q)
-    ∙ sym (get-remove paths_total (from_entries es) p q ∙ ap (cond (is_at (path_cmp q) p) None) (get_spot es q)))
+    get_key fs q ∙ h q ∙ ap (λ b. cond b None (lookup (is_at (path_cmp q)) es)) ((eq_by_cmp_equiv paths_total).symm p q)
+    ∙ sym (get-remove paths_total (from_entries es) p q ∙ ap (cond (is_at (path_cmp q) p) None) (get_key es q)))
 
 -- ---- sums
 
-abbrev pub sizes : List (Spot × Node) → ℕ
+abbrev pub sizes : List (PathKey × Node) → ℕ
 sizes [] = 0
 sizes (e ∷ es) = size_of e.1 + sizes es
 
-pub sizes_are : (es : List (Spot × Node)) → sum_by size_of (map (λ e. e.1) es) ≡ sizes es
+pub sizes_are : (es : List (PathKey × Node)) → sum_by size_of (map (λ e. e.1) es) ≡ sizes es
 sizes_are [] = refl
 sizes_are (e ∷ es) = sum_by-cons size_of e.1 (map (λ e. e.1) es) ∙ ap (λ n. size_of e.1 + n) (sizes_are es)
 
 pub total_sizes : (tree : Tree) → total tree ≡ sizes (entries tree)
 total_sizes tree = sizes_are (entries tree)
 
-none_below : (p x : Spot) (es : List (Spot × Node)) → path_cmp p x ≡ Less → T (below_all path_cmp x es) → find path_cmp p es ≡ None
+none_below : (p x : PathKey) (es : List (PathKey × Node)) → path_cmp p x ≡ Less → T (below_all path_cmp x es) → find path_cmp p es ≡ None
 none_below p x [] less below = refl
 none_below p x (e ∷ es) less below =
     elim (path_cmp x e.0) as (λ r. path_cmp x e.0 ≡ r → T (is_lt r && below_all path_cmp x es) → find path_cmp p (e ∷ es) ≡ None) [
@@ -83,7 +83,7 @@ in_place_of a b c = omega arith
 behind : (a s f t n : ℕ) → s + f ≡ t + n → a + s + f ≡ a + t + n
 behind a s f t n rest = omega arith
 
-sum-put : (p : Spot) (node : Node) (es : List (Spot × Node)) → T (is_sorted path_cmp es) → sizes (put path_cmp p node es) + size_at (find path_cmp p es) ≡ sizes es + size_of node
+sum-put : (p : PathKey) (node : Node) (es : List (PathKey × Node)) → T (is_sorted path_cmp es) → sizes (put path_cmp p node es) + size_at (find path_cmp p es) ≡ sizes es + size_of node
 sum-put p node [] sorted = omega arith
 sum-put p node (e ∷ es) sorted =
     let parts = sorted_parts (below_all path_cmp e.0 es) (is_sorted path_cmp es) sorted in
@@ -93,7 +93,7 @@ sum-put p node (e ∷ es) sorted =
       | Greater ↦ λ more. behind (size_of e.1) _ _ _ _ (sum-put p node es parts.1)
     ] refl
 
-pub total-insert : (tree : Tree) (p : Spot) (node : Node) → total (insert tree p node) + size_at (get tree p) ≡ total tree + size_of node
+pub total-insert : (tree : Tree) (p : PathKey) (node : Node) → total (insert tree p node) + size_at (get tree p) ≡ total tree + size_of node
 total-insert tree p node =
     ap (λ n. n + size_at (get tree p)) (total_sizes (insert tree p node))
     ∙ ap (λ es. sizes es + size_at (get tree p)) (entries-insert paths_total tree p node)
@@ -102,31 +102,31 @@ total-insert tree p node =
     ∙ ap (λ n. n + size_of node) (sym (total_sizes tree))
 
 -- to put back what was taken is to take nothing
-put_back : (tree : Tree) (p : Spot) (node : Node) → get tree p ≡ Some node → insert (remove tree p) p node ≡ tree
+put_back : (tree : Tree) (p : PathKey) (node : Node) → get tree p ≡ Some node → insert (remove tree p) p node ≡ tree
 put_back tree p node is = same_map paths_total exact_paths _ _ (λ q.
     get-insert paths_total (remove tree p) p node q ∙ ap (cond (eq_by_cmp path_cmp q p) (Some node)) (get-remove paths_total tree p q) ∙ back q)
   where
-    back : (q : Spot) → cond (eq_by_cmp path_cmp q p) (Some node) (cond (eq_by_cmp path_cmp q p) None (get tree q)) ≡ get tree q
+    back : (q : PathKey) → cond (eq_by_cmp path_cmp q p) (Some node) (cond (eq_by_cmp path_cmp q p) None (get tree q)) ≡ get tree q
     back q = elim (path_cmp q p) as (λ r. path_cmp q p ≡ r → cond (is_eq r) (Some node) (cond (is_eq r) None (get tree q)) ≡ get tree q) [
       | Less ↦ λ _. refl
       | Equal ↦ λ same. sym is ∙ ap (get tree) (sym (exact_paths q p same))
       | Greater ↦ λ _. refl
     ] refl
 
-taken_none : (tree : Tree) (p : Spot) → get tree p ≡ None → remove tree p ≡ tree
+taken_none : (tree : Tree) (p : PathKey) → get tree p ≡ None → remove tree p ≡ tree
 taken_none tree p none = same_map paths_total exact_paths _ _ (λ q. get-remove paths_total tree p q ∙ stays q)
   where
-    stays : (q : Spot) → cond (eq_by_cmp path_cmp q p) None (get tree q) ≡ get tree q
+    stays : (q : PathKey) → cond (eq_by_cmp path_cmp q p) None (get tree q) ≡ get tree q
     stays q = elim (path_cmp q p) as (λ r. path_cmp q p ≡ r → cond (is_eq r) None (get tree q) ≡ get tree q) [
       | Less ↦ λ _. refl
       | Equal ↦ λ same. sym none ∙ ap (get tree) (sym (exact_paths q p same))
       | Greater ↦ λ _. refl
     ] refl
 
-gone : (tree : Tree) (p : Spot) → get (remove tree p) p ≡ None
+gone : (tree : Tree) (p : PathKey) → get (remove tree p) p ≡ None
 gone tree p = get-remove paths_total tree p p ∙ ap (λ b. cond b None (get tree p)) ((eq_by_cmp_equiv paths_total).refl p)
 
-pub total-remove : (tree : Tree) (p : Spot) → total (remove tree p) + size_at (get tree p) ≡ total tree
+pub total-remove : (tree : Tree) (p : PathKey) → total (remove tree p) + size_at (get tree p) ≡ total tree
 total-remove tree p = elim (get tree p) as (λ found. get tree p ≡ found → total (remove tree p) + size_at found ≡ total tree) [
   | None ↦ λ none. ap (λ t. total t + 0) (taken_none tree p none) ∙ add-zero (total tree)
   | Some node ↦ λ is.
@@ -136,7 +136,7 @@ total-remove tree p = elim (get tree p) as (λ found. get tree p ≡ found → t
       omega arith
 ] refl
 
-nothing_in : (es : List (Spot × Node)) → length es ≡ 0 → sizes es ≡ 0
+nothing_in : (es : List (PathKey × Node)) → length es ≡ 0 → sizes es ≡ 0
 nothing_in [] none = refl
 nothing_in (e ∷ es) none = absurd (omega arith)
 
@@ -147,7 +147,7 @@ no_more : (a f r s z : ℕ) → a + f ≡ r + z → r ≤ s → a ≤ z + s
 no_more a f r s z sum rest = omega arith
 
 -- the tree of some entries holds no more than they do
-pub total-from_entries : (es : List (Spot × Node)) → total (from_entries {R = path_cmp} es) ≤ sizes es
+pub total-from_entries : (es : List (PathKey × Node)) → total (from_entries {R = path_cmp} es) ≤ sizes es
 total-from_entries [] = subst (λ n. n ≤ 0) (sym total-empty) (omega arith)
 total-from_entries (e ∷ es) =
     no_more _ (size_at (get (from_entries es) e.0)) (total (from_entries es)) (sizes es) (size_of e.1) (total-insert (from_entries es) e.0 e.1) (total-from_entries es)
@@ -157,13 +157,13 @@ total-from_entries (e ∷ es) =
 within : (freed after all : ℕ) → after + freed ≡ all → freed ≤ all
 within freed after all sum = omega arith
 
-pub size_within : (tree : Tree) (p : Spot) (stored freed : ℕ) → stored ≡ total tree → freed ≡ size_at (get tree p) → freed ≤ stored
+pub size_within : (tree : Tree) (p : PathKey) (stored freed : ℕ) → stored ≡ total tree → freed ≡ size_at (get tree p) → freed ≤ stored
 size_within tree p stored freed is at = within freed (total (remove tree p)) stored (ap (λ n. total (remove tree p) + n) at ∙ total-remove tree p ∙ sym is)
 
 counts : (stored freed all more after : ℕ) → after + freed ≡ all + more → stored ≡ all → freed ≤ stored → stored - freed + more ≡ after
 counts stored freed all more after sum is less = omega arith
 
-pub put_count : (tree : Tree) (p : Spot) (node : Node) (stored freed more : ℕ) → stored ≡ total tree → freed ≡ size_at (get tree p) → more ≡ size_of node → stored - freed + more ≡ total (insert tree p node)
+pub put_count : (tree : Tree) (p : PathKey) (node : Node) (stored freed more : ℕ) → stored ≡ total tree → freed ≡ size_at (get tree p) → more ≡ size_of node → stored - freed + more ≡ total (insert tree p node)
 put_count tree p node stored freed more is at size =
     counts stored freed (total tree) more (total (insert tree p node))
     (ap (λ n. total (insert tree p node) + n) at ∙ total-insert tree p node ∙ ap (λ n. total tree + n) (sym size))
@@ -171,7 +171,7 @@ put_count tree p node stored freed more is at size =
 
 -- ---- an entry at another spot
 
-still_there : (tree : Tree) (from to : Spot) (node : Node) → get tree from ≡ Some node → get (insert tree to node) from ≡ Some node
+still_there : (tree : Tree) (from to : PathKey) (node : Node) → get tree from ≡ Some node → get (insert tree to node) from ≡ Some node
 still_there tree from to node is = get-insert paths_total tree to node from ∙ either (eq_by_cmp path_cmp from to)
   where
     either : (b : Bool) → cond b (Some node) (get tree from) ≡ Some node
@@ -181,7 +181,7 @@ still_there tree from to node is = get-insert paths_total tree to node from ∙ 
 same_total : (all with_both after size : ℕ) → with_both + 0 ≡ all + size → after + size ≡ with_both → all ≡ after
 same_total all with_both after size put taken = omega arith
 
-pub shift_total : (tree : Tree) (from to : Spot) (node : Node) → get tree from ≡ Some node → get tree to ≡ None → total tree ≡ total (remove (insert tree to node) from)
+pub shift_total : (tree : Tree) (from to : PathKey) (node : Node) → get tree from ≡ Some node → get tree to ≡ None → total tree ≡ total (remove (insert tree to node) from)
 shift_total tree from to node stands vacant =
     same_total (total tree) (total (insert tree to node)) (total (remove (insert tree to node) from)) (size_of node)
     (ap (λ found. total (insert tree to node) + size_at found) (sym vacant) ∙ total-insert tree to node)

@@ -18,7 +18,7 @@ shared octets = (arc_value octets).items
 
 -- the stored parts of an entry's path: the text of its directory, with `/` before each name, and
 -- its own name
-pub record IsSpotText (directory name : List ℕ) : Type 0 where
+pub record IsPathKeyText (directory name : List ℕ) : Type 0 where
   pub slashes : slashed (names_in directory) ≡ directory
   pub no_slash : HasNoSlash name
 

@@ -11,7 +11,7 @@ use Rattle.virtual_tree.specs.declared.mode.WriteMode.{WriteMode}
 use Rattle.virtual_tree.specs.declared.mode.WriteMode.TheVariants.{New, At, Append}
 use Rattle.virtual_tree.specs.Calls.{Entry, in_answer, Exchange, Target}
 use Rattle.virtual_tree.specs.Calls.Exchange.{Stat, Listing, OpenRead, OpenWrite, Finish, MakeDir, RemoveDir, RemoveFile, Rename}
-use Rattle.memory_store.specs.Tree.{Node, Spot, Tree, spot_of, node_at, meta_of, kind_of, octets_of, total, children_in, listing, begins_with, renamed}
+use Rattle.memory_store.specs.Tree.{Node, PathKey, Tree, key_of, node_at, meta_of, kind_of, octets_of, total, children_in, listing, begins_with, renamed}
 use Rattle.memory_store.specs.Tree.Node.{Directory, File}
 
 -- a store in memory: its contents, and the most octets that its files may have
@@ -22,14 +22,14 @@ pub record Memory : Type 0 where
 -- an upload: the spot of its file, the number of the file's octets that are kept before the new
 -- ones, the most octets that its sink holds in memory, and all those received
 pub record Upload : Type 0 where
-  pub spot : Spot
+  pub key : PathKey
   pub kept : ℕ
   pub most : ℕ
   pub octets : List ℕ
 
 -- the target of an upload
 abbrev pub target_of : Upload → Target
-target_of upload = record { path = upload.spot; kept = upload.kept }
+target_of upload = record { path = upload.key; kept = upload.kept }
 
 -- the result for an entry that exists; otherwise `NotFound`
 abbrev pub if_found : {X : Type 0} → (Node → Result X StoreFault) → Option Node
@@ -51,8 +51,8 @@ octets_from offset (Some octets) =
 -- ---- calls that change the tree: the decision, and then the tree afterwards
 
 -- the kind of the node at a spot, or at a path
-abbrev pub kind_in : Tree → Spot → Option EntryKind
-kind_in tree spot = option_map kind_of (get tree spot)
+abbrev pub kind_in : Tree → PathKey → Option EntryKind
+kind_in tree key = option_map kind_of (get tree key)
 
 abbrev pub kind_at : Tree → Path → Option EntryKind
 kind_at tree path = option_map kind_of (node_at tree path)
@@ -64,60 +64,60 @@ listing_reported tree path (Some kind.Directory) = Ok (listing tree path)
 
 -- the spot, if an entry may be created there, given the kinds of its directory and of an entry at
 -- the spot
-abbrev pub vacancy : Spot → Option EntryKind → Option EntryKind → Result Spot StoreFault
-vacancy spot None here = Err fault.NotFound
-vacancy spot (Some kind.File) here = Err fault.NotDir
-vacancy spot (Some kind.Directory) (Some found) = Err fault.Exists
-vacancy spot (Some kind.Directory) None = Ok spot
+abbrev pub vacancy : PathKey → Option EntryKind → Option EntryKind → Result PathKey StoreFault
+vacancy key None here = Err fault.NotFound
+vacancy key (Some kind.File) here = Err fault.NotDir
+vacancy key (Some kind.Directory) (Some found) = Err fault.Exists
+vacancy key (Some kind.Directory) None = Ok key
 
-abbrev pub vacant : Tree → Path → Spot → Result Spot StoreFault
-vacant tree path spot = vacancy spot (kind_at tree (parent_of path)) (kind_in tree spot)
+abbrev pub vacant : Tree → Path → PathKey → Result PathKey StoreFault
+vacant tree path key = vacancy key (kind_at tree (parent_of path)) (kind_in tree key)
 
 -- the spot for a new directory
-abbrev pub spot_to_make : Tree → Path → Option Spot → Result Spot StoreFault
-spot_to_make tree path None = Err fault.Exists
-spot_to_make tree path (Some spot) = vacant tree path spot
+abbrev pub key_to_make : Tree → Path → Option PathKey → Result PathKey StoreFault
+key_to_make tree path None = Err fault.Exists
+key_to_make tree path (Some key) = vacant tree path key
 
-abbrev pub bare_only : Bool → Spot → Option EntryKind → Result Spot StoreFault
-bare_only is_bare spot None = Err fault.NotFound
-bare_only is_bare spot (Some kind.File) = Err fault.NotDir
-bare_only is_bare spot (Some kind.Directory) = cond is_bare (Ok spot) (Err fault.NotEmpty)
+abbrev pub bare_only : Bool → PathKey → Option EntryKind → Result PathKey StoreFault
+bare_only is_bare key None = Err fault.NotFound
+bare_only is_bare key (Some kind.File) = Err fault.NotDir
+bare_only is_bare key (Some kind.Directory) = cond is_bare (Ok key) (Err fault.NotEmpty)
 
 -- a directory has no entries
 abbrev pub is_bare : Tree → Path → Bool
 is_bare tree path = nat_eq (length (children_in tree path)) 0
 
 -- the spot of an empty directory
-abbrev pub spot_of_bare : Tree → Path → Option Spot → Result Spot StoreFault
-spot_of_bare tree path None = Err fault.NotEmpty
-spot_of_bare tree path (Some spot) = bare_only (is_bare tree path) spot (kind_in tree spot)
+abbrev pub key_of_bare : Tree → Path → Option PathKey → Result PathKey StoreFault
+key_of_bare tree path None = Err fault.NotEmpty
+key_of_bare tree path (Some key) = bare_only (is_bare tree path) key (kind_in tree key)
 
-abbrev pub file_only : Spot → Option EntryKind → Result Spot StoreFault
-file_only spot None = Err fault.NotFound
-file_only spot (Some kind.Directory) = Err fault.IsDir
-file_only spot (Some kind.File) = Ok spot
+abbrev pub file_only : PathKey → Option EntryKind → Result PathKey StoreFault
+file_only key None = Err fault.NotFound
+file_only key (Some kind.Directory) = Err fault.IsDir
+file_only key (Some kind.File) = Ok key
 
 -- the spot of a file
-abbrev pub spot_of_file : Tree → Option Spot → Result Spot StoreFault
-spot_of_file tree None = Err fault.IsDir
-spot_of_file tree (Some spot) = file_only spot (kind_in tree spot)
+abbrev pub key_of_file : Tree → Option PathKey → Result PathKey StoreFault
+key_of_file tree None = Err fault.IsDir
+key_of_file tree (Some key) = file_only key (kind_in tree key)
 
 -- the entry to be renamed, and its spots before and afterwards
 pub record Move : Type 0 where
   pub node : Node
-  pub before : Spot
-  pub afterwards : Spot
+  pub before : PathKey
+  pub afterwards : PathKey
 
-abbrev pub outside_itself : Path → Path → Move → Result Spot StoreFault → Result Move StoreFault
+abbrev pub outside_itself : Path → Path → Move → Result PathKey StoreFault → Result Move StoreFault
 outside_itself from to move (Err why) = Err why
-outside_itself from to move (Ok spot) = cond (begins_with from to) (Err fault.Inside) (Ok move)
+outside_itself from to move (Ok key) = cond (begins_with from to) (Err fault.Inside) (Ok move)
 
-abbrev pub move_to : Tree → Path → Path → Spot → Spot → Node → Result Move StoreFault
+abbrev pub move_to : Tree → Path → Path → PathKey → PathKey → Node → Result Move StoreFault
 move_to tree from to before afterwards node =
     outside_itself from to (record { node = node; before = before; afterwards = afterwards })
     (vacant tree to afterwards)
 
-abbrev pub move_of : Tree → Path → Path → Option Spot → Option Spot → Result Move StoreFault
+abbrev pub move_of : Tree → Path → Path → Option PathKey → Option PathKey → Result Move StoreFault
 move_of tree from to None target = Err fault.Inside
 move_of tree from to (Some before) None = Err fault.Inside
 move_of tree from to (Some before) (Some afterwards) =
@@ -125,7 +125,7 @@ move_of tree from to (Some before) (Some afterwards) =
 
 -- the rename between two paths, or its refusal
 abbrev pub move_between : Tree → Path → Path → Result Move StoreFault
-move_between tree from to = move_of tree from to (spot_of from) (spot_of to)
+move_between tree from to = move_of tree from to (key_of from) (key_of to)
 
 -- a directory moves with everything beneath it
 abbrev pub moved_by_kind : Tree → Move → EntryKind → Tree
@@ -141,56 +141,58 @@ moved_tree tree move = moved_by_kind tree move (kind_of move.node)
 -- kept
 pub record Opening : Type 0 where
   pub tree : Tree
-  pub spot : Spot
+  pub key : PathKey
   pub kept : ℕ
 
-abbrev pub opening : Tree → Spot → ℕ → Opening
-opening tree spot kept = record { tree = tree; spot = spot; kept = kept }
+abbrev pub opening : Tree → PathKey → ℕ → Opening
+opening tree key kept = record { tree = tree; key = key; kept = kept }
 
 -- the upload that then begins: its sink holds at most as many octets as the store may
 abbrev pub begun : Memory → Opening → Upload
 begun memory opening =
     record {
-      spot = opening.spot;
+      key = opening.key;
       kept = opening.kept;
       most = memory.capacity;
       octets = [];
     }
 
-abbrev pub open_new : Tree → ℕ → Result Spot StoreFault → Result Opening StoreFault
+abbrev pub open_new : Tree → ℕ → Result PathKey StoreFault → Result Opening StoreFault
 open_new tree moment (Err why) = Err why
-open_new tree moment (Ok spot) = Ok (opening (insert tree spot (File [] moment)) spot 0)
+open_new tree moment (Ok key) = Ok (opening (insert tree key (File [] moment)) key 0)
 
 -- if there is no entry
-abbrev pub open_absent : Tree → Path → Spot → ℕ → WriteMode → Result Opening StoreFault
-open_absent tree path spot moment New = open_new tree moment (vacant tree path spot)
-open_absent tree path spot moment (At offset) = Err fault.NotFound
-open_absent tree path spot moment Append = open_new tree moment (vacant tree path spot)
+abbrev pub open_absent : Tree → Path → PathKey → ℕ → WriteMode → Result Opening StoreFault
+open_absent tree path key moment New = open_new tree moment (vacant tree path key)
+open_absent tree path key moment (At offset) = Err fault.NotFound
+open_absent tree path key moment Append = open_new tree moment (vacant tree path key)
 
 -- if there is a file with these octets; None is a directory
-abbrev pub open_octets : Tree → Spot → ℕ → WriteMode → Option (List ℕ) → Result Opening StoreFault
-open_octets tree spot moment mode None = Err fault.IsDir
-open_octets tree spot moment New (Some octets) =
-    Ok (opening (insert tree spot (File [] moment)) spot 0)
-open_octets tree spot moment (At offset) (Some octets) =
+abbrev pub open_octets :
+    Tree → PathKey → ℕ → WriteMode → Option (List ℕ) → Result Opening StoreFault
+open_octets tree key moment mode None = Err fault.IsDir
+open_octets tree key moment New (Some octets) =
+    Ok (opening (insert tree key (File [] moment)) key 0)
+open_octets tree key moment (At offset) (Some octets) =
     cond (nat_lt (length octets) offset) (Err fault.PastEnd)
-    (Ok (opening (insert tree spot (File (take offset octets) moment)) spot offset))
-open_octets tree spot moment Append (Some octets) = Ok (opening tree spot (length octets))
+    (Ok (opening (insert tree key (File (take offset octets) moment)) key offset))
+open_octets tree key moment Append (Some octets) = Ok (opening tree key (length octets))
 
-abbrev pub open_node : Tree → Path → Spot → ℕ → WriteMode → Option Node → Result Opening StoreFault
-open_node tree path spot moment mode None = open_absent tree path spot moment mode
-open_node tree path spot moment mode (Some node) =
-    open_octets tree spot moment mode (octets_of node)
+abbrev pub open_node :
+    Tree → Path → PathKey → ℕ → WriteMode → Option Node → Result Opening StoreFault
+open_node tree path key moment mode None = open_absent tree path key moment mode
+open_node tree path key moment mode (Some node) =
+    open_octets tree key moment mode (octets_of node)
 
-abbrev pub opened : Tree → Path → WriteMode → ℕ → Option Spot → Result Opening StoreFault
+abbrev pub opened : Tree → Path → WriteMode → ℕ → Option PathKey → Result Opening StoreFault
 opened tree path mode moment None = Err fault.IsDir
-opened tree path mode moment (Some spot) = open_node tree path spot moment mode (get tree spot)
+opened tree path mode moment (Some key) = open_node tree path key moment mode (get tree key)
 
 -- the tree after the file at the upload's spot was set to its first octets, followed by those
 -- received
 abbrev pub filled : Tree → Upload → ℕ → List ℕ → Tree
 filled tree upload moment octets =
-    insert tree upload.spot (File (take upload.kept octets ++ upload.octets) moment)
+    insert tree upload.key (File (take upload.kept octets ++ upload.octets) moment)
 
 -- given the octets of the file at the spot; None is a directory
 abbrev pub finish_octets : Memory → Upload → ℕ → Option (List ℕ) → Result Tree StoreFault
@@ -205,7 +207,7 @@ finish_node memory upload moment node = finish_octets memory upload moment (octe
 
 abbrev pub finished : Memory → Upload → ℕ → Result Tree StoreFault
 finished memory upload moment =
-    if_found (finish_node memory upload moment) (get memory.tree upload.spot)
+    if_found (finish_node memory upload moment) (get memory.tree upload.key)
 
 -- ---- the relation
 
@@ -243,27 +245,27 @@ InMemory old (OpenRead path offset answer) new =
     Reports old answer new
     (if_found (λ node. octets_from offset (octets_of node)) (node_at old.tree path))
 InMemory old (OpenWrite path mode moment answer) new =
-    Opens old answer new (opened old.tree path mode moment (spot_of path))
+    Opens old answer new (opened old.tree path mode moment (key_of path))
 InMemory old (Finish upload moment answer) new =
     Changes old answer new (finished old upload moment) unit_of (λ tree. tree)
 InMemory old (MakeDir path answer) new =
-    Changes old answer new (spot_to_make old.tree path (spot_of path)) unit_of
-    (λ spot. insert old.tree spot Directory)
+    Changes old answer new (key_to_make old.tree path (key_of path)) unit_of
+    (λ key. insert old.tree key Directory)
 InMemory old (RemoveDir path answer) new =
-    Changes old answer new (spot_of_bare old.tree path (spot_of path)) unit_of
-    (λ spot. remove old.tree spot)
+    Changes old answer new (key_of_bare old.tree path (key_of path)) unit_of
+    (λ key. remove old.tree key)
 InMemory old (RemoveFile path answer) new =
-    Changes old answer new (spot_of_file old.tree (spot_of path)) unit_of
-    (λ spot. remove old.tree spot)
+    Changes old answer new (key_of_file old.tree (key_of path)) unit_of
+    (λ key. remove old.tree key)
 InMemory old (Rename from to answer) new =
-    Changes old answer new (move_of old.tree from to (spot_of from) (spot_of to)) unit_of
+    Changes old answer new (move_of old.tree from to (key_of from) (key_of to)) unit_of
     (moved_tree old.tree)
 
 -- the octets at a spot; none if there is no file
-abbrev pub octets_at : Tree → Spot → List ℕ
-octets_at tree spot = unwrap_or (option_and_then octets_of (get tree spot)) []
+abbrev pub octets_at : Tree → PathKey → List ℕ
+octets_at tree key = unwrap_or (option_and_then octets_of (get tree key)) []
 
 -- number of octets in the files once an upload is finished
 abbrev pub would_hold : Memory → Upload → ℕ → ℕ
 would_hold memory upload moment =
-    total (filled memory.tree upload moment (octets_at memory.tree upload.spot))
+    total (filled memory.tree upload moment (octets_at memory.tree upload.key))

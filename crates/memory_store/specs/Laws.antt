@@ -14,8 +14,8 @@ use Rattle.virtual_tree.specs.declared.mode.WriteMode.{WriteMode}
 use Rattle.virtual_tree.specs.declared.mode.WriteMode.TheVariants.{New, At, Append}
 use Rattle.virtual_tree.specs.Calls.{in_answer, Exchange, refusal, PassesCapacity}
 use Rattle.virtual_tree.specs.Calls.Exchange.{Stat, Listing, OpenRead, OpenWrite, Finish, MakeDir, RemoveDir, RemoveFile, Rename}
-use Rattle.memory_store.specs.Tree.{Node, Spot, Tree, spot_of, node_at, octets_of, total, begins_with}
-use Rattle.memory_store.specs.InMemory.{Memory, Upload, Move, InMemory, would_hold, if_found, meta_reported, listing_reported, octets_from, vacancy, vacant, spot_to_make, bare_only, is_bare, spot_of_bare, file_only, spot_of_file, outside_itself, move_to, move_of, open_new, open_absent, open_octets, open_node, opened, filled, unit_of, finish_octets, finish_node, finished, octets_at}
+use Rattle.memory_store.specs.Tree.{Node, PathKey, Tree, key_of, node_at, octets_of, total, begins_with}
+use Rattle.memory_store.specs.InMemory.{Memory, Upload, Move, InMemory, would_hold, if_found, meta_reported, listing_reported, octets_from, vacancy, vacant, key_to_make, bare_only, is_bare, key_of_bare, file_only, key_of_file, outside_itself, move_to, move_of, open_new, open_absent, open_octets, open_node, opened, filled, unit_of, finish_octets, finish_node, finished, octets_at}
 
 -- neither `Device` nor `Full`
 abbrev is_plain : StoreFault → Bool
@@ -67,47 +67,47 @@ plain-octets_from : (offset : ℕ) (octets : Option (List ℕ)) → Plain (octet
 plain-octets_from offset None = tt
 plain-octets_from offset (Some octets) = plain-cond (nat_lt (length octets) offset) _ _ tt tt
 
-plain-vacancy : (spot : Spot) (above here : Option EntryKind) → Plain (vacancy spot above here)
-plain-vacancy spot None here = tt
-plain-vacancy spot (Some kind.File) here = tt
-plain-vacancy spot (Some kind.Directory) (Some found) = tt
-plain-vacancy spot (Some kind.Directory) None = tt
+plain-vacancy : (key : PathKey) (above here : Option EntryKind) → Plain (vacancy key above here)
+plain-vacancy key None here = tt
+plain-vacancy key (Some kind.File) here = tt
+plain-vacancy key (Some kind.Directory) (Some found) = tt
+plain-vacancy key (Some kind.Directory) None = tt
 
-plain-vacant : (tree : Tree) (path : Path) (spot : Spot) → Plain (vacant tree path spot)
-plain-vacant tree path spot = plain-vacancy spot _ _
+plain-vacant : (tree : Tree) (path : Path) (key : PathKey) → Plain (vacant tree path key)
+plain-vacant tree path key = plain-vacancy key _ _
 
-plain-spot_to_make : (tree : Tree) (path : Path) (spot : Option Spot)
-    → Plain (spot_to_make tree path spot)
-plain-spot_to_make tree path None = tt
-plain-spot_to_make tree path (Some spot) = plain-vacant tree path spot
+plain-key_to_make : (tree : Tree) (path : Path) (key : Option PathKey)
+    → Plain (key_to_make tree path key)
+plain-key_to_make tree path None = tt
+plain-key_to_make tree path (Some key) = plain-vacant tree path key
 
-plain-bare_only : (bare : Bool) (spot : Spot) (found : Option EntryKind)
-    → Plain (bare_only bare spot found)
-plain-bare_only bare spot None = tt
-plain-bare_only bare spot (Some kind.File) = tt
-plain-bare_only bare spot (Some kind.Directory) = plain-cond bare _ _ tt tt
+plain-bare_only : (bare : Bool) (key : PathKey) (found : Option EntryKind)
+    → Plain (bare_only bare key found)
+plain-bare_only bare key None = tt
+plain-bare_only bare key (Some kind.File) = tt
+plain-bare_only bare key (Some kind.Directory) = plain-cond bare _ _ tt tt
 
-plain-spot_of_bare : (tree : Tree) (path : Path) (spot : Option Spot)
-    → Plain (spot_of_bare tree path spot)
-plain-spot_of_bare tree path None = tt
-plain-spot_of_bare tree path (Some spot) = plain-bare_only (is_bare tree path) spot _
+plain-key_of_bare : (tree : Tree) (path : Path) (key : Option PathKey)
+    → Plain (key_of_bare tree path key)
+plain-key_of_bare tree path None = tt
+plain-key_of_bare tree path (Some key) = plain-bare_only (is_bare tree path) key _
 
-plain-file_only : (spot : Spot) (found : Option EntryKind) → Plain (file_only spot found)
-plain-file_only spot None = tt
-plain-file_only spot (Some kind.File) = tt
-plain-file_only spot (Some kind.Directory) = tt
+plain-file_only : (key : PathKey) (found : Option EntryKind) → Plain (file_only key found)
+plain-file_only key None = tt
+plain-file_only key (Some kind.File) = tt
+plain-file_only key (Some kind.Directory) = tt
 
-plain-spot_of_file : (tree : Tree) (spot : Option Spot) → Plain (spot_of_file tree spot)
-plain-spot_of_file tree None = tt
-plain-spot_of_file tree (Some spot) = plain-file_only spot _
+plain-key_of_file : (tree : Tree) (key : Option PathKey) → Plain (key_of_file tree key)
+plain-key_of_file tree None = tt
+plain-key_of_file tree (Some key) = plain-file_only key _
 
-plain-outside : (from to : Path) (move : Move) (found : Result Spot StoreFault) → Plain found
+plain-outside : (from to : Path) (move : Move) (found : Result PathKey StoreFault) → Plain found
     → Plain (outside_itself from to move found)
 plain-outside from to move (Err why) p = p
-plain-outside from to move (Ok spot) p =
+plain-outside from to move (Ok key) p =
     plain-cond (begins_with from to) (Err fault.Inside) (Ok move) tt tt
 
-plain-move_of : (tree : Tree) (from to : Path) (before afterwards : Option Spot)
+plain-move_of : (tree : Tree) (from to : Path) (before afterwards : Option PathKey)
     → Plain (move_of tree from to before afterwards)
 plain-move_of tree from to None afterwards = tt
 plain-move_of tree from to (Some before) None = tt
@@ -115,38 +115,38 @@ plain-move_of tree from to (Some before) (Some afterwards) =
     plain-if_found (move_to tree from to before afterwards)
     (λ node. plain-outside from to _ _ (plain-vacant tree to afterwards)) (get tree before)
 
-plain-open_new : (tree : Tree) (moment : ℕ) (found : Result Spot StoreFault) → Plain found
+plain-open_new : (tree : Tree) (moment : ℕ) (found : Result PathKey StoreFault) → Plain found
     → Plain (open_new tree moment found)
 plain-open_new tree moment (Err why) p = p
-plain-open_new tree moment (Ok spot) p = tt
+plain-open_new tree moment (Ok key) p = tt
 
-plain-open_absent : (tree : Tree) (path : Path) (spot : Spot) (moment : ℕ) (mode : WriteMode)
-    → Plain (open_absent tree path spot moment mode)
-plain-open_absent tree path spot moment New =
-    plain-open_new tree moment _ (plain-vacant tree path spot)
-plain-open_absent tree path spot moment (At offset) = tt
-plain-open_absent tree path spot moment Append =
-    plain-open_new tree moment _ (plain-vacant tree path spot)
+plain-open_absent : (tree : Tree) (path : Path) (key : PathKey) (moment : ℕ) (mode : WriteMode)
+    → Plain (open_absent tree path key moment mode)
+plain-open_absent tree path key moment New =
+    plain-open_new tree moment _ (plain-vacant tree path key)
+plain-open_absent tree path key moment (At offset) = tt
+plain-open_absent tree path key moment Append =
+    plain-open_new tree moment _ (plain-vacant tree path key)
 
-plain-open_octets : (tree : Tree) (spot : Spot) (moment : ℕ) (mode : WriteMode)
-    (octets : Option (List ℕ)) → Plain (open_octets tree spot moment mode octets)
-plain-open_octets tree spot moment mode None = tt
-plain-open_octets tree spot moment New (Some octets) = tt
-plain-open_octets tree spot moment (At offset) (Some octets) =
+plain-open_octets : (tree : Tree) (key : PathKey) (moment : ℕ) (mode : WriteMode)
+    (octets : Option (List ℕ)) → Plain (open_octets tree key moment mode octets)
+plain-open_octets tree key moment mode None = tt
+plain-open_octets tree key moment New (Some octets) = tt
+plain-open_octets tree key moment (At offset) (Some octets) =
     plain-cond (nat_lt (length octets) offset) _ _ tt tt
-plain-open_octets tree spot moment Append (Some octets) = tt
+plain-open_octets tree key moment Append (Some octets) = tt
 
-plain-open_node : (tree : Tree) (path : Path) (spot : Spot) (moment : ℕ) (mode : WriteMode)
-    (found : Option Node) → Plain (open_node tree path spot moment mode found)
-plain-open_node tree path spot moment mode None = plain-open_absent tree path spot moment mode
-plain-open_node tree path spot moment mode (Some node) =
-    plain-open_octets tree spot moment mode (octets_of node)
+plain-open_node : (tree : Tree) (path : Path) (key : PathKey) (moment : ℕ) (mode : WriteMode)
+    (found : Option Node) → Plain (open_node tree path key moment mode found)
+plain-open_node tree path key moment mode None = plain-open_absent tree path key moment mode
+plain-open_node tree path key moment mode (Some node) =
+    plain-open_octets tree key moment mode (octets_of node)
 
-plain-opened : (tree : Tree) (path : Path) (mode : WriteMode) (moment : ℕ) (spot : Option Spot)
-    → Plain (opened tree path mode moment spot)
+plain-opened : (tree : Tree) (path : Path) (mode : WriteMode) (moment : ℕ) (key : Option PathKey)
+    → Plain (opened tree path mode moment key)
 plain-opened tree path mode moment None = tt
-plain-opened tree path mode moment (Some spot) =
-    plain-open_node tree path spot moment mode (get tree spot)
+plain-opened tree path mode moment (Some key) =
+    plain-open_node tree path key moment mode (get tree key)
 
 -- ---- a result's fault is plain if the decision's is
 
@@ -216,24 +216,24 @@ plain_step old new (OpenRead path offset answer) why grave step is =
     (λ node. plain-octets_from offset (octets_of node)) (node_at old.tree path)) step.0 is)
 plain_step old new (OpenWrite path mode moment answer) why grave step is =
     (refused_by answer _ why grave
-    (plain-in_answer _ _ (plain-opened old.tree path mode moment (spot_of path)))
+    (plain-in_answer _ _ (plain-opened old.tree path mode moment (key_of path)))
     (λ other. (step.0 other).0) is)
 plain_step old new (Finish upload moment answer) why grave step is = tt
 plain_step old new (MakeDir path answer) why grave step is =
     (refused_by answer _ why grave
-    (plain-in_answer _ _ (plain-spot_to_make old.tree path (spot_of path)))
+    (plain-in_answer _ _ (plain-key_to_make old.tree path (key_of path)))
     (λ other. (step.0 other).0) is)
 plain_step old new (RemoveDir path answer) why grave step is =
     (refused_by answer _ why grave
-    (plain-in_answer _ _ (plain-spot_of_bare old.tree path (spot_of path)))
+    (plain-in_answer _ _ (plain-key_of_bare old.tree path (key_of path)))
     (λ other. (step.0 other).0) is)
 plain_step old new (RemoveFile path answer) why grave step is =
     (refused_by answer _ why grave
-    (plain-in_answer _ _ (plain-spot_of_file old.tree (spot_of path)))
+    (plain-in_answer _ _ (plain-key_of_file old.tree (key_of path)))
     (λ other. (step.0 other).0) is)
 plain_step old new (Rename from to answer) why grave step is =
     (refused_by answer _ why grave
-    (plain-in_answer _ _ (plain-move_of old.tree from to (spot_of from) (spot_of to)))
+    (plain-in_answer _ _ (plain-move_of old.tree from to (key_of from) (key_of to)))
     (λ other. (step.0 other).0) is)
 
 -- ---- Finish
@@ -289,9 +289,9 @@ finish-node memory upload moment None = record {
 finish-node memory upload moment (Some node) = finish-octets memory upload moment (octets_of node)
 
 finish-step : (memory : Memory) (upload : Upload) (moment : ℕ)
-    → IsFinish memory (total (filled memory.tree upload moment (octets_at memory.tree upload.spot)))
+    → IsFinish memory (total (filled memory.tree upload moment (octets_at memory.tree upload.key)))
     (finished memory upload moment)
-finish-step memory upload moment = finish-node memory upload moment (get memory.tree upload.spot)
+finish-step memory upload moment = finish-node memory upload moment (get memory.tree upload.key)
 
 err_from : {P X : Type 0} (reported : P → X) (decided : Result P StoreFault) (why : StoreFault)
     → refused X why ≡ in_answer reported decided → decided ≡ Err why

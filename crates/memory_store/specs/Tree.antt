@@ -29,20 +29,20 @@ abbrev pub Tree : Type 0
 Tree = FinMap path_cmp Node
 
 -- the path of an entry: any path but the root
-abbrev pub Spot : Type 0
-Spot = Path
+abbrev pub PathKey : Type 0
+PathKey = Path
 
-abbrev pub spot_of : Path → Option Spot
-spot_of [] = None
-spot_of (name ∷ names) = Some (name ∷ names)
+abbrev pub key_of : Path → Option PathKey
+key_of [] = None
+key_of (name ∷ names) = Some (name ∷ names)
 
-abbrev pub node_in : Tree → Option Spot → Option Node
+abbrev pub node_in : Tree → Option PathKey → Option Node
 node_in tree None = Some Directory
-node_in tree (Some spot) = get tree spot
+node_in tree (Some key) = get tree key
 
 -- the node at a path, if there is one
 abbrev pub node_at : Tree → Path → Option Node
-node_at tree path = node_in tree (spot_of path)
+node_at tree path = node_in tree (key_of path)
 
 -- the metadata of a directory, or of a file, whose time is in whole seconds
 abbrev pub meta_of : Node → Meta
@@ -80,7 +80,7 @@ abbrev pub is_in : Path → Path → Bool
 is_in directory [] = false
 is_in directory (name ∷ names) = is_same directory (parent_of (name ∷ names))
 
-abbrev pub children_in : Tree → Path → List (Spot × Node)
+abbrev pub children_in : Tree → Path → List (PathKey × Node)
 children_in tree directory = filter (λ entry. is_in directory entry.0) (entries tree)
 
 abbrev pub last_of : Path → List ℕ
@@ -89,11 +89,11 @@ last_of (name ∷ []) = name
 last_of (name ∷ next ∷ names) = last_of (next ∷ names)
 
 -- an entry of a directory as listed: its name there, and its metadata
-abbrev pub reported_of : Spot × Node → List ℕ × Meta
+abbrev pub reported_of : PathKey × Node → List ℕ × Meta
 reported_of entry = (last_of entry.0, meta_of entry.1)
 
 -- only names that a path can contain are listed
-abbrev pub is_named : Spot × Node → Bool
+abbrev pub is_named : PathKey × Node → Bool
 is_named entry = is_name (last_of entry.0)
 
 -- a directory's entries, sorted by the octets of their names
@@ -106,10 +106,10 @@ begins_with front path = is_same (take (length front) path) front
 
 -- the path of an entry after a rename: the renamed entry is at its new path, and what was beneath
 -- it is beneath that
-abbrev pub moved : Path → Path → Spot → Spot
+abbrev pub moved : Path → Path → PathKey → PathKey
 moved from to path = cond (begins_with from path) (to ++ drop (length from) path) path
 
-abbrev pub moved_entry : Path → Path → Spot × Node → Spot × Node
+abbrev pub moved_entry : Path → Path → PathKey × Node → PathKey × Node
 moved_entry from to entry = (moved from to entry.0, entry.1)
 
 abbrev pub renamed : Tree → Path → Path → Tree

@@ -2,7 +2,7 @@
 use Rattle.std.specs.Prelude.{◌≡◌, ℕ, List, Option, Some, None, refl}
 use Rattle.std.specs.Coded.{Coded, code_by, coded×, coded_ℕ, coded_list, coded_option}
 use Rattle.std.specs.FinMap as map
-use Rattle.memory_store.specs.Tree.{Node, Spot, Tree}
+use Rattle.memory_store.specs.Tree.{Node, PathKey, Tree}
 use Rattle.memory_store.specs.Tree.Node.{Directory, File}
 
 abbrev pub parts_of : Node → Option (List ℕ × ℕ)
@@ -22,8 +22,8 @@ node_code =
     code_by (Option (List ℕ × ℕ))
     (coded_option (coded× (coded_list coded_ℕ) coded_ℕ)) parts_of from_parts parts_back
 
-abbrev pub spot_code : Coded Spot
-spot_code = coded_list (coded_list coded_ℕ)
+abbrev pub key_code : Coded PathKey
+key_code = coded_list (coded_list coded_ℕ)
 
 abbrev pub tree_code : Coded Tree
-tree_code = map.code spot_code node_code
+tree_code = map.code key_code node_code

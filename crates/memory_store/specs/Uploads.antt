@@ -43,5 +43,5 @@ FinishPutsWhatCame =
 abbrev pub MoreIsFull : Type 0
 MoreIsFull =
     (memory : Memory) (upload : Upload) (moment modified : ℕ) (octets : List ℕ)
-    → get memory.tree upload.spot ≡ Some (File octets modified)
+    → get memory.tree upload.key ≡ Some (File octets modified)
     → memory.capacity < length upload.octets → finished memory upload moment ≡ Err fault.Full

@@ -2,8 +2,8 @@
 
 ghost use Rattle.std.specs.Prelude.{◌≡◌, ◌≤◌, min, take, length, Some, IfErr, OnOk, OnErr};
 
+use crate::key::PathKey;
 use crate::received::Received;
-use crate::spot::Spot;
 use std::alloc::Allocator;
 use std::marker::Model;
 use std::sync::Arc;
@@ -32,7 +32,7 @@ impl<A: Allocator> Model for MemSource<A> {
 /// It holds only the first, at most as many as the store's capacity: more than that never fit.
 #[derive(Drop)]
 pub struct MemSink<A: Allocator> {
-    pub(crate) spot: Spot<A>,
+    pub(crate) key: PathKey<A>,
     pub(crate) kept: usize,
     /// Maximum number of octets held.
     pub(crate) most: u64,
@@ -55,7 +55,7 @@ impl<A: Allocator> Model for MemSink<A> {
 
     ghost view = { λ sink.
         record {
-          spot = sink.spot;
+          key = sink.key;
           kept = sink.kept;
           most = sink.most;
           octets = sink.received.octets;

@@ -10,7 +10,7 @@ ghost use Rattle.virtual_tree.specs.Calls.{entries_of, names_of};
 ghost use Rattle.memory_store.specs.Tree.{total, size_of, size_at, children_in, listing, path_cmp, renamed};
 
 use crate::entry::Entry;
-use crate::spot::Spot;
+use crate::key::PathKey;
 use std::alloc::{AllocError, Allocator};
 use std::collections::BTreeMap;
 use std::marker::Model;
@@ -21,7 +21,7 @@ use virtual_tree::ListedEntry;
 /// The entries below the root, and the number of octets in their files.
 #[derive(Drop)]
 pub(crate) struct Files<A: Allocator> {
-    nodes: BTreeMap<Spot<A>, Entry<A>, A>,
+    nodes: BTreeMap<PathKey<A>, Entry<A>, A>,
     stored: u64,
 }
 
@@ -60,40 +60,40 @@ impl<A: Allocator + Clone> Files<A> {
     }
 
     /// The entry at a path, if there is one.
-    pub fn get(&self, spot: &Spot<A>) -> Option<&Entry<A>>
-        ensures { option_copied result ≡ map.get self.now spot.now }
+    pub fn get(&self, key: &PathKey<A>) -> Option<&Entry<A>>
+        ensures { option_copied result ≡ map.get self.now key.now }
     {
-        self.nodes.get(spot)
+        self.nodes.get(key)
     }
 
     /// Puts an entry at a path, in place of any entry there.
-    pub fn put(&mut self, spot: Spot<A>, entry: Entry<A>) -> Result<(), AllocError>
-        requires { size_at (map.get self.old spot) < size_of entry
-            → total (map.insert self.old spot entry) < 2 ^ 64 }
-        ensures ok { OnOk result (self.new ≡ map.insert self.old spot entry) }
+    pub fn put(&mut self, key: PathKey<A>, entry: Entry<A>) -> Result<(), AllocError>
+        requires { size_at (map.get self.old key) < size_of entry
+            → total (map.insert self.old key entry) < 2 ^ 64 }
+        ensures ok { OnOk result (self.new ≡ map.insert self.old key entry) }
         ensures err { OnErr result (self.new ≡ self.old) }
     {
         let size = entry.size();
-        let freed = self.size_at(&spot);
-        self.nodes.insert(spot, entry)?;
+        let freed = self.size_at(&key);
+        self.nodes.insert(key, entry)?;
         self.stored = self.stored - freed + size;
         Ok(())
     }
 
     /// Removes the entry at a path, if there is one.
-    pub fn take(&mut self, spot: &Spot<A>)
-        ensures { self.new ≡ map.remove self.old spot.now }
+    pub fn take(&mut self, key: &PathKey<A>)
+        ensures { self.new ≡ map.remove self.old key.now }
     {
-        let freed = self.size_at(spot);
-        self.nodes.remove(spot);
+        let freed = self.size_at(key);
+        self.nodes.remove(key);
         self.stored -= freed;
     }
 
     /// Number of octets at a path.
-    fn size_at(&self, spot: &Spot<A>) -> u64
-        ensures { result ≡ size_at (map.get self.now spot.now) }
+    fn size_at(&self, key: &PathKey<A>) -> u64
+        ensures { result ≡ size_at (map.get self.now key.now) }
     {
-        match self.get(spot) {
+        match self.get(key) {
             Some(entry) => entry.size(),
             None => 0,
         }
@@ -109,8 +109,8 @@ impl<A: Allocator + Clone> Files<A> {
         ensures rising { IfOk result
             (λ listed. IsStrictlySortedBy (slice_cmp nat_cmp) (names_of listed)) }
     {
-        let first = Spot::first_in(alloc, path)?;
-        let end = Spot::past(alloc, path)?;
+        let first = PathKey::first_in(alloc, path)?;
+        let end = PathKey::past(alloc, path)?;
         self.listed_between(alloc, &first, &end)
     }
 
@@ -118,8 +118,8 @@ impl<A: Allocator + Clone> Files<A> {
     fn listed_between(
         &self,
         alloc: &A,
-        first: &Spot<A>,
-        end: &Spot<A>,
+        first: &PathKey<A>,
+        end: &PathKey<A>,
     ) -> Result<Vec<ListedEntry<A>, A>, AllocError>
         requires forward { is_gt (path_cmp first.now end.now) ≡ false }
         ensures entries { (directory : Path) → first.now ≡ directory ++ [] ∷ []
@@ -127,11 +127,11 @@ impl<A: Allocator + Clone> Files<A> {
             → IfOk result (λ listed. entries_of listed ≡ listing self.now directory) }
     {
         let mut listed = Vec::new(alloc.clone()?);
-        for (spot, entry) in self
+        for (key, entry) in self
             .nodes
             .range((Bound::Included(first), Bound::Excluded(end)))
         {
-            if let Some(found) = spot.listed(alloc, entry)? {
+            if let Some(found) = key.listed(alloc, entry)? {
                 listed.push(found)?;
             }
         }
@@ -143,8 +143,8 @@ impl<A: Allocator + Clone> Files<A> {
         ensures bare { IfOk result
             (λ bare. bare ≡ nat_eq (length (children_in self.now path.now)) 0) }
     {
-        let first = Spot::first_in(alloc, path)?;
-        let end = Spot::past(alloc, path)?;
+        let first = PathKey::first_in(alloc, path)?;
+        let end = PathKey::past(alloc, path)?;
         let mut entries = self
             .nodes
             .range((Bound::Included(&first), Bound::Excluded(&end)));
@@ -152,7 +152,12 @@ impl<A: Allocator + Clone> Files<A> {
     }
 
     /// Moves an entry to a path without an entry.
-    pub fn shift(&mut self, from: &Spot<A>, to: Spot<A>, entry: Entry<A>) -> Result<(), AllocError>
+    pub fn shift(
+        &mut self,
+        from: &PathKey<A>,
+        to: PathKey<A>,
+        entry: Entry<A>,
+    ) -> Result<(), AllocError>
         requires stands { map.get self.old from.now ≡ Some entry }
         requires vacant { map.get self.old to ≡ None }
         ensures ok { OnOk result (self.new ≡ map.remove (map.insert self.old to entry) from.now) }
@@ -169,8 +174,8 @@ impl<A: Allocator + Clone> Files<A> {
         alloc: &A,
         from: &VPath<B>,
         to: &VPath<B>,
-        before: &Spot<A>,
-        afterwards: &Spot<A>,
+        before: &PathKey<A>,
+        afterwards: &PathKey<A>,
     ) -> Result<Files<A>, AllocError>
         requires before { before.now ≡ from.now }
         requires afterwards { afterwards.now ≡ to.now }
@@ -180,10 +185,10 @@ impl<A: Allocator + Clone> Files<A> {
         let _most = self.stored();
         let mut renamed = Files::new(alloc.clone()?);
         let mut rest = self.nodes.iter();
-        while let Some((spot, entry)) = rest.next_back() {
-            let spot = spot.moved(alloc, from, to, before, afterwards)?;
+        while let Some((key, entry)) = rest.next_back() {
+            let key = key.moved(alloc, from, to, before, afterwards)?;
             let entry = entry.share()?;
-            renamed.put(spot, entry)?;
+            renamed.put(key, entry)?;
         }
         Ok(renamed)
     }

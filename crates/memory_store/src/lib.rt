@@ -15,11 +15,11 @@
 mod ends;
 mod entry;
 mod files;
+mod key;
 mod laws;
 mod memory;
 mod received;
 mod renaming;
-mod spot;
 mod vacancy;
 mod writing;
 

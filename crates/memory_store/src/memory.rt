@@ -11,7 +11,7 @@ ghost use Rattle.memory_store.specs.Tree.{listing};
 use crate::ends::{MemSink, MemSource};
 use crate::entry::Entry;
 use crate::files::Files;
-use crate::spot::Spot;
+use crate::key::PathKey;
 use crate::writing::open_from;
 use ftp_terms::{EntryKind, Meta};
 use std::alloc::{AllocError, Allocator, Global};
@@ -63,10 +63,10 @@ impl<A: Allocator + Clone> MemStore<A> {
     }
 
     /// Another handle to the entry at a spot.
-    pub(crate) fn share(&self, spot: &Spot<A>) -> Result<Option<Entry<A>>, AllocError>
-        ensures { IfOk result (λ found. found ≡ map.get self.now.tree spot.now) }
+    pub(crate) fn share(&self, key: &PathKey<A>) -> Result<Option<Entry<A>>, AllocError>
+        ensures { IfOk result (λ found. found ≡ map.get self.now.tree key.now) }
     {
-        match self.files.get(spot) {
+        match self.files.get(key) {
             None => Ok(None),
             Some(entry) => {
                 let shared = entry.share()?;
@@ -108,10 +108,10 @@ impl<A: Allocator + Clone> Store<A> for MemStore<A> {
     }
 
     fn stat(&mut self, path: &VPath<A>) -> Result<Meta, StoreFault> {
-        let Some(spot) = Spot::of(&self.alloc, path)? else {
+        let Some(key) = PathKey::of(&self.alloc, path)? else {
             return Ok(Entry::<A>::directory().meta());
         };
-        match self.files.get(&spot) {
+        match self.files.get(&key) {
             None => Err(StoreFault::NotFound),
             Some(entry) => Ok(entry.meta()),
         }
@@ -126,10 +126,10 @@ impl<A: Allocator + Clone> Store<A> for MemStore<A> {
     }
 
     fn open_read(&mut self, path: &VPath<A>, offset: u64) -> Result<MemSource<A>, StoreFault> {
-        let Some(spot) = Spot::of(&self.alloc, path)? else {
+        let Some(key) = PathKey::of(&self.alloc, path)? else {
             return Err(StoreFault::IsDir);
         };
-        let Some(entry) = self.share(&spot)? else {
+        let Some(entry) = self.share(&key)? else {
             return Err(StoreFault::NotFound);
         };
         match entry.into_octets() {
@@ -144,14 +144,14 @@ impl<A: Allocator + Clone> Store<A> for MemStore<A> {
         mode: WriteMode,
         moment: u64,
     ) -> Result<MemSink<A>, StoreFault> {
-        match Spot::of(&self.alloc, path)? {
+        match PathKey::of(&self.alloc, path)? {
             None => Err(StoreFault::IsDir),
-            Some(spot) => self.open_at(path, spot, mode, moment),
+            Some(key) => self.open_at(path, key, mode, moment),
         }
     }
 
     fn finish(&mut self, sink: MemSink<A>, moment: u64) -> Result<(), StoreFault> {
-        let Some(entry) = self.share(&sink.spot)? else {
+        let Some(entry) = self.share(&sink.key)? else {
             return Err(StoreFault::NotFound);
         };
         match entry.into_octets() {
@@ -161,20 +161,20 @@ impl<A: Allocator + Clone> Store<A> for MemStore<A> {
     }
 
     fn make_dir(&mut self, path: &VPath<A>) -> Result<(), StoreFault> {
-        let spot = self.spot_to_make(path)?;
-        self.files.put(spot, Entry::directory())?;
+        let key = self.key_to_make(path)?;
+        self.files.put(key, Entry::directory())?;
         Ok(())
     }
 
     fn remove_dir(&mut self, path: &VPath<A>) -> Result<(), StoreFault> {
-        let spot = self.spot_of_bare(path)?;
-        self.files.take(&spot);
+        let key = self.key_of_bare(path)?;
+        self.files.take(&key);
         Ok(())
     }
 
     fn remove_file(&mut self, path: &VPath<A>) -> Result<(), StoreFault> {
-        let spot = self.spot_of_file(path)?;
-        self.files.take(&spot);
+        let key = self.key_of_file(path)?;
+        self.files.take(&key);
         Ok(())
     }
 

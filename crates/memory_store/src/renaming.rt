@@ -7,8 +7,8 @@ ghost use Rattle.memory_store.specs.Tree.{begins_with};
 ghost use Rattle.memory_store.specs.InMemory.{vacant, move_between, moved_tree, unit_of, Changes};
 
 use crate::entry::Entry;
+use crate::key::PathKey;
 use crate::memory::MemStore;
-use crate::spot::Spot;
 use ftp_terms::EntryKind;
 use std::alloc::Allocator;
 use virtual_path::VPath;
@@ -18,8 +18,8 @@ use virtual_tree::StoreFault;
 #[derive(Drop)]
 pub(crate) struct Moving<A: Allocator> {
     pub(crate) entry: Entry<A>,
-    pub(crate) before: Spot<A>,
-    pub(crate) afterwards: Spot<A>,
+    pub(crate) before: PathKey<A>,
+    pub(crate) afterwards: PathKey<A>,
 }
 
 impl<A: Allocator + Clone> MemStore<A> {
@@ -40,10 +40,10 @@ impl<A: Allocator + Clone> MemStore<A> {
             (λ moving. map.get self.now.tree moving.before ≡ Some moving.entry) }
         ensures vacant { IfOk result (λ moving. map.get self.now.tree moving.afterwards ≡ None) }
     {
-        let Some(before) = Spot::of(&self.alloc, from)? else {
+        let Some(before) = PathKey::of(&self.alloc, from)? else {
             return Err(StoreFault::Inside);
         };
-        let Some(afterwards) = Spot::of(&self.alloc, to)? else {
+        let Some(afterwards) = PathKey::of(&self.alloc, to)? else {
             return Err(StoreFault::Inside);
         };
         let Some(entry) = self.share(&before)? else {

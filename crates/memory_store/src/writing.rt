@@ -9,9 +9,9 @@ ghost use Rattle.memory_store.specs.Tree.Node.{File};
 
 use crate::ends::{MemSink, MemSource};
 use crate::entry::Entry;
+use crate::key::PathKey;
 use crate::memory::MemStore;
 use crate::received::Received;
-use crate::spot::Spot;
 use std::alloc::{AllocError, Allocator};
 use std::sync::Arc;
 use virtual_path::VPath;
@@ -21,15 +21,15 @@ impl<A: Allocator + Clone> MemStore<A> {
     /// An empty file, open for writing.
     pub(crate) fn open_empty(
         &mut self,
-        spot: Spot<A>,
+        key: PathKey<A>,
         moment: u64,
     ) -> Result<MemSink<A>, StoreFault>
         ensures { Opens self.old result self.new
-            (Ok (opening (map.insert self.old.tree spot (File [] moment)) spot 0)) }
+            (Ok (opening (map.insert self.old.tree key (File [] moment)) key 0)) }
     {
-        let sink = self.sink(&spot, 0)?;
+        let sink = self.sink(&key, 0)?;
         let entry = self.empty(moment)?;
-        self.files.put(spot, entry)?;
+        self.files.put(key, entry)?;
         Ok(sink)
     }
 
@@ -43,16 +43,16 @@ impl<A: Allocator + Clone> MemStore<A> {
     }
 
     /// A sink with no octets yet, which keeps as many as the capacity.
-    pub(crate) fn sink(&self, spot: &Spot<A>, kept: usize) -> Result<MemSink<A>, AllocError>
-        ensures spot { IfOk result (λ sink. sink.spot ≡ spot.now) }
+    pub(crate) fn sink(&self, key: &PathKey<A>, kept: usize) -> Result<MemSink<A>, AllocError>
+        ensures key { IfOk result (λ sink. sink.key ≡ key.now) }
         ensures kept { IfOk result (λ sink. sink.kept ≡ kept) }
         ensures most { IfOk result (λ sink. sink.most ≡ self.now.capacity) }
         ensures octets { IfOk result (λ sink. sink.octets ≡ []) }
     {
-        let spot = spot.copy(&self.alloc)?;
+        let key = key.copy(&self.alloc)?;
         let alloc = self.alloc.clone()?;
         Ok(MemSink {
-            spot,
+            key,
             kept,
             most: self.capacity,
             octets: Vec::new(alloc),
@@ -116,55 +116,55 @@ impl<A: Allocator + Clone> MemStore<A> {
     /// The file cut to its first octets, open for writing after them.
     pub(crate) fn open_cut(
         &mut self,
-        spot: Spot<A>,
+        key: PathKey<A>,
         octets: &[u8],
         offset: u64,
         moment: u64,
     ) -> Result<MemSink<A>, StoreFault>
-        requires { length octets.now ≤ size_at (map.get self.old.tree spot) }
+        requires { length octets.now ≤ size_at (map.get self.old.tree key) }
         ensures { Opens self.old result self.new
-            (open_octets self.old.tree spot moment (WriteMode.At offset) (Some octets.now)) }
+            (open_octets self.old.tree key moment (WriteMode.At offset) (Some octets.now)) }
     {
         if (octets.len() as u64) < offset {
             return Err(StoreFault::PastEnd);
         }
         let kept = offset as usize;
-        let sink = self.sink(&spot, kept)?;
+        let sink = self.sink(&key, kept)?;
         let first = self.first(octets, kept)?;
-        self.files.put(spot, Entry::file(first, moment))?;
+        self.files.put(key, Entry::file(first, moment))?;
         Ok(sink)
     }
 
     /// The whole file, open for writing after its octets.
     pub(crate) fn open_end(
         &mut self,
-        spot: Spot<A>,
+        key: PathKey<A>,
         octets: &[u8],
         moment: u64,
     ) -> Result<MemSink<A>, StoreFault>
         ensures { Opens self.old result self.new
-            (open_octets self.old.tree spot moment WriteMode.Append (Some octets.now)) }
+            (open_octets self.old.tree key moment WriteMode.Append (Some octets.now)) }
     {
-        let sink = self.sink(&spot, octets.len())?;
+        let sink = self.sink(&key, octets.len())?;
         Ok(sink)
     }
 
     /// A file with these octets, open for writing.
     pub(crate) fn open_octets(
         &mut self,
-        spot: Spot<A>,
+        key: PathKey<A>,
         octets: &[u8],
         mode: WriteMode,
         moment: u64,
     ) -> Result<MemSink<A>, StoreFault>
-        requires { length octets.now ≤ size_at (map.get self.old.tree spot) }
+        requires { length octets.now ≤ size_at (map.get self.old.tree key) }
         ensures { Opens self.old result self.new
-            (open_octets self.old.tree spot moment mode (Some octets.now)) }
+            (open_octets self.old.tree key moment mode (Some octets.now)) }
     {
         match mode {
-            WriteMode::New => self.open_empty(spot, moment),
-            WriteMode::At(offset) => self.open_cut(spot, octets, offset, moment),
-            WriteMode::Append => self.open_end(spot, octets, moment),
+            WriteMode::New => self.open_empty(key, moment),
+            WriteMode::At(offset) => self.open_cut(key, octets, offset, moment),
+            WriteMode::Append => self.open_end(key, octets, moment),
         }
     }
 
@@ -172,29 +172,29 @@ impl<A: Allocator + Clone> MemStore<A> {
     pub(crate) fn open_new(
         &mut self,
         path: &VPath<A>,
-        spot: Spot<A>,
+        key: PathKey<A>,
         moment: u64,
     ) -> Result<MemSink<A>, StoreFault>
         ensures { Opens self.old result self.new
-            (open_new self.old.tree moment (vacant self.old.tree path.now spot)) }
+            (open_new self.old.tree moment (vacant self.old.tree path.now key)) }
     {
-        let spot = self.vacant(path, spot)?;
-        self.open_empty(spot, moment)
+        let key = self.vacant(path, key)?;
+        self.open_empty(key, moment)
     }
 
     /// A spot without an entry, opened for writing.
     pub(crate) fn open_absent(
         &mut self,
         path: &VPath<A>,
-        spot: Spot<A>,
+        key: PathKey<A>,
         mode: WriteMode,
         moment: u64,
     ) -> Result<MemSink<A>, StoreFault>
         ensures { Opens self.old result self.new
-            (open_absent self.old.tree path.now spot moment mode) }
+            (open_absent self.old.tree path.now key moment mode) }
     {
         match mode {
-            WriteMode::New | WriteMode::Append => self.open_new(path, spot, moment),
+            WriteMode::New | WriteMode::Append => self.open_new(path, key, moment),
             WriteMode::At(_) => Err(StoreFault::NotFound),
         }
     }
@@ -202,19 +202,19 @@ impl<A: Allocator + Clone> MemStore<A> {
     pub(crate) fn open_at(
         &mut self,
         path: &VPath<A>,
-        spot: Spot<A>,
+        key: PathKey<A>,
         mode: WriteMode,
         moment: u64,
     ) -> Result<MemSink<A>, StoreFault>
         ensures { Opens self.old result self.new
-            (open_node self.old.tree path.now spot moment mode (map.get self.old.tree spot)) }
+            (open_node self.old.tree path.now key moment mode (map.get self.old.tree key)) }
     {
-        let Some(entry) = self.share(&spot)? else {
-            return self.open_absent(path, spot, mode, moment);
+        let Some(entry) = self.share(&key)? else {
+            return self.open_absent(path, key, mode, moment);
         };
         match entry.into_octets() {
             None => Err(StoreFault::IsDir),
-            Some(octets) => self.open_octets(spot, octets.as_slice(), mode, moment),
+            Some(octets) => self.open_octets(key, octets.as_slice(), mode, moment),
         }
     }
 
@@ -237,13 +237,13 @@ impl<A: Allocator + Clone> MemStore<A> {
         octets: &[u8],
         moment: u64,
     ) -> Result<(), StoreFault>
-        requires file { size_at (map.get self.old.tree sink.spot) ≡ length octets.now }
+        requires file { size_at (map.get self.old.tree sink.key) ≡ length octets.now }
         requires whole { nat_lt sink.most (length sink.octets) ≡ false }
         ensures { Changes self.old result self.new
             (finish_octets self.old sink moment (Some octets.now)) unit_of (λ tree. tree) }
     {
         let MemSink {
-            spot,
+            key,
             kept,
             most: _,
             octets: came,
@@ -259,7 +259,7 @@ impl<A: Allocator + Clone> MemStore<A> {
             return Err(StoreFault::PastEnd);
         }
         let filled = self.joined(octets, kept, came)?;
-        self.files.put(spot, Entry::file(filled, moment))?;
+        self.files.put(key, Entry::file(filled, moment))?;
         Ok(())
     }
 
@@ -273,7 +273,7 @@ impl<A: Allocator + Clone> MemStore<A> {
         octets: &[u8],
         moment: u64,
     ) -> Result<(), StoreFault>
-        requires { size_at (map.get self.old.tree sink.spot) ≡ length octets.now }
+        requires { size_at (map.get self.old.tree sink.key) ≡ length octets.now }
         ensures step { Changes self.old result self.new
             (finish_octets self.old sink moment (Some octets.now)) unit_of (λ tree. tree) }
         ensures cut { sink.most < length sink.octets → self.old.capacity ≤ sink.most

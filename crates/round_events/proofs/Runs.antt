@@ -4,7 +4,7 @@ use Rattle.std.proofs.lemmas.List.{map-append, reverse-append}
 use Rattle.line_rates.specs.Rates.{Rates}
 use Rattle.world_terms.specs.declared.event.Event.{Event}
 use Rattle.world_terms.specs.Lanes.{World}
-use Rattle.world_terms.specs.Runs.{Occasion, Runs, IsRun, event_of, reply_of}
+use Rattle.world_terms.specs.Runs.{TraceEntry, Runs, IsRun, event_of, reply_of}
 use Rattle.world_terms.specs.Steps.{Step}
 use Rattle.round_events.specs.Events.{Reply}
 
@@ -14,7 +14,7 @@ run_none rates w = record { past = []; runs = refl; events_are = refl; replies_a
 pub run_one : (rates : Rates) (w : World) (e : Event) (r : Reply) (end : World) → Step rates w e r end → IsRun rates w (e ∷ []) (r ∷ []) end
 run_one rates w e r end s = record { past = record { before = w; event = e; reply = r } ∷ []; runs = (refl, s); events_are = refl; replies_are = refl }
 
-runs_then : (rates : Rates) (a b c : World) (past later : List Occasion) → Runs rates a past b → Runs rates b later c → Runs rates a (later ++ past) c
+runs_then : (rates : Rates) (a b c : World) (past later : List TraceEntry) → Runs rates a past b → Runs rates b later c → Runs rates a (later ++ past) c
 runs_then rates a b c past [] h e = subst (Runs rates a past) (sym e) h
 runs_then rates a b c past (x ∷ later) h k = (runs_then rates a b x.before past later h k.0, k.1)
 

@@ -51,7 +51,7 @@ pub struct House<S: Store<Global>, H: Drop, B: PartsName> {
     /// For each lane, what rounds report to it.
     pub lanes: Vec<LaneSign>,
     /// Increased when a lane needs a round.
-    pub bell: EventCount,
+    pub waker: EventCount,
     pub ending: ServerShutdown,
 }
 

@@ -8,11 +8,11 @@ use std::time::{Clock, Duration};
 
 #[test]
 fn event_word(rt: HostRuntime) {
-    let bell = EventCount::new();
-    let seen = bell.seen(); // before the look for what is signalled
-    bell.signal();
-    bell.wait(&rt, seen, 0, Duration::from_secs(60)); // returns at once
-    assert!(rt; bell.seen() != seen);
+    let waker = EventCount::new();
+    let seen = waker.seen(); // before the look for what is signalled
+    waker.signal();
+    waker.wait(&rt, seen, 0, Duration::from_secs(60)); // returns at once
+    assert!(rt; waker.seen() != seen);
 }
 
 // Signals one count and waits for the other, in turns. A lost wake-up takes a minute.

@@ -14,13 +14,13 @@ use session_file_rows::{
     appe_row, cwd_row, dele_row, list_row, mdtm_row, mkd_row, mlsd_row, mlst_row, retr_row,
     rmd_row, rnfr_row, rnto_row, size_row, stat_row, stor_row,
 };
-use session_state::{Location, State};
+use session_state::{Location, RowResult, State};
 use session_state_rows::{
     abor_row, eprt_row, epsv_row, feat_row, opts_row, pass_row, pasv_row, port_row, pwd_row,
     quit_row, rein_row, rest_row, status_row, type_row, user_row,
 };
-use session_table::{Action, Conditions, FileRow, LocatedRow, LoginRow, NamedRow, Rule, StateRow};
-use std::alloc::{AllocError, Allocator};
+use session_table::{Conditions, FileRow, LocatedRow, LoginRow, NamedRow, Rule, StateRow};
+use std::alloc::Allocator;
 use virtual_tree::Store;
 
 fn login_row<A: Allocator + Clone, F: Allocator + Clone, R: Drop, K: Drop>(
@@ -28,7 +28,7 @@ fn login_row<A: Allocator + Clone, F: Allocator + Clone, R: Drop, K: Drop>(
     users: &Authorizer<A>,
     floors: &mut Floors<F>,
     row: LoginRow<&str>,
-) -> Result<Vec<Action<A, R, K>, A>, AllocError>
+) -> RowResult<A, R, K>
     ensures row { IfOk result (λ actions.
         RanByFloors (login_row users.now.users state.old (login_by (λ text. text.now) row.entry))
         floors.old floors.new state.new actions.items) }
@@ -46,7 +46,7 @@ fn login_row<A: Allocator + Clone, F: Allocator + Clone, R: Drop, K: Drop>(
 fn state_row<A: Allocator + Clone, R: Drop, K: Drop>(
     state: &mut State<A>,
     row: StateRow,
-) -> Result<Vec<Action<A, R, K>, A>, AllocError>
+) -> RowResult<A, R, K>
     ensures row { IfOk result (λ actions.
         Then state.new actions.items ≡ state_row state.old row) }
     ensures unchanged { OnErr result (state.new ≡ state.old) }
@@ -75,7 +75,7 @@ fn file_row<A: Allocator + Clone, S: Store<A>>(
     row: FileRow,
     location: Location<A>,
     moment: u64,
-) -> Result<Vec<Action<A, S::Source, S::Sink>, A>, AllocError>
+) -> RowResult<A, S::Source, S::Sink>
     ensures row { IfOk result (λ actions.
         RanByStore S.Step (file_row users.now.users state.old moment row location)
         store.old store.new state.new actions.items) }
@@ -112,7 +112,7 @@ fn row_at<A: Allocator + Clone, S: Store<A>>(
     conditions: Conditions,
     place: LocatedRow<&str>,
     moment: u64,
-) -> Result<Vec<Action<A, S::Source, S::Sink>, A>, AllocError>
+) -> RowResult<A, S::Source, S::Sink>
     ensures row { IfOk result (λ actions.
         RanByStore S.Step
         (at_found state.old (file_row users.now.users state.old moment place.entry.row)
@@ -141,7 +141,7 @@ pub(crate) fn carry_out<A: Allocator + Clone, F: Allocator + Clone, S: Store<A>>
     store: &mut S,
     rule: Rule<&str>,
     moment: u64,
-) -> Result<Vec<Action<A, S::Source, S::Sink>, A>, AllocError>
+) -> RowResult<A, S::Source, S::Sink>
     ensures row { IfOk result (λ actions.
         Ran S.Step
         (row_plan users.now.users state.old moment rule.entry.conditions

@@ -12,9 +12,9 @@ use crate::rules::rule_of;
 use authorizer::Authorizer;
 use ftp_wire::LineItem;
 use rate_floors::Floors;
-use session_state::State;
-use session_table::{Action, Answer, Conditions, Rule};
-use std::alloc::{AllocError, Allocator};
+use session_state::{RowResult, State};
+use session_table::{Answer, Conditions, Rule};
+use std::alloc::Allocator;
 use virtual_tree::Store;
 
 /// The first refusal of a rule, or its row.
@@ -26,7 +26,7 @@ fn serve_rule<A: Allocator + Clone, F: Allocator + Clone, S: Store<A>>(
     store: &mut S,
     rule: Rule<&str>,
     moment: u64,
-) -> Result<Vec<Action<A, S::Source, S::Sink>, A>, AllocError>
+) -> RowResult<A, S::Source, S::Sink>
     ensures row { IfOk result (λ actions.
         Ran S.Step
         (ruled users.now.users state.old moment (rule_by (λ text. text.now) rule.entry))
@@ -64,7 +64,7 @@ pub(crate) fn serve<A: Allocator + Clone, F: Allocator + Clone, S: Store<A>>(
     store: &mut S,
     item: &LineItem<A>,
     moment: u64,
-) -> Result<Vec<Action<A, S::Source, S::Sink>, A>, AllocError>
+) -> RowResult<A, S::Source, S::Sink>
     ensures row { IfOk result (λ actions.
         Ran S.Step
         (served users.now.users state.old moment (item_of item.now))

@@ -10,7 +10,7 @@ use authorizer::Authorizer;
 use ftp_wire::LineItem;
 use rate_floors::Floors;
 use session_events::{close, take_port};
-use session_state::{State, push_abort, push_reserved, room_for};
+use session_state::{RowResult, State, push_abort, push_reserved, room_for};
 use session_state_rows::greeting;
 use session_table::{Action, Answer, Control, Input, Meanwhile, Refusal, Settings, Stage};
 use std::alloc::{AllocError, Allocator, Global};
@@ -56,7 +56,7 @@ impl<A: Allocator + Clone> Session<A> {
     }
 
     /// Makes the greeting, which comes before any line.
-    pub fn greet<R: Drop, K: Drop>(&self) -> Result<Vec<Action<A, R, K>, A>, AllocError>
+    pub fn greet<R: Drop, K: Drop>(&self) -> RowResult<A, R, K>
         ensures row { IfOk result (λ actions.
             Then self.now.view actions.items ≡ greeting self.now.view) }
     {
@@ -105,14 +105,14 @@ impl<A: Allocator + Clone> Session<A> {
         }
     }
 
-    fn nothing<R: Drop, K: Drop>(&self) -> Result<Vec<Action<A, R, K>, A>, AllocError>
+    fn nothing<R: Drop, K: Drop>(&self) -> RowResult<A, R, K>
         ensures idle { IfOk result (λ actions. actions.items ≡ []) }
     {
         room_for(&self.state, 0)
     }
 
     /// Takes one line too many: aborts a running transfer and closes the control connection.
-    fn give_up<R: Drop, K: Drop>(&mut self) -> Result<Vec<Action<A, R, K>, A>, AllocError>
+    fn give_up<R: Drop, K: Drop>(&mut self) -> RowResult<A, R, K>
         ensures row { IfOk result (λ actions.
             Then self.new.view actions.items ≡ gives_up self.old.view) }
         ensures held { self.new.held ≡ self.old.held }
@@ -128,10 +128,7 @@ impl<A: Allocator + Clone> Session<A> {
     }
 
     /// Holds one line more.
-    fn keep<R: Drop, K: Drop>(
-        &mut self,
-        item: LineItem<A>,
-    ) -> Result<Vec<Action<A, R, K>, A>, AllocError>
+    fn keep<R: Drop, K: Drop>(&mut self, item: LineItem<A>) -> RowResult<A, R, K>
         ensures row { IfOk result (λ actions.
             IsTaken
             (record { plan = idle self.old.view; held = self.old.held ++ item_of item ∷ [] })
@@ -144,10 +141,7 @@ impl<A: Allocator + Clone> Session<A> {
     }
 
     /// Holds a line; the 17th ends the control connection.
-    fn hold<R: Drop, K: Drop>(
-        &mut self,
-        item: LineItem<A>,
-    ) -> Result<Vec<Action<A, R, K>, A>, AllocError>
+    fn hold<R: Drop, K: Drop>(&mut self, item: LineItem<A>) -> RowResult<A, R, K>
         ensures row { IfOk result (λ actions.
             IsTaken (holds self.old.view self.old.held (item_of item)) self.new actions.items) }
         ensures unchanged { OnErr result (self.new ≡ self.old) }
@@ -167,7 +161,7 @@ impl<A: Allocator + Clone> Session<A> {
         store: &mut S,
         item: LineItem<A>,
         moment: u64,
-    ) -> Result<Vec<Action<A, S::Source, S::Sink>, A>, AllocError>
+    ) -> RowResult<A, S::Source, S::Sink>
         ensures row { IfOk result (λ actions.
             Took S.Step
             (meanwhile users.now.users self.old.view self.old.held moment
@@ -204,7 +198,7 @@ impl<A: Allocator + Clone> Session<A> {
         store: &mut S,
         item: LineItem<A>,
         moment: u64,
-    ) -> Result<Vec<Action<A, S::Source, S::Sink>, A>, AllocError>
+    ) -> RowResult<A, S::Source, S::Sink>
         ensures row { IfOk result (λ actions.
             SessionStep S.Step users.now.users self.old.view self.old.held
             moment (Line item) store.old store.new floors.old floors.new
@@ -238,7 +232,7 @@ impl<A: Allocator + Clone> Session<A> {
         floors: &mut Floors<F>,
         store: &mut S,
         moment: u64,
-    ) -> Result<Vec<Action<A, S::Source, S::Sink>, A>, AllocError>
+    ) -> RowResult<A, S::Source, S::Sink>
         ensures row { IfOk result (λ actions.
             SessionStep S.Step users.now.users self.old.view self.old.held
             moment Held store.old store.new floors.old floors.new
@@ -262,7 +256,7 @@ impl<A: Allocator + Clone> Session<A> {
         &mut self,
         users: &Authorizer<A>,
         port: Option<u16>,
-    ) -> Result<Vec<Action<A, R, K>, A>, AllocError>
+    ) -> RowResult<A, R, K>
         ensures row { IfOk result (λ actions.
             Then self.new.view actions.items
             ≡ ready_at users.now.users self.old.view port) }
@@ -276,7 +270,7 @@ impl<A: Allocator + Clone> Session<A> {
     }
 
     /// The control connection is gone.
-    fn close<R: Drop, K: Drop>(&mut self) -> Result<Vec<Action<A, R, K>, A>, AllocError>
+    fn close<R: Drop, K: Drop>(&mut self) -> RowResult<A, R, K>
         ensures row { IfOk result (λ actions.
             Then self.new.view actions.items ≡ closed_at self.old.view) }
         ensures held { self.new.held ≡ self.old.held }
@@ -300,7 +294,7 @@ impl<A: Allocator + Clone> Session<A> {
         store: &mut S,
         input: Input<A, S::Sink>,
         moment: u64,
-    ) -> Result<Vec<Action<A, S::Source, S::Sink>, A>, AllocError>
+    ) -> RowResult<A, S::Source, S::Sink>
         ensures row { IfOk result (λ actions.
             SessionStep S.Step users.now.users self.old.view self.old.held
             moment input store.old store.new floors.old floors.new

@@ -7,9 +7,9 @@ ghost use Rattle.session_table.specs.Plans.Plan.{Then};
 ghost use Rattle.session_table.specs.Table.{closed_row};
 ghost use Rattle.session_table.specs.Views.{runs};
 
-use session_state::{State, push_abort, push_logout, push_reserved, room_for};
+use session_state::{RowResult, State, push_abort, push_logout, push_reserved, room_for};
 use session_table::{Action, HookCall, Text};
-use std::alloc::{AllocError, Allocator};
+use std::alloc::Allocator;
 
 /// The user who was logged in at the end of the control connection.
 #[derive(Drop)]
@@ -48,9 +48,7 @@ pub fn leave<A: Allocator + Clone>(state: &mut State<A>, nobody: Text<A>) -> Lea
 }
 
 /// Ends the control connection: a running transfer is aborted, and the user leaves.
-pub fn close<A: Allocator + Clone, R: Drop, K: Drop>(
-    state: &mut State<A>,
-) -> Result<Vec<Action<A, R, K>, A>, AllocError>
+pub fn close<A: Allocator + Clone, R: Drop, K: Drop>(state: &mut State<A>) -> RowResult<A, R, K>
     ensures row { IfOk result (λ actions. Then state.new actions.items ≡ closed_row state.old) }
     ensures unchanged { OnErr result (state.new ≡ state.old) }
 {

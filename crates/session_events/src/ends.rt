@@ -3,7 +3,7 @@
 ghost use Rattle.std.specs.Prelude.{◌≡◌, ◌≤◌, ◌<◌, ◌+◌, ◌++◌, [], IfOk, OnErr, true, vec_len, vec_capacity};
 ghost use Rattle.session_table.specs.Plans.{RanByStore};
 ghost use Rattle.session_table.specs.Plans.Plan.{Then};
-ghost use Rattle.session_table.specs.StateRows.{farewell};
+ghost use Rattle.session_table.specs.StateRows.{goodbye_reply};
 ghost use Rattle.session_table.specs.Table.{and_quits, end_hook, end_reply, end_row, end_reported, ended_row, ended_with};
 ghost use Rattle.session_table.specs.Views.{is_closed};
 ghost use Rattle.authorizer.specs.Users.{Users};
@@ -12,9 +12,11 @@ ghost use Rattle.session_state.specs.Waiting.{if_quitting};
 ghost use Rattle.session_table.specs.declared.stages.Work.TheVariants.{Idle};
 
 use authorizer::Authorizer;
-use session_state::{Farewell, State, push_farewell, push_reserved, room_for};
-use session_table::{Action, Answer, Control, End, Errand, HookCall, Notice, Refusal, Stage};
-use std::alloc::{AllocError, Allocator};
+use session_state::{GoodbyeReply, RowResult, State, push_goodbye_reply, push_reserved, room_for};
+use session_table::{
+    Action, Answer, Control, End, HookCall, Notice, Refusal, Stage, TransferContent,
+};
+use std::alloc::Allocator;
 use virtual_path::VPath;
 use virtual_tree::{Store, StoreFault};
 
@@ -61,21 +63,21 @@ fn push_reply<A: Allocator, R: Drop, K: Drop>(
 /// Appends the event for the handler; listings have none.
 fn push_hook<A: Allocator, R: Drop, K: Drop>(
     actions: &mut Vec<Action<A, R, K>, A>,
-    errand: Errand<VPath<A>>,
+    content: TransferContent<VPath<A>>,
     end: End,
 )
     requires room { vec_len actions.old < vec_capacity actions.old }
-    ensures items { actions.new.items ≡ actions.old.items ++ end_hook errand end }
+    ensures items { actions.new.items ≡ actions.old.items ++ end_hook content end }
     ensures len { vec_len actions.new ≤ vec_len actions.old + 1 }
     ensures kept { vec_capacity actions.old ≤ vec_capacity actions.new }
 {
-    match errand {
-        Errand::Listing => {}
-        Errand::Sending(path) => match end {
+    match content {
+        TransferContent::Listing => {}
+        TransferContent::Sending(path) => match end {
             End::Done => push_reserved(actions, Action::Hook(HookCall::FileSent(path))),
             _ => push_reserved(actions, Action::Hook(HookCall::IncompleteFileSent(path))),
         },
-        Errand::Taking(path) => match end {
+        TransferContent::Taking(path) => match end {
             End::Done => push_reserved(actions, Action::Hook(HookCall::FileReceived(path))),
             _ => push_reserved(
                 actions,
@@ -89,28 +91,28 @@ fn push_hook<A: Allocator, R: Drop, K: Drop>(
 pub(crate) fn quit_if_waiting<A: Allocator + Clone, R: Drop, K: Drop>(
     state: &mut State<A>,
     users: &Authorizer<A>,
-    parting: Option<Farewell<A>>,
+    parting: Option<GoodbyeReply<A>>,
     actions: &mut Vec<Action<A, R, K>, A>,
 )
-    requires farewell { parting
-        ≡ if_quitting state.old.control (farewell users.now.users state.old) }
+    requires goodbye_reply { parting
+        ≡ if_quitting state.old.control (goodbye_reply users.now.users state.old) }
     requires room { vec_len actions.old + 4 ≤ vec_capacity actions.old }
     ensures row { Then state.new actions.new.items
         ≡ and_quits users.now.users state.old actions.old.items state.old.control }
 {
-    if let Some(farewell) = parting {
-        push_farewell(state, farewell, actions);
+    if let Some(goodbye_reply) = parting {
+        push_goodbye_reply(state, goodbye_reply, actions);
     }
 }
 
 /// A transfer that has ended.
 #[derive(Drop)]
 struct Ending<A: Allocator> {
-    errand: Errand<VPath<A>>,
+    content: TransferContent<VPath<A>>,
     was_aborted: bool,
     end: End,
     /// The reply to a QUIT that waits.
-    parting: Option<Farewell<A>>,
+    parting: Option<GoodbyeReply<A>>,
 }
 
 /// Appends the replies and events of the end of a transfer.
@@ -122,24 +124,24 @@ fn report_end<A: Allocator + Clone, R: Drop, K: Drop>(
     actions: &mut Vec<Action<A, R, K>, A>,
 )
     requires idle { state.old.work ≡ Idle }
-    requires farewell { ending.parting
-        ≡ if_quitting state.old.control (farewell users.now.users state.old) }
+    requires goodbye_reply { ending.parting
+        ≡ if_quitting state.old.control (goodbye_reply users.now.users state.old) }
     requires empty { actions.old.items ≡ [] }
     requires room { vec_len actions.old + 6 ≤ vec_capacity actions.old }
     ensures row { Then state.new actions.new.items
-        ≡ end_row users.now.users state.old ending.errand ending.was_aborted ending.end finished }
+        ≡ end_row users.now.users state.old ending.content ending.was_aborted ending.end finished }
 {
     if state.stage() == Stage::Closed {
         return;
     }
     let reply = end_reported(ending.end, finished);
     push_reply(actions, state.control(), ending.was_aborted, reply);
-    push_hook(actions, ending.errand, ending.end);
+    push_hook(actions, ending.content, ending.end);
     quit_if_waiting(state, users, ending.parting, actions);
 }
 
 /// Finishes a returned sink, and reports the end.
-fn end_errand<A: Allocator + Clone, S: Store<A>>(
+fn end_content<A: Allocator + Clone, S: Store<A>>(
     state: &mut State<A>,
     users: &Authorizer<A>,
     store: &mut S,
@@ -149,11 +151,11 @@ fn end_errand<A: Allocator + Clone, S: Store<A>>(
     actions: &mut Vec<Action<A, S::Source, S::Sink>, A>,
 )
     requires idle { state.old.work ≡ Idle }
-    requires farewell { ending.parting
-        ≡ if_quitting state.old.control (farewell users.now.users state.old) }
+    requires goodbye_reply { ending.parting
+        ≡ if_quitting state.old.control (goodbye_reply users.now.users state.old) }
     requires empty { actions.old.items ≡ [] }
     requires room { vec_len actions.old + 6 ≤ vec_capacity actions.old }
-    ensures row { RanByStore S.Step (ended_with users.now.users state.old moment ending.errand
+    ensures row { RanByStore S.Step (ended_with users.now.users state.old moment ending.content
         ending.was_aborted ending.end sink)
         store.old store.new state.new actions.new.items }
 {
@@ -175,7 +177,7 @@ pub fn end_transfer<A: Allocator + Clone, S: Store<A>>(
     end: End,
     sink: &mut Option<S::Sink>,
     moment: u64,
-) -> Result<Vec<Action<A, S::Source, S::Sink>, A>, AllocError>
+) -> RowResult<A, S::Source, S::Sink>
     ensures row { IfOk result (λ actions.
         RanByStore S.Step (ended_row users.now.users state.old moment end sink.old)
         store.old store.new state.new actions.items) }
@@ -184,19 +186,19 @@ pub fn end_transfer<A: Allocator + Clone, S: Store<A>>(
     ensures kept { OnErr result (sink.new ≡ sink.old) }
 {
     let mut actions = room_for(state, 6)?;
-    let parting = Farewell::if_waiting(state, users)?;
+    let parting = GoodbyeReply::if_waiting(state, users)?;
     let came = sink.take();
     let was_aborted = state.is_aborted();
-    let Some(errand) = state.end_transfer() else {
+    let Some(content) = state.end_transfer() else {
         return Ok(actions);
     };
     let ending = Ending {
-        errand,
+        content,
         was_aborted,
         end,
         parting,
     };
-    end_errand(state, users, store, ending, came, moment, &mut actions);
+    end_content(state, users, store, ending, came, moment, &mut actions);
     Ok(actions)
 }
 
@@ -214,7 +216,7 @@ pub fn finish<A: Allocator + Clone, S: Store<A>>(
         store.old store.new state.new [] }
     ensures closed { is_closed state.new.stage ≡ true }
 {
-    if let Some(_errand) = state.end_transfer() {
+    if let Some(_content) = state.end_transfer() {
         if let Some(sink) = sink {
             let _ = store.finish(sink, moment);
         }

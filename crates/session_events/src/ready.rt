@@ -9,7 +9,7 @@ use crate::ends::quit_if_waiting;
 use authorizer::Authorizer;
 use ftp_terms::LineText;
 use ftp_wire::{HostPort, port_text};
-use session_state::{Farewell, State, made, push_reserved, room_for};
+use session_state::{GoodbyeReply, RowResult, State, made, push_reserved, room_for};
 use session_table::{Action, Answer, Passive, Refusal};
 use std::alloc::{AllocError, Allocator};
 
@@ -50,7 +50,7 @@ fn say_port<A: Allocator + Clone, R: Drop, K: Drop>(
     state: &State<A>,
     passive: Passive,
     port: u16,
-) -> Result<Vec<Action<A, R, K>, A>, AllocError>
+) -> RowResult<A, R, K>
     ensures reported { IfOk result (λ actions.
         actions.items ≡ Say (port_reported state.now passive port) ∷ []) }
     ensures len { IfOk result (λ actions. vec_len actions ≡ 1) }
@@ -68,13 +68,13 @@ fn report_port<A: Allocator + Clone, R: Drop, K: Drop>(
     users: &Authorizer<A>,
     passive: Passive,
     port: u16,
-) -> Result<Vec<Action<A, R, K>, A>, AllocError>
+) -> RowResult<A, R, K>
     ensures row { IfOk result (λ actions.
         Then state.new actions.items ≡ ready_as users.now.users state.old passive (Some port)) }
     ensures unchanged { OnErr result (state.new ≡ state.old) }
 {
     let mut actions = say_port(state, passive, port)?;
-    let parting = Farewell::if_waiting(state, users)?;
+    let parting = GoodbyeReply::if_waiting(state, users)?;
     state.end_waiting();
     state.prepare();
     quit_if_waiting(state, users, parting, &mut actions);
@@ -86,13 +86,13 @@ fn report_none<A: Allocator + Clone, R: Drop, K: Drop>(
     state: &mut State<A>,
     users: &Authorizer<A>,
     passive: Passive,
-) -> Result<Vec<Action<A, R, K>, A>, AllocError>
+) -> RowResult<A, R, K>
     ensures row { IfOk result (λ actions.
         Then state.new actions.items ≡ ready_as users.now.users state.old passive None) }
     ensures unchanged { OnErr result (state.new ≡ state.old) }
 {
     let mut actions = room_for(state, 5)?;
-    let parting = Farewell::if_waiting(state, users)?;
+    let parting = GoodbyeReply::if_waiting(state, users)?;
     let none = Answer::Refusal(Refusal::NoPassivePort);
     push_reserved(&mut actions, Action::Say(none));
     state.end_waiting();
@@ -105,7 +105,7 @@ pub fn take_port<A: Allocator + Clone, R: Drop, K: Drop>(
     state: &mut State<A>,
     users: &Authorizer<A>,
     port: Option<u16>,
-) -> Result<Vec<Action<A, R, K>, A>, AllocError>
+) -> RowResult<A, R, K>
     ensures row { IfOk result (λ actions.
         Then state.new actions.items ≡ ready_row users.now.users state.old port) }
     ensures unchanged { OnErr result (state.new ≡ state.old) }

@@ -13,8 +13,8 @@ ghost use Rattle.virtual_path.specs.Path.{path_text};
 
 use crate::outcomes::push_changed;
 use ftp_terms::Meta;
-use session_state::{Location, State, path_answer, room_for};
-use session_table::{Action, Answer, Notice, Refusal};
+use session_state::{Location, RowResult, State, path_answer, room_for};
+use session_table::{Answer, Notice, Refusal};
 use std::alloc::{AllocError, Allocator};
 use virtual_path::VPath;
 use virtual_tree::{Store, StoreFault};
@@ -40,7 +40,7 @@ pub fn mkd_row<A: Allocator + Clone, S: Store<A>>(
     state: &mut State<A>,
     store: &mut S,
     location: &Location<A>,
-) -> Result<Vec<Action<A, S::Source, S::Sink>, A>, AllocError>
+) -> RowResult<A, S::Source, S::Sink>
     ensures row { IfOk result (λ actions.
         RanByStore S.Step (mkd_row state.old location.now)
         store.old store.new state.new actions.items) }
@@ -61,7 +61,7 @@ pub fn dele_row<A: Allocator + Clone, S: Store<A>>(
     state: &mut State<A>,
     store: &mut S,
     location: &Location<A>,
-) -> Result<Vec<Action<A, S::Source, S::Sink>, A>, AllocError>
+) -> RowResult<A, S::Source, S::Sink>
     ensures row { IfOk result (λ actions.
         RanByStore S.Step (dele_row state.old location.now)
         store.old store.new state.new actions.items) }
@@ -82,7 +82,7 @@ pub fn rmd_row<A: Allocator + Clone, S: Store<A>>(
     state: &mut State<A>,
     store: &mut S,
     location: &Location<A>,
-) -> Result<Vec<Action<A, S::Source, S::Sink>, A>, AllocError>
+) -> RowResult<A, S::Source, S::Sink>
     ensures row { IfOk result (λ actions.
         RanByStore S.Step (rmd_row state.old location.now)
         store.old store.new state.new actions.items) }
@@ -106,7 +106,7 @@ fn keep<A: Allocator + Clone, R: Drop, K: Drop>(
     state: &mut State<A>,
     stored: VPath<A>,
     looked: Result<Meta, StoreFault>,
-) -> Result<Vec<Action<A, R, K>, A>, AllocError>
+) -> RowResult<A, R, K>
     ensures row { IfOk result (λ actions.
         Then state.new actions.items ≡ unless_fault state.old (λ meta.
         notes (record state.old { source = Some stored }) SendRnto) looked) }
@@ -125,7 +125,7 @@ pub fn rnfr_row<A: Allocator + Clone, S: Store<A>>(
     state: &mut State<A>,
     store: &mut S,
     location: Location<A>,
-) -> Result<Vec<Action<A, S::Source, S::Sink>, A>, AllocError>
+) -> RowResult<A, S::Source, S::Sink>
     ensures row { IfOk result (λ actions.
         RanByStore S.Step (rnfr_row state.old location)
         store.old store.new state.new actions.items) }
@@ -146,7 +146,7 @@ pub fn rnto_row<A: Allocator + Clone, S: Store<A>>(
     state: &mut State<A>,
     store: &mut S,
     location: &Location<A>,
-) -> Result<Vec<Action<A, S::Source, S::Sink>, A>, AllocError>
+) -> RowResult<A, S::Source, S::Sink>
     ensures row { IfOk result (λ actions.
         RanByStore S.Step (rnto_row state.old location.now)
         store.old store.new state.new actions.items) }

@@ -14,8 +14,8 @@ use crate::lines::letters_held;
 use authorizer::Authorizer;
 use ftp_reply::{Reply, ReplyCode, mlst_entry};
 use ftp_terms::{LineText, Meta};
-use session_state::{Location, State, push_reserved, with_room};
-use session_table::{Action, Answer, Refusal};
+use session_state::{Location, RowResult, State, push_reserved, with_room};
+use session_table::{Answer, Refusal};
 use std::alloc::{AllocError, Allocator};
 use virtual_path::VPath;
 use virtual_tree::Store;
@@ -75,7 +75,7 @@ pub fn mlst_row<A: Allocator + Clone, S: Store<A>>(
     users: &Authorizer<A>,
     store: &mut S,
     location: &Location<A>,
-) -> Result<Vec<Action<A, S::Source, S::Sink>, A>, AllocError>
+) -> RowResult<A, S::Source, S::Sink>
     ensures row { IfOk result
         (λ actions. RanByStore S.Step (mlst_row users.now.users state.old location.now)
         store.old store.new state.new actions.items) }

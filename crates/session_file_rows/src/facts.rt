@@ -10,8 +10,8 @@ ghost use Rattle.session_table.specs.declared.answers.Answer.TheVariants.{Made};
 
 use ftp_reply::mdtm_line;
 use ftp_terms::{DataType, EntryKind, LineText};
-use session_state::{Location, State, made};
-use session_table::{Action, Answer, Refusal};
+use session_state::{Location, RowResult, State, made};
+use session_table::{Answer, Refusal};
 use std::alloc::{AllocError, Allocator};
 use virtual_tree::{Store, StoreFault};
 
@@ -33,7 +33,7 @@ pub fn size_row<A: Allocator + Clone, S: Store<A>>(
     state: &mut State<A>,
     store: &mut S,
     location: &Location<A>,
-) -> Result<Vec<Action<A, S::Source, S::Sink>, A>, AllocError>
+) -> RowResult<A, S::Source, S::Sink>
     ensures row { IfOk result (λ actions.
         RanByStore S.Step (size_row state.old location.now)
         store.old store.new state.new actions.items) }
@@ -62,7 +62,7 @@ pub fn mdtm_row<A: Allocator + Clone, S: Store<A>>(
     state: &mut State<A>,
     store: &mut S,
     location: &Location<A>,
-) -> Result<Vec<Action<A, S::Source, S::Sink>, A>, AllocError>
+) -> RowResult<A, S::Source, S::Sink>
     ensures row { IfOk result (λ actions.
         RanByStore S.Step (mdtm_row state.old location.now)
         store.old store.new state.new actions.items) }

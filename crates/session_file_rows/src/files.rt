@@ -5,9 +5,9 @@ ghost use Rattle.session_table.specs.Plans.{RanByStore, Stops};
 ghost use Rattle.session_table.specs.TransferRows.{appe_row, reads, retr_row, stor_row, store_mode, writes};
 
 use crate::outcomes::{push_refusal, push_start};
-use session_state::{Location, State, room_for};
-use session_table::{Action, Errand, Job};
-use std::alloc::{AllocError, Allocator};
+use session_state::{Location, RowResult, State, room_for};
+use session_table::{Job, TransferContent};
+use std::alloc::Allocator;
 use virtual_tree::{Store, WriteMode};
 
 /// Opens a file for reading from this offset on. After an error session and store are unchanged.
@@ -16,7 +16,7 @@ fn reads<A: Allocator + Clone, S: Store<A>>(
     store: &mut S,
     location: Location<A>,
     offset: u64,
-) -> Result<Vec<Action<A, S::Source, S::Sink>, A>, AllocError>
+) -> RowResult<A, S::Source, S::Sink>
     ensures row { IfOk result (λ actions.
         RanByStore S.Step (reads state.old offset location)
         store.old store.new state.new actions.items) }
@@ -28,8 +28,8 @@ fn reads<A: Allocator + Clone, S: Store<A>>(
         Err(fault) => push_refusal(state, fault, &mut actions),
         Ok(source) => {
             let job = Job::SendFile(source, state.data_type());
-            let errand = Errand::Sending(location.into_path());
-            push_start(state, errand, job, &mut actions);
+            let content = TransferContent::Sending(location.into_path());
+            push_start(state, content, job, &mut actions);
         }
     }
     Ok(actions)
@@ -40,7 +40,7 @@ pub fn retr_row<A: Allocator + Clone, S: Store<A>>(
     state: &mut State<A>,
     store: &mut S,
     location: Location<A>,
-) -> Result<Vec<Action<A, S::Source, S::Sink>, A>, AllocError>
+) -> RowResult<A, S::Source, S::Sink>
     ensures row { IfOk result (λ actions.
         RanByStore S.Step (retr_row state.old location)
         store.old store.new state.new actions.items) }
@@ -61,7 +61,7 @@ fn writes<A: Allocator + Clone, S: Store<A>>(
     location: Location<A>,
     mode: WriteMode,
     moment: u64,
-) -> Result<Vec<Action<A, S::Source, S::Sink>, A>, AllocError>
+) -> RowResult<A, S::Source, S::Sink>
     ensures row { IfOk result (λ actions.
         RanByStore S.Step (writes state.old mode moment location)
         store.old store.new state.new actions.items) }
@@ -73,8 +73,8 @@ fn writes<A: Allocator + Clone, S: Store<A>>(
         Err(fault) => push_refusal(state, fault, &mut actions),
         Ok(sink) => {
             let job = Job::TakeFile(sink, state.data_type());
-            let errand = Errand::Taking(location.into_path());
-            push_start(state, errand, job, &mut actions);
+            let content = TransferContent::Taking(location.into_path());
+            push_start(state, content, job, &mut actions);
         }
     }
     Ok(actions)
@@ -98,7 +98,7 @@ pub fn stor_row<A: Allocator + Clone, S: Store<A>>(
     store: &mut S,
     location: Location<A>,
     moment: u64,
-) -> Result<Vec<Action<A, S::Source, S::Sink>, A>, AllocError>
+) -> RowResult<A, S::Source, S::Sink>
     ensures row { IfOk result (λ actions.
         RanByStore S.Step (stor_row state.old moment location) store.old store.new state.new
         actions.items) }
@@ -119,7 +119,7 @@ pub fn appe_row<A: Allocator + Clone, S: Store<A>>(
     store: &mut S,
     location: Location<A>,
     moment: u64,
-) -> Result<Vec<Action<A, S::Source, S::Sink>, A>, AllocError>
+) -> RowResult<A, S::Source, S::Sink>
     ensures row { IfOk result (λ actions.
         RanByStore S.Step (appe_row state.old moment location) store.old store.new state.new
         actions.items) }

@@ -11,9 +11,9 @@ use crate::reported::{report_entries, report_file};
 use crate::way::Way;
 use authorizer::Authorizer;
 use ftp_terms::EntryKind;
-use session_state::{Location, State};
-use session_table::{Action, Refusal, Style};
-use std::alloc::{AllocError, Allocator};
+use session_state::{Location, RowResult, State};
+use session_table::{Refusal, Style};
+use std::alloc::Allocator;
 use virtual_tree::Store;
 
 /// The entries of a directory.
@@ -24,7 +24,7 @@ fn list_directory<A: Allocator + Clone, S: Store<A>>(
     location: &Location<A>,
     style: Style,
     way: Way,
-) -> Result<Vec<Action<A, S::Source, S::Sink>, A>, AllocError>
+) -> RowResult<A, S::Source, S::Sink>
     ensures row { IfOk result (λ actions. RanByStore S.Step
         (lists_directory users.now.users state.old style location.now (reported_by way state.old))
         store.old store.new state.new actions.items) }
@@ -54,7 +54,7 @@ fn list_location<A: Allocator + Clone, S: Store<A>>(
     location: &Location<A>,
     style: Style,
     way: Way,
-) -> Result<Vec<Action<A, S::Source, S::Sink>, A>, AllocError>
+) -> RowResult<A, S::Source, S::Sink>
     ensures row { IfOk result (λ actions. RanByStore S.Step
         (lists_location users.now.users state.old style location.now (reported_by way state.old))
         store.old store.new state.new actions.items) }
@@ -79,7 +79,7 @@ pub fn list_row<A: Allocator + Clone, S: Store<A>>(
     store: &mut S,
     location: &Location<A>,
     style: Style,
-) -> Result<Vec<Action<A, S::Source, S::Sink>, A>, AllocError>
+) -> RowResult<A, S::Source, S::Sink>
     ensures row { IfOk result (λ actions. RanByStore S.Step
         (list_row users.now.users state.old style location.now)
         store.old store.new state.new actions.items) }
@@ -96,7 +96,7 @@ pub fn mlsd_row<A: Allocator + Clone, S: Store<A>>(
     users: &Authorizer<A>,
     store: &mut S,
     location: &Location<A>,
-) -> Result<Vec<Action<A, S::Source, S::Sink>, A>, AllocError>
+) -> RowResult<A, S::Source, S::Sink>
     ensures row { IfOk result
         (λ actions. RanByStore S.Step (mlsd_row users.now.users state.old location.now)
         store.old store.new state.new actions.items) }
@@ -126,7 +126,7 @@ pub fn stat_row<A: Allocator + Clone, S: Store<A>>(
     users: &Authorizer<A>,
     store: &mut S,
     location: &Location<A>,
-) -> Result<Vec<Action<A, S::Source, S::Sink>, A>, AllocError>
+) -> RowResult<A, S::Source, S::Sink>
     ensures row { IfOk result
         (λ actions. RanByStore S.Step (stat_row users.now.users state.old location.now)
         store.old store.new state.new actions.items) }

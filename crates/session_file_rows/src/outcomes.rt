@@ -8,7 +8,7 @@ ghost use Rattle.session_table.specs.TransferRows.{starts};
 ghost use Rattle.session_table.specs.declared.refusals.Refusal.TheVariants.{Store};
 
 use session_state::{State, push_reserved};
-use session_table::{Action, Answer, Errand, Job, Notice, Refusal};
+use session_table::{Action, Answer, Job, Notice, Refusal, TransferContent};
 use std::alloc::Allocator;
 use virtual_path::VPath;
 use virtual_tree::StoreFault;
@@ -48,15 +48,15 @@ pub(crate) fn push_changed<A: Allocator + Clone, R: Drop, K: Drop>(
 /// Begins a transfer.
 pub(crate) fn push_start<A: Allocator + Clone, R: Drop, K: Drop>(
     state: &mut State<A>,
-    errand: Errand<VPath<A>>,
+    content: TransferContent<VPath<A>>,
     job: Job<A, R, K>,
     actions: &mut Vec<Action<A, R, K>, A>,
 )
     requires empty { actions.old.items ≡ [] }
     requires room { vec_len actions.old + 2 ≤ vec_capacity actions.old }
-    ensures row { Then state.new actions.new.items ≡ starts state.old errand job }
+    ensures row { Then state.new actions.new.items ≡ starts state.old content job }
 {
     push_reserved(actions, Action::Say(Answer::Notice(Notice::Opening)));
     push_reserved(actions, Action::Start(job));
-    state.begin(errand);
+    state.begin(content);
 }

@@ -8,9 +8,9 @@ ghost use Rattle.session_table.specs.StateRows.{notes, refuses};
 ghost use Rattle.session_table.specs.declared.notices.Notice.TheVariants.{DirectoryChanged};
 
 use ftp_terms::{EntryKind, Meta};
-use session_state::{Location, State};
-use session_table::{Action, Notice, Refusal};
-use std::alloc::{AllocError, Allocator};
+use session_state::{Location, RowResult, State};
+use session_table::{Notice, Refusal};
+use std::alloc::Allocator;
 use virtual_path::VPath;
 use virtual_tree::{Store, StoreFault};
 
@@ -19,7 +19,7 @@ fn go_to<A: Allocator + Clone, R: Drop, K: Drop>(
     state: &mut State<A>,
     path: VPath<A>,
     looked: Result<Meta, StoreFault>,
-) -> Result<Vec<Action<A, R, K>, A>, AllocError>
+) -> RowResult<A, R, K>
     ensures row { IfOk result (λ actions.
         Then state.new actions.items ≡ unless_fault state.old (λ meta. by_kind
         (notes (record state.old { cwd = path }) DirectoryChanged)
@@ -44,7 +44,7 @@ pub fn cwd_row<A: Allocator + Clone, S: Store<A>>(
     state: &mut State<A>,
     store: &mut S,
     location: Location<A>,
-) -> Result<Vec<Action<A, S::Source, S::Sink>, A>, AllocError>
+) -> RowResult<A, S::Source, S::Sink>
     ensures row { IfOk result (λ actions.
         RanByStore S.Step (cwd_row state.old location)
         store.old store.new state.new actions.items) }

@@ -13,9 +13,9 @@ use crate::way::Way;
 use authorizer::Authorizer;
 use ftp_reply::{Reply, ReplyCode};
 use ftp_terms::{LineText, Meta};
-use session_state::{State, push_reserved, with_room};
-use session_table::{Action, Answer, Errand, Job, Notice, Octets, Style};
-use std::alloc::{AllocError, Allocator};
+use session_state::{RowResult, State, push_reserved, with_room};
+use session_table::{Action, Answer, Job, Notice, Octets, Style, TransferContent};
+use std::alloc::Allocator;
 use virtual_path::VPath;
 use virtual_tree::ListedEntry;
 
@@ -23,7 +23,7 @@ use virtual_tree::ListedEntry;
 fn send_octets<A: Allocator + Clone, R: Drop, K: Drop>(
     state: &mut State<A>,
     octets: Octets<A>,
-) -> Result<Vec<Action<A, R, K>, A>, AllocError>
+) -> RowResult<A, R, K>
     ensures row { (lines : List (List ℕ)) → octets ≡ ended_lines lines
         → IfOk result (λ actions. Then state.new actions.items ≡ sends_lines state.old lines) }
     ensures unchanged { OnErr result (state.new ≡ state.old) }
@@ -31,14 +31,14 @@ fn send_octets<A: Allocator + Clone, R: Drop, K: Drop>(
     let mut actions = with_room(state.alloc()?, 2)?;
     push_reserved(&mut actions, Action::Say(Answer::Notice(Notice::Opening)));
     push_reserved(&mut actions, Action::Start(Job::Text(octets)));
-    state.begin(Errand::Listing);
+    state.begin(TransferContent::Listing);
     Ok(actions)
 }
 
 fn send_line<A: Allocator + Clone, R: Drop, K: Drop>(
     state: &mut State<A>,
     line: &LineText<A>,
-) -> Result<Vec<Action<A, R, K>, A>, AllocError>
+) -> RowResult<A, R, K>
     ensures row { IfOk result (λ actions.
         Then state.new actions.items ≡ sends_lines state.old (text_of line.now ∷ [])) }
     ensures unchanged { OnErr result (state.new ≡ state.old) }
@@ -51,7 +51,7 @@ fn send_line<A: Allocator + Clone, R: Drop, K: Drop>(
 fn report_lines<A: Allocator + Clone, R: Drop, K: Drop>(
     state: &State<A>,
     lines: Vec<LineText<A>, A>,
-) -> Result<Vec<Action<A, R, K>, A>, AllocError>
+) -> RowResult<A, R, K>
     ensures row { IfOk result (λ actions.
         Then state.now actions.items ≡ status_lines state.now (map text_of lines.items)) }
 {
@@ -64,7 +64,7 @@ fn report_lines<A: Allocator + Clone, R: Drop, K: Drop>(
 fn report_line<A: Allocator + Clone, R: Drop, K: Drop>(
     state: &State<A>,
     line: LineText<A>,
-) -> Result<Vec<Action<A, R, K>, A>, AllocError>
+) -> RowResult<A, R, K>
     ensures row { IfOk result (λ actions.
         Then state.now actions.items ≡ status_lines state.now (text_of line ∷ [])) }
 {
@@ -81,7 +81,7 @@ pub(crate) fn report_entries<A: Allocator + Clone, R: Drop, K: Drop>(
     style: Style,
     way: Way,
     entries: &[ListedEntry<A>],
-) -> Result<Vec<Action<A, R, K>, A>, AllocError>
+) -> RowResult<A, R, K>
     ensures listed { IfOk result (λ actions. IsListed users.now.users state.old style way
         above.now (map entry_of entries.now) state.new actions.items) }
     ensures unchanged { OnErr result (state.new ≡ state.old) }
@@ -106,7 +106,7 @@ pub(crate) fn report_file<A: Allocator + Clone, R: Drop, K: Drop>(
     style: Style,
     way: Way,
     meta: &Meta,
-) -> Result<Vec<Action<A, R, K>, A>, AllocError>
+) -> RowResult<A, R, K>
     ensures listed { IfOk result (λ actions. IsListed users.now.users state.old style way
         path.now (itself path.now meta.now) state.new actions.items) }
     ensures unchanged { OnErr result (state.new ≡ state.old) }

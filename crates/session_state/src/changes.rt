@@ -4,7 +4,7 @@ ghost use Rattle.std.specs.Prelude.{◌≡◌, ◌-◌, [], Some, None, MatchOpt
 
 use crate::state::State;
 use ftp_terms::{DataType, Facts};
-use session_table::{Control, Errand, Passive, Stage, Text, Work};
+use session_table::{Control, Passive, Stage, Text, TransferContent, Work};
 use std::alloc::Allocator;
 use std::mem;
 use virtual_path::VPath;
@@ -147,12 +147,12 @@ impl<A: Allocator> State<A> {
     }
 
     /// Begins a transfer, which uses up the prepared data connection.
-    pub fn begin(&mut self, errand: Errand<VPath<A>>)
+    pub fn begin(&mut self, content: TransferContent<VPath<A>>)
         ensures begun { self.new
-            ≡ record self.old { prepared = false; work = Transfers errand } }
+            ≡ record self.old { prepared = false; work = Transfers content } }
     {
         self.prepared = false;
-        self.work = Work::Transfers(errand);
+        self.work = Work::Transfers(content);
     }
 
     /// Aborts a running transfer; its end is still to come.
@@ -160,7 +160,7 @@ impl<A: Allocator> State<A> {
         ensures aborted { self.new ≡ record self.old { work = aborted self.old.work } }
     {
         self.work = match mem::replace(&mut self.work, Work::Idle) {
-            Work::Transfers(errand) => Work::Aborted(errand),
+            Work::Transfers(content) => Work::Aborted(content),
             other => other,
         };
     }
@@ -173,14 +173,14 @@ impl<A: Allocator> State<A> {
     }
 
     /// Ends a transfer, aborted or not. Returns its content; None if no transfer runs.
-    pub fn end_transfer(&mut self) -> Option<Errand<VPath<A>>>
-        ensures errand { result ≡ running self.old.work }
+    pub fn end_transfer(&mut self) -> Option<TransferContent<VPath<A>>>
+        ensures content { result ≡ running self.old.work }
         ensures ended { MatchOption result
             (self.new ≡ self.old)
-            (λ errand. self.new ≡ record self.old { work = Idle }) }
+            (λ content. self.new ≡ record self.old { work = Idle }) }
     {
         match mem::replace(&mut self.work, Work::Idle) {
-            Work::Transfers(errand) | Work::Aborted(errand) => Some(errand),
+            Work::Transfers(content) | Work::Aborted(content) => Some(content),
             Work::AwaitsPort(passive) => {
                 self.work = Work::AwaitsPort(passive);
                 None

@@ -3,7 +3,7 @@
 ghost use Rattle.std.specs.Prelude.{◌≡◌, ◌<◌, ◌≤◌, ◌+◌, [], ◌∷◌, ◌++◌, cond, IfOk, vec_len, vec_capacity};
 ghost use Rattle.session_state.specs.Waiting.{if_quitting};
 ghost use Rattle.session_table.specs.Plans.Plan.{Then};
-ghost use Rattle.session_table.specs.StateRows.{farewell, parts};
+ghost use Rattle.session_table.specs.StateRows.{goodbye_reply, parts};
 ghost use Rattle.session_table.specs.declared.actions.Action.TheVariants.{Abort, Hook, ReleaseFloor};
 ghost use Rattle.session_table.specs.declared.actions.HookCall.TheVariants.{Logout};
 
@@ -51,7 +51,7 @@ fn quit_reply<A: Allocator + Clone>(
     state: &State<A>,
     users: &Authorizer<A>,
 ) -> Result<Answer<A>, AllocError>
-    ensures reply { IfOk result (λ reply. reply ≡ farewell users.now.users state.now) }
+    ensures reply { IfOk result (λ reply. reply ≡ goodbye_reply users.now.users state.now) }
 {
     if !state.is_inside() {
         return Ok(Answer::Notice(Notice::Goodbye));
@@ -64,63 +64,64 @@ fn quit_reply<A: Allocator + Clone>(
 
 /// The reply to QUIT, made before anything is changed.
 #[derive(Drop)]
-pub struct Farewell<A: Allocator> {
+pub struct GoodbyeReply<A: Allocator> {
     reply: Answer<A>,
     nobody: Text<A>,
 }
 
-impl<A: Allocator> Model for Farewell<A> {
+impl<A: Allocator> Model for GoodbyeReply<A> {
     ghost use Rattle.std.specs.Prelude.{◌≡◌, []};
     ghost use Rattle.session_table.specs.declared.answers.Answer.{Answer};
 
     ghost Value = { Answer A };
 
-    ghost view = { λ farewell. farewell.reply };
+    ghost view = { λ goodbye_reply. goodbye_reply.reply };
 
-    ghost invariant = { λ farewell. farewell.nobody ≡ [] };
+    ghost invariant = { λ goodbye_reply. goodbye_reply.nobody ≡ [] };
 }
 
-impl<A: Allocator + Clone> Farewell<A> {
+impl<A: Allocator + Clone> GoodbyeReply<A> {
     /// The reply to QUIT: the user's message, or `Goodbye`.
-    pub fn new(state: &State<A>, users: &Authorizer<A>) -> Result<Farewell<A>, AllocError>
-        ensures reply { IfOk result (λ reply. reply ≡ farewell users.now.users state.now) }
+    pub fn new(state: &State<A>, users: &Authorizer<A>) -> Result<GoodbyeReply<A>, AllocError>
+        ensures reply { IfOk result (λ reply. reply ≡ goodbye_reply users.now.users state.now) }
     {
         let nobody = Text::empty(state.alloc()?);
         let reply = quit_reply(state, users)?;
-        Ok(Farewell { reply, nobody })
+        Ok(GoodbyeReply { reply, nobody })
     }
 
     /// The reply to a QUIT that waits; `None` if none waits.
     pub fn if_waiting(
         state: &State<A>,
         users: &Authorizer<A>,
-    ) -> Result<Option<Farewell<A>>, AllocError>
+    ) -> Result<Option<GoodbyeReply<A>>, AllocError>
         ensures reply { IfOk result (λ reply.
-            reply ≡ if_quitting state.now.control (farewell users.now.users state.now)) }
+            reply ≡ if_quitting state.now.control (goodbye_reply users.now.users state.now)) }
     {
         match state.control() {
             Control::Open | Control::Closing => Ok(None),
             Control::Quitting => {
-                let farewell = Farewell::new(state, users)?;
-                Ok(Some(farewell))
+                let goodbye_reply = GoodbyeReply::new(state, users)?;
+                Ok(Some(goodbye_reply))
             }
         }
     }
 }
 
 /// Appends the farewell to other actions: the reply, the leave of the user, and the close.
-pub fn push_farewell<A: Allocator + Clone, R: Drop, K: Drop>(
+pub fn push_goodbye_reply<A: Allocator + Clone, R: Drop, K: Drop>(
     state: &mut State<A>,
-    farewell: Farewell<A>,
+    goodbye_reply: GoodbyeReply<A>,
     actions: &mut Vec<Action<A, R, K>, A>,
 )
     requires room { vec_len actions.old + 4 ≤ vec_capacity actions.old }
-    ensures parts { Then state.new actions.new.items ≡ parts state.old farewell actions.old.items }
+    ensures parts { Then state.new actions.new.items
+        ≡ parts state.old goodbye_reply actions.old.items }
 {
     let was_inside = state.is_inside();
     let number = state.number();
-    let name = state.log_out(farewell.nobody);
-    push_reserved(actions, Action::Say(farewell.reply));
+    let name = state.log_out(goodbye_reply.nobody);
+    push_reserved(actions, Action::Say(goodbye_reply.reply));
     push_logout(actions, was_inside, name, number);
     push_reserved(actions, Action::CloseControl);
 }

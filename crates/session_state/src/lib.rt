@@ -17,7 +17,7 @@ mod room;
 mod state;
 
 pub use answers::{copied, made, path_answer};
-pub use leaving::{Farewell, push_abort, push_farewell, push_logout};
+pub use leaving::{GoodbyeReply, push_abort, push_goodbye_reply, push_logout};
 pub use location::Location;
-pub use room::{push_reserved, room_for, with_room};
+pub use room::{RowResult, push_reserved, room_for, with_room};
 pub use state::State;

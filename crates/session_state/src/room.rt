@@ -6,6 +6,9 @@ use crate::state::State;
 use session_table::Action;
 use std::alloc::{AllocError, Allocator};
 
+/// The actions of a row of the session table, or lack of memory.
+pub type RowResult<A, R, K> = Result<Vec<Action<A, R, K>, A>, AllocError>;
+
 /// An empty list with room for `count` items.
 pub fn with_room<T, A: Allocator>(alloc: A, count: usize) -> Result<Vec<T, A>, AllocError>
     ensures empty { IfOk result (λ items. items.items ≡ []) }
@@ -32,7 +35,7 @@ pub fn push_reserved<T: Drop, A: Allocator>(items: &mut Vec<T, A>, item: T)
 pub fn room_for<A: Allocator + Clone, R: Drop, K: Drop>(
     state: &State<A>,
     count: usize,
-) -> Result<Vec<Action<A, R, K>, A>, AllocError>
+) -> RowResult<A, R, K>
     ensures empty { IfOk result (λ actions. actions.items ≡ []) }
     ensures len { IfOk result (λ actions. vec_len actions ≡ 0) }
     ensures room { IfOk result (λ actions. vec_capacity actions ≡ count) }

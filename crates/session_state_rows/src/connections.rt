@@ -6,9 +6,9 @@ ghost use Rattle.session_table.specs.StateRows.{abor_row, eprt_row, epsv_row, op
 ghost use Rattle.ftp_wire.specs.declared.commands.ExtendedPassive.TheVariants.{All};
 
 use ftp_wire::{ExtendedPassive, ExtendedPort, HostPort};
-use session_state::{State, push_reserved, with_room};
+use session_state::{RowResult, State, push_reserved, with_room};
 use session_table::{Action, Answer, Notice, Passive, Refusal};
-use std::alloc::{AllocError, Allocator};
+use std::alloc::Allocator;
 
 /// The refusal of an address for data connections, if any.
 #[tactic(auto, unfolding(session_table::specs::StateRows::port_refusal))]
@@ -28,7 +28,7 @@ fn port_refusal<A: Allocator + Clone>(state: &State<A>, to: HostPort) -> Option<
 pub fn port_row<A: Allocator + Clone, R: Drop, K: Drop>(
     state: &mut State<A>,
     to: HostPort,
-) -> Result<Vec<Action<A, R, K>, A>, AllocError>
+) -> RowResult<A, R, K>
     ensures row { IfOk result (λ actions. Then state.new actions.items ≡ port_row state.old to) }
     ensures unchanged { OnErr result (state.new ≡ state.old) }
 {
@@ -46,7 +46,7 @@ pub fn port_row<A: Allocator + Clone, R: Drop, K: Drop>(
 pub fn eprt_row<A: Allocator + Clone, R: Drop, K: Drop>(
     state: &mut State<A>,
     to: ExtendedPort,
-) -> Result<Vec<Action<A, R, K>, A>, AllocError>
+) -> RowResult<A, R, K>
     ensures row { IfOk result (λ actions. Then state.new actions.items ≡ eprt_row state.old to) }
     ensures unchanged { OnErr result (state.new ≡ state.old) }
 {
@@ -60,7 +60,7 @@ pub fn eprt_row<A: Allocator + Clone, R: Drop, K: Drop>(
 fn opens<A: Allocator + Clone, R: Drop, K: Drop>(
     state: &mut State<A>,
     passive: Passive,
-) -> Result<Vec<Action<A, R, K>, A>, AllocError>
+) -> RowResult<A, R, K>
     ensures row { IfOk result (λ actions.
         Then state.new actions.items ≡ opens state.old passive) }
     ensures unchanged { OnErr result (state.new ≡ state.old) }
@@ -72,9 +72,7 @@ fn opens<A: Allocator + Clone, R: Drop, K: Drop>(
 }
 
 /// PASV (RFC 959, section 4.1.2).
-pub fn pasv_row<A: Allocator + Clone, R: Drop, K: Drop>(
-    state: &mut State<A>,
-) -> Result<Vec<Action<A, R, K>, A>, AllocError>
+pub fn pasv_row<A: Allocator + Clone, R: Drop, K: Drop>(state: &mut State<A>) -> RowResult<A, R, K>
     ensures row { IfOk result (λ actions. Then state.new actions.items ≡ pasv_row state.old) }
     ensures unchanged { OnErr result (state.new ≡ state.old) }
 {
@@ -82,9 +80,7 @@ pub fn pasv_row<A: Allocator + Clone, R: Drop, K: Drop>(
 }
 
 /// EPSV ALL (RFC 2428, section 4).
-fn forbid_plain<A: Allocator + Clone, R: Drop, K: Drop>(
-    state: &mut State<A>,
-) -> Result<Vec<Action<A, R, K>, A>, AllocError>
+fn forbid_plain<A: Allocator + Clone, R: Drop, K: Drop>(state: &mut State<A>) -> RowResult<A, R, K>
     ensures row { IfOk result (λ actions.
         Then state.new actions.items ≡ epsv_row state.old All) }
     ensures unchanged { OnErr result (state.new ≡ state.old) }
@@ -98,7 +94,7 @@ fn forbid_plain<A: Allocator + Clone, R: Drop, K: Drop>(
 pub fn epsv_row<A: Allocator + Clone, R: Drop, K: Drop>(
     state: &mut State<A>,
     wanted: ExtendedPassive,
-) -> Result<Vec<Action<A, R, K>, A>, AllocError>
+) -> RowResult<A, R, K>
     ensures row { IfOk result (λ actions.
         Then state.new actions.items ≡ epsv_row state.old wanted) }
     ensures unchanged { OnErr result (state.new ≡ state.old) }
@@ -116,9 +112,7 @@ pub fn epsv_row<A: Allocator + Clone, R: Drop, K: Drop>(
 }
 
 /// ABOR (RFC 959, section 4.1.3). An aborted transfer counts as none.
-pub fn abor_row<A: Allocator + Clone, R: Drop, K: Drop>(
-    state: &mut State<A>,
-) -> Result<Vec<Action<A, R, K>, A>, AllocError>
+pub fn abor_row<A: Allocator + Clone, R: Drop, K: Drop>(state: &mut State<A>) -> RowResult<A, R, K>
     ensures row { IfOk result (λ actions. Then state.new actions.items ≡ abor_row state.old) }
     ensures unchanged { OnErr result (state.new ≡ state.old) }
 {

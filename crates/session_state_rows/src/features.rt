@@ -11,8 +11,8 @@ ghost use Rattle.session_table.specs.declared.answers.Answer.TheVariants.{Made};
 use ftp_reply::{Reply, ReplyCode};
 use ftp_terms::{Facts, LineText};
 use ftp_wire::{FeatureOption, facts_text, starred_facts_text};
-use session_state::{State, made, push_reserved, with_room};
-use session_table::{Action, Answer, Notice};
+use session_state::{RowResult, State, made, push_reserved, with_room};
+use session_table::{Answer, Notice};
 use std::alloc::{AllocError, Allocator};
 
 fn has_facts(facts: Facts) -> bool
@@ -61,9 +61,7 @@ fn features_answer<A: Allocator + Clone>(alloc: A, facts: Facts) -> Result<Answe
 }
 
 /// FEAT (RFC 2389, section 3).
-pub fn feat_row<A: Allocator + Clone, R: Drop, K: Drop>(
-    state: &State<A>,
-) -> Result<Vec<Action<A, R, K>, A>, AllocError>
+pub fn feat_row<A: Allocator + Clone, R: Drop, K: Drop>(state: &State<A>) -> RowResult<A, R, K>
     ensures row { IfOk result (λ actions. Then state.now actions.items ≡ feat_row state.now) }
 {
     let answer = features_answer(state.alloc()?, state.facts())?;
@@ -73,7 +71,7 @@ pub fn feat_row<A: Allocator + Clone, R: Drop, K: Drop>(
 fn facts_row<A: Allocator + Clone, R: Drop, K: Drop>(
     state: &mut State<A>,
     facts: Facts,
-) -> Result<Vec<Action<A, R, K>, A>, AllocError>
+) -> RowResult<A, R, K>
     ensures row { IfOk result (λ actions.
         Then state.new actions.items ≡ facts_row state.old facts) }
     ensures unchanged { OnErr result (state.new ≡ state.old) }
@@ -88,7 +86,7 @@ fn facts_row<A: Allocator + Clone, R: Drop, K: Drop>(
 pub fn opts_row<A: Allocator + Clone, R: Drop, K: Drop>(
     state: &mut State<A>,
     wanted: FeatureOption,
-) -> Result<Vec<Action<A, R, K>, A>, AllocError>
+) -> RowResult<A, R, K>
     ensures row { IfOk result (λ actions.
         Then state.new actions.items ≡ opts_row state.old wanted) }
     ensures unchanged { OnErr result (state.new ≡ state.old) }

@@ -11,7 +11,7 @@ ghost use Rattle.session_table.specs.declared.answers.Answer.TheVariants.{Made};
 
 use authorizer::Authorizer;
 use rate_floors::Floors;
-use session_state::{State, copied, push_reserved, room_for};
+use session_state::{RowResult, State, copied, push_reserved, room_for};
 use session_table::{Action, Answer, HookCall, Refusal, Stage, Text};
 use std::alloc::{AllocError, Allocator};
 
@@ -38,7 +38,7 @@ fn name_of<A: Allocator + Clone>(state: &State<A>) -> Result<Text<A>, AllocError
 fn welcomed<A: Allocator + Clone, R: Drop, K: Drop>(
     state: &State<A>,
     users: &Authorizer<A>,
-) -> Result<Vec<Action<A, R, K>, A>, AllocError>
+) -> RowResult<A, R, K>
     ensures actions { IfOk result (λ actions. actions.items
         ≡ Say (Made (OneLine 230 (login_message users.now.users state.now.name)))
         ∷ Hook (Login state.now.name) ∷ []) }
@@ -52,9 +52,7 @@ fn welcomed<A: Allocator + Clone, R: Drop, K: Drop>(
 }
 
 /// Refuses a login whose guaranteed rate does not fit.
-fn not_admitted<A: Allocator + Clone, R: Drop, K: Drop>(
-    state: &State<A>,
-) -> Result<Vec<Action<A, R, K>, A>, AllocError>
+fn not_admitted<A: Allocator + Clone, R: Drop, K: Drop>(state: &State<A>) -> RowResult<A, R, K>
     ensures actions { IfOk result (λ actions. actions.items
         ≡ Say (Answer.Refusal Refusal.NoGuarantee) ∷ CloseControl ∷ []) }
 {
@@ -101,7 +99,7 @@ fn enter<A: Allocator + Clone, F: Allocator + Clone, R: Drop, K: Drop>(
     state: &mut State<A>,
     users: &Authorizer<A>,
     floors: &mut Floors<F>,
-) -> Result<Vec<Action<A, R, K>, A>, AllocError>
+) -> RowResult<A, R, K>
     ensures row { IfOk result (λ actions.
         RanByFloors
         (AskAdmit (number_of users.now.users state.old.name) (enters users.now.users state.old))
@@ -140,9 +138,7 @@ fn lose_attempt<A: Allocator + Clone, R: Drop, K: Drop>(
 }
 
 /// Takes a wrong password.
-fn turn_away<A: Allocator + Clone, R: Drop, K: Drop>(
-    state: &mut State<A>,
-) -> Result<Vec<Action<A, R, K>, A>, AllocError>
+fn turn_away<A: Allocator + Clone, R: Drop, K: Drop>(state: &mut State<A>) -> RowResult<A, R, K>
     ensures row { IfOk result (λ actions. Then state.new actions.items ≡ turned_away state.old) }
     ensures unchanged { OnErr result (state.new ≡ state.old) }
 {
@@ -159,7 +155,7 @@ pub fn pass_row<A: Allocator + Clone, F: Allocator + Clone, R: Drop, K: Drop>(
     users: &Authorizer<A>,
     floors: &mut Floors<F>,
     password: &str,
-) -> Result<Vec<Action<A, R, K>, A>, AllocError>
+) -> RowResult<A, R, K>
     ensures row { IfOk result (λ actions.
         RanByFloors (pass_row users.now.users state.old password.now)
         floors.old floors.new state.new actions.items) }

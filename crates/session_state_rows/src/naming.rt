@@ -7,7 +7,7 @@ ghost use Rattle.session_table.specs.StateRows.{greeting, rein_row, restarts, us
 ghost use Rattle.session_table.specs.declared.actions.Action.TheVariants.{DropData};
 ghost use Rattle.session_table.specs.declared.answers.Answer.TheVariants.{Made};
 
-use session_state::{State, copied, push_logout, push_reserved, room_for};
+use session_state::{RowResult, State, copied, push_logout, push_reserved, room_for};
 use session_table::{Action, Answer, HookCall, Notice, Stage, Text};
 use std::alloc::{AllocError, Allocator};
 use virtual_path::VPath;
@@ -50,7 +50,7 @@ fn restart<A: Allocator + Clone, R: Drop, K: Drop>(
 pub fn user_row<A: Allocator + Clone, R: Drop, K: Drop>(
     state: &mut State<A>,
     name: &str,
-) -> Result<Vec<Action<A, R, K>, A>, AllocError>
+) -> RowResult<A, R, K>
     ensures row { IfOk result (λ actions.
         Then state.new actions.items ≡ user_row state.old name.now) }
     ensures unchanged { OnErr result (state.new ≡ state.old) }
@@ -70,9 +70,7 @@ fn banner_reply<A: Allocator + Clone>(state: &State<A>) -> Result<Answer<A>, All
 }
 
 /// REIN (RFC 959, section 4.1.1).
-pub fn rein_row<A: Allocator + Clone, R: Drop, K: Drop>(
-    state: &mut State<A>,
-) -> Result<Vec<Action<A, R, K>, A>, AllocError>
+pub fn rein_row<A: Allocator + Clone, R: Drop, K: Drop>(state: &mut State<A>) -> RowResult<A, R, K>
     ensures row { IfOk result (λ actions. Then state.new actions.items ≡ rein_row state.old) }
     ensures unchanged { OnErr result (state.new ≡ state.old) }
 {
@@ -85,9 +83,7 @@ pub fn rein_row<A: Allocator + Clone, R: Drop, K: Drop>(
 }
 
 /// Makes the greeting (RFC 959, section 5.4).
-pub fn greeting<A: Allocator + Clone, R: Drop, K: Drop>(
-    state: &State<A>,
-) -> Result<Vec<Action<A, R, K>, A>, AllocError>
+pub fn greeting<A: Allocator + Clone, R: Drop, K: Drop>(state: &State<A>) -> RowResult<A, R, K>
     ensures row { IfOk result (λ actions. Then state.now actions.items ≡ greeting state.now) }
 {
     let mut actions = room_for(state, 2)?;

@@ -8,15 +8,15 @@ ghost use Rattle.session_table.specs.StateRows.{needs_image, pwd_row, rest_row, 
 ghost use Rattle.session_table.specs.declared.answers.Answer.TheVariants.{Made};
 
 use ftp_terms::{DataType, LineText};
-use session_state::{State, made, path_answer};
-use session_table::{Action, Answer, Notice, Refusal};
+use session_state::{RowResult, State, made, path_answer};
+use session_table::{Answer, Notice, Refusal};
 use std::alloc::{AllocError, Allocator};
 
 /// TYPE (RFC 959, section 4.1.2).
 pub fn type_row<A: Allocator + Clone, R: Drop, K: Drop>(
     state: &mut State<A>,
     data_type: DataType,
-) -> Result<Vec<Action<A, R, K>, A>, AllocError>
+) -> RowResult<A, R, K>
     ensures row { IfOk result (λ actions.
         Then state.new actions.items ≡ type_row state.old data_type) }
     ensures unchanged { OnErr result (state.new ≡ state.old) }
@@ -45,7 +45,7 @@ fn needs_image<A: Allocator + Clone>(state: &State<A>, offset: u64) -> bool
 pub fn rest_row<A: Allocator + Clone, R: Drop, K: Drop>(
     state: &mut State<A>,
     offset: u64,
-) -> Result<Vec<Action<A, R, K>, A>, AllocError>
+) -> RowResult<A, R, K>
     ensures row { IfOk result (λ actions.
         Then state.new actions.items ≡ rest_row state.old offset) }
     ensures unchanged { OnErr result (state.new ≡ state.old) }
@@ -60,9 +60,7 @@ pub fn rest_row<A: Allocator + Clone, R: Drop, K: Drop>(
 }
 
 /// PWD (RFC 959, section 4.1.3 and appendix II).
-pub fn pwd_row<A: Allocator + Clone, R: Drop, K: Drop>(
-    state: &State<A>,
-) -> Result<Vec<Action<A, R, K>, A>, AllocError>
+pub fn pwd_row<A: Allocator + Clone, R: Drop, K: Drop>(state: &State<A>) -> RowResult<A, R, K>
     ensures row { IfOk result (λ actions. Then state.now actions.items ≡ pwd_row state.now) }
 {
     let answer = path_answer(state.alloc()?, state.cwd().text())?;
@@ -70,9 +68,7 @@ pub fn pwd_row<A: Allocator + Clone, R: Drop, K: Drop>(
 }
 
 /// STAT without an argument (RFC 959, section 4.1.3).
-pub fn status_row<A: Allocator + Clone, R: Drop, K: Drop>(
-    state: &State<A>,
-) -> Result<Vec<Action<A, R, K>, A>, AllocError>
+pub fn status_row<A: Allocator + Clone, R: Drop, K: Drop>(state: &State<A>) -> RowResult<A, R, K>
     ensures row { IfOk result (λ actions. Then state.now actions.items ≡ status_row state.now) }
 {
     if state.has_transfer() {

@@ -26,8 +26,8 @@ use Rattle.session_table.specs.declared.stages.Control.{Control}
 use Rattle.session_table.specs.declared.stages.Control.TheVariants.{Open, Quitting, Closing}
 use Rattle.session_table.specs.declared.rules.NamedRow.{NamedRow}
 use Rattle.session_table.specs.declared.rules.NamedRow.TheVariants as row
-use Rattle.session_table.specs.declared.stages.Errand.{Errand}
-use Rattle.session_table.specs.declared.stages.Errand.TheVariants.{Listing as listing, Sending, Taking}
+use Rattle.session_table.specs.declared.stages.TransferContent.{TransferContent}
+use Rattle.session_table.specs.declared.stages.TransferContent.TheVariants.{Listing as listing, Sending, Taking}
 use Rattle.session_table.specs.declared.stages.Passive.{Passive}
 use Rattle.session_table.specs.declared.stages.Work.{Work}
 use Rattle.session_table.specs.declared.stages.Work.TheVariants.{Idle}
@@ -48,7 +48,7 @@ module _ (A R K : Type 0) where
   saying : (reply : Answer A) → Quiet A R K (action.Say reply ∷ [])
   saying reply = record { starts_none = refl; asks_none = refl; releases_none = refl }
 
-  hooking : (errand : Errand Path) (end : End) → Quiet A R K (end_hook errand end)
+  hooking : (content : TransferContent Path) (end : End) → Quiet A R K (end_hook content end)
   hooking listing end = none
   hooking (Sending path) ended.Done = record { starts_none = refl; asks_none = refl; releases_none = refl }
   hooking (Sending path) _ = record { starts_none = refl; asks_none = refl; releases_none = refl }
@@ -123,9 +123,9 @@ module _ (A R K : Type 0) where
       floors = inr (gone_releases view (runs view.work) (is_inside view.stage), refl);
     }
 
-    end_fine : (errand : Errand Path) (aborted : Bool) (end : End) (finished : Result (Unit {0}) StoreFault) → Always C U E [] (end_row users view errand aborted end finished)
-    end_fine errand aborted end finished = always_cond C U E (is_closed view.stage) _ _ (stays A R K view _ 0 [] none refl)
-        (quits Idle view.prepared _ view.control (quiet_then A R K (end_reply view.control aborted (end_reported end finished)) (end_hook errand end) (replying view.control aborted _) (hooking errand end)))
+    end_fine : (content : TransferContent Path) (aborted : Bool) (end : End) (finished : Result (Unit {0}) StoreFault) → Always C U E [] (end_row users view content aborted end finished)
+    end_fine content aborted end finished = always_cond C U E (is_closed view.stage) _ _ (stays A R K view _ 0 [] none refl)
+        (quits Idle view.prepared _ view.control (quiet_then A R K (end_reply view.control aborted (end_reported end finished)) (end_hook content end) (replying view.control aborted _) (hooking content end)))
 
   abbrev over : End → Option K → Input A K
   over end sink = input.TransferEnded end sink
@@ -134,15 +134,15 @@ module _ (A R K : Type 0) where
       → Always (IsRightful users view held moment (over end sink)) U (Fine A R K view 0) [] (ended_row users view moment end sink)
   ended_fine U users view held moment end sink = by sink (running view.work)
     where
-      with : (sink : Option K) (errand : Errand Path)
-          → Always (IsRightful users view held moment (over end sink)) U (Fine A R K view 0) [] (ended_with users view moment errand (is_aborted view.work) end sink)
-      with (Some sink) errand = (inl (refl, refl), λ answer. end_fine (IsRightful users view held moment (over end (Some sink))) U users view errand (is_aborted view.work) end answer)
-      with None errand = end_fine (IsRightful users view held moment (over end None)) U users view errand (is_aborted view.work) end (Ok tt)
+      with : (sink : Option K) (content : TransferContent Path)
+          → Always (IsRightful users view held moment (over end sink)) U (Fine A R K view 0) [] (ended_with users view moment content (is_aborted view.work) end sink)
+      with (Some sink) content = (inl (refl, refl), λ answer. end_fine (IsRightful users view held moment (over end (Some sink))) U users view content (is_aborted view.work) end answer)
+      with None content = end_fine (IsRightful users view held moment (over end None)) U users view content (is_aborted view.work) end (Ok tt)
 
-      by : (sink : Option K) (errand : Option (Errand Path))
-          → Always (IsRightful users view held moment (over end sink)) U (Fine A R K view 0) [] (ended_by users view moment end sink errand)
+      by : (sink : Option K) (content : Option (TransferContent Path))
+          → Always (IsRightful users view held moment (over end sink)) U (Fine A R K view 0) [] (ended_by users view moment end sink content)
       by sink None = stays A R K view view 0 [] none refl
-      by sink (Some errand) = with sink errand
+      by sink (Some content) = with sink content
 
   -- ---- lines
 

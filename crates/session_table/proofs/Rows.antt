@@ -35,7 +35,7 @@ use Rattle.session_table.specs.declared.rules.NamedRow.TheVariants as row
 use Rattle.session_table.specs.declared.rules.Rule.{Rule}
 use Rattle.session_table.specs.declared.rules.Style.{Style}
 use Rattle.session_table.specs.declared.rules.Style.TheVariants.{LongLines, Names, FactLines}
-use Rattle.session_table.specs.declared.stages.Errand.{Errand}
+use Rattle.session_table.specs.declared.stages.TransferContent.{TransferContent}
 use Rattle.session_table.specs.declared.stages.Passive.{Passive}
 use Rattle.session_table.specs.declared.stages.Passive.TheVariants.{Plain, Extended}
 use Rattle.session_table.specs.declared.notices.Notice.TheVariants as notice
@@ -47,7 +47,7 @@ use Rattle.session_table.specs.FileRows.{by_kind, cwd_row, dele_row, is_root, md
 use Rattle.session_table.specs.Judged.{Location, at_location, at_once, first_refusal, from_home, home_of, judged_at, located, stored_at, unless_refused}
 use Rattle.session_table.specs.Plans.{Plan}
 use Rattle.session_table.specs.Plans.Plan.{AskAdmit}
-use Rattle.session_table.specs.StateRows.{abor_row, enters, eprt_row, epsv_row, farewell, is_ascii, is_last_attempt, leaves, needs_image, number_of, opens, opts_row, pass_by, port_by, port_refusal, quit_row, refuses, rest_row, turned_away}
+use Rattle.session_table.specs.StateRows.{abor_row, enters, eprt_row, epsv_row, goodbye_reply, is_ascii, is_last_attempt, leaves, needs_image, number_of, opens, opts_row, pass_by, port_by, port_refusal, quit_row, refuses, rest_row, turned_away}
 use Rattle.session_table.specs.Rules.{at_found, file_row, login_row, row_plan, state_row}
 use Rattle.session_table.specs.Rules.{Line, rule}
 use Rattle.session_table.specs.Table.{left, ruled, served, unless_refuses}
@@ -282,7 +282,7 @@ module _ (A R K : Type 0) where
     abor_fine = always_cond C U E (has_transfer view.work) _ _ (record { unprepared = λ _. refl; asks = omega arith; floors = inl (refl, refl) }) (reported _ _ _ refl)
 
     quit_fine : (users : Users) → Always C U E [] (quit_row users view)
-    quit_fine users = parting view _ 1 (farewell users view) [] quiet_none refl
+    quit_fine users = parting view _ 1 (goodbye_reply users view) [] quiet_none refl
 
     nobody_named : view.stage ≡ stage.Named → logged_in view ≡ []
     nobody_named is = ap (λ at. cond (is_inside at) (view.number ∷ []) []) is
@@ -377,8 +377,8 @@ module _ (A R K : Type 0) where
     -- ---- transfers
 
     module _ (prepared : view.prepared ≡ true) where
-      starting_fine : (errand : Errand Path) (what : Job A R K) → Always Calls U Ends [] (starts view errand what)
-      starting_fine errand what = record { unprepared = λ not. absurd (true≢false (sym prepared ∙ not)); asks = omega arith; floors = inl (refl, refl) }
+      starting_fine : (content : TransferContent Path) (what : Job A R K) → Always Calls U Ends [] (starts view content what)
+      starting_fine content what = record { unprepared = λ not. absurd (true≢false (sym prepared ∙ not)); asks = omega arith; floors = inl (refl, refl) }
 
       list_fine : (style : Style) → Always Calls U Ends [] (list_row users view style location)
       list_fine style = (allowed, answered _ (λ meta. of_kind _ _ (listed style (sends_lines view) (λ lines. starting_fine _ _)) (λ lines. starting_fine _ _) meta.kind))

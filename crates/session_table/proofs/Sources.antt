@@ -22,7 +22,7 @@ use Rattle.session_table.specs.declared.stages.Control.{Control}
 use Rattle.session_table.specs.declared.stages.Control.TheVariants.{Open, Quitting, Closing}
 use Rattle.session_table.specs.declared.notices.Notice.TheVariants as notice
 use Rattle.session_table.specs.declared.rules.Rule.{Rule}
-use Rattle.session_table.specs.declared.stages.Errand.{Errand}
+use Rattle.session_table.specs.declared.stages.TransferContent.{TransferContent}
 use Rattle.session_table.specs.declared.stages.Passive.{Passive}
 use Rattle.session_table.specs.declared.stages.Work.{Work}
 use Rattle.session_table.specs.declared.stages.Work.TheVariants.{Idle}
@@ -142,20 +142,20 @@ module _ (A R K : Type 0) (users : Users) (view : View) where
       by None = stays users view b
       by (Some passive) = at passive port
 
-  end_named : (b : Bool) (errand : Errand Path) (aborted : Bool) (end : End) (finished : Result (Unit {0}) StoreFault)
-      → Within (cond b None None) (end_row users view errand aborted end finished)
-  end_named b errand aborted end finished = always_cond C U (E (cond b None None)) (is_closed view.stage) _ _ (stays users view b) (quits b Idle view.prepared _ view.control)
+  end_named : (b : Bool) (content : TransferContent Path) (aborted : Bool) (end : End) (finished : Result (Unit {0}) StoreFault)
+      → Within (cond b None None) (end_row users view content aborted end finished)
+  end_named b content aborted end finished = always_cond C U (E (cond b None None)) (is_closed view.stage) _ _ (stays users view b) (quits b Idle view.prepared _ view.control)
 
   ended_named : (b : Bool) (moment : ℕ) (end : End) (sink : Option K) → Within (cond b None None) (ended_row users view moment end sink)
   ended_named b moment end sink = by sink (running view.work)
     where
-      with : (sink : Option K) (errand : Errand Path) → Within (cond b None None) (ended_with users view moment errand (is_aborted view.work) end sink)
-      with (Some sink) errand = (tt, λ answer. end_named b errand (is_aborted view.work) end answer)
-      with None errand = end_named b errand (is_aborted view.work) end (Ok tt)
+      with : (sink : Option K) (content : TransferContent Path) → Within (cond b None None) (ended_with users view moment content (is_aborted view.work) end sink)
+      with (Some sink) content = (tt, λ answer. end_named b content (is_aborted view.work) end answer)
+      with None content = end_named b content (is_aborted view.work) end (Ok tt)
 
-      by : (sink : Option K) (errand : Option (Errand Path)) → Within (cond b None None) (ended_by users view moment end sink errand)
+      by : (sink : Option K) (content : Option (TransferContent Path)) → Within (cond b None None) (ended_by users view moment end sink content)
       by sink None = stays users view b
-      by sink (Some errand) = with sink errand
+      by sink (Some content) = with sink content
 
   module _ (held : List Item) (moment : ℕ) where
     abbrev Taking : Input A K → Type 0

@@ -84,13 +84,13 @@ module _ {A : Type 0} where
       (answer.Notice notice.NoFactsInForce)
 
   -- the reply to QUIT, by the user's message; a removed user has none
-  abbrev pub farewell_of : Option (List ℕ) → Answer A
-  farewell_of None = answer.Notice notice.Goodbye
-  farewell_of (Some message) = answer.Made (OneLine 221 message)
+  abbrev pub goodbye_reply_of : Option (List ℕ) → Answer A
+  goodbye_reply_of None = answer.Notice notice.Goodbye
+  goodbye_reply_of (Some message) = answer.Made (OneLine 221 message)
 
-  abbrev pub farewell : Users → View → Answer A
-  farewell users view =
-      cond (is_inside view.stage) (farewell_of (quit_message users view.name))
+  abbrev pub goodbye_reply : Users → View → Answer A
+  goodbye_reply users view =
+      cond (is_inside view.stage) (goodbye_reply_of (quit_message users view.name))
       (answer.Notice notice.Goodbye)
 
 module _ {A R K : Type 0} where
@@ -137,7 +137,7 @@ module _ {A R K : Type 0} where
       (before ++ (action.Say reply ∷ []) ++ leaves view ++ (action.CloseControl ∷ []))
 
   abbrev pub quit_row : Users → View → Plan A R K
-  quit_row users view = parts view (farewell users view) []
+  quit_row users view = parts view (goodbye_reply users view) []
 
   -- a right password: the session is admitted and counted, unless its guaranteed rate no longer
   -- fits

@@ -27,8 +27,8 @@ use Rattle.session_table.specs.declared.rules.Meanwhile.TheVariants.{Waits, Serv
 use Rattle.session_table.specs.declared.rules.Rule.{Rule}
 use Rattle.session_table.specs.declared.stages.Control.{Control}
 use Rattle.session_table.specs.declared.stages.Control.TheVariants.{Open, Quitting, Closing}
-use Rattle.session_table.specs.declared.stages.Errand.{Errand}
-use Rattle.session_table.specs.declared.stages.Errand.TheVariants.{Listing, Sending, Taking}
+use Rattle.session_table.specs.declared.stages.TransferContent.{TransferContent}
+use Rattle.session_table.specs.declared.stages.TransferContent.TheVariants.{Listing, Sending, Taking}
 use Rattle.session_table.specs.declared.stages.Passive.{Passive}
 use Rattle.session_table.specs.declared.stages.Passive.TheVariants.{Plain, Extended}
 use Rattle.session_table.specs.declared.stages.Stage.TheVariants as stage
@@ -38,7 +38,7 @@ use Rattle.session_table.specs.Judged.{at_once, first_refusal}
 use Rattle.session_table.specs.Plans.{Plan}
 use Rattle.session_table.specs.Plans.Plan.{Then, WithLine, WithLines, Ask, AskAdmit}
 use Rattle.session_table.specs.Rules.{meanwhile_of, row_plan, rule}
-use Rattle.session_table.specs.StateRows.{farewell, leaves, parts, refuses}
+use Rattle.session_table.specs.StateRows.{goodbye_reply, leaves, parts, refuses}
 use Rattle.session_table.specs.Views.{View, awaited, awaits_ports, counts_lines, is_aborted, is_busy, is_closed, is_inside, running, runs, serves_lines}
 
 -- maximum number of held lines
@@ -159,7 +159,7 @@ module _ {A R K : Type 0} where
   -- a QUIT that waited is served after these actions
   abbrev pub and_quits : Users → View → List (Action A R K) → Control → Plan A R K
   and_quits users view actions Open = Then view actions
-  and_quits users view actions Quitting = parts view (farewell users view) actions
+  and_quits users view actions Quitting = parts view (goodbye_reply users view) actions
   and_quits users view actions Closing = Then view actions
 
   abbrev pub ready_as : Users → View → Passive → Option ℕ → Plan A R K
@@ -182,7 +182,7 @@ module _ {A R K : Type 0} where
   ready_at users view port = cond (awaits_ports view) (ready_row users view port) (idle view)
 
   -- the event for a handler at the end of a transfer of a file
-  abbrev pub end_hook : Errand Path → End → List (Action A R K)
+  abbrev pub end_hook : TransferContent Path → End → List (Action A R K)
   end_hook Listing end = []
   end_hook (Sending path) ended.Done = action.Hook (hook.FileSent path) ∷ []
   end_hook (Sending path) _ = action.Hook (hook.IncompleteFileSent path) ∷ []
@@ -196,26 +196,28 @@ module _ {A R K : Type 0} where
   end_reply Quitting aborted reply = cond aborted [] (action.Say reply ∷ [])
 
   -- after Closed there is no client
-  abbrev pub end_row : Users → View → Errand Path → Bool → End → Result (Unit {0}) StoreFault
-      → Plan A R K
-  end_row users view errand aborted end finished =
+  abbrev pub end_row : Users → View → TransferContent Path → Bool → End
+      → Result (Unit {0}) StoreFault → Plan A R K
+  end_row users view content aborted end finished =
       cond (is_closed view.stage) (Then (record view { work = Idle }) [])
       (and_quits users (record view { work = Idle })
-      (end_reply view.control aborted (end_reported end finished) ++ end_hook errand end)
+      (end_reply view.control aborted (end_reported end finished) ++ end_hook content end)
       view.control)
 
   -- a returned sink is finished in every case
-  abbrev pub ended_with : Users → View → ℕ → Errand Path → Bool → End → Option K → Plan A R K
-  ended_with users view moment errand aborted end (Some sink) =
-      Ask (Finish sink moment) (end_row users view errand aborted end)
-  ended_with users view moment errand aborted end None =
-      end_row users view errand aborted end (Ok tt)
+  abbrev pub ended_with :
+      Users → View → ℕ → TransferContent Path → Bool → End → Option K → Plan A R K
+  ended_with users view moment content aborted end (Some sink) =
+      Ask (Finish sink moment) (end_row users view content aborted end)
+  ended_with users view moment content aborted end None =
+      end_row users view content aborted end (Ok tt)
 
   -- an end that nothing awaits is not reported either
-  abbrev pub ended_by : Users → View → ℕ → End → Option K → Option (Errand Path) → Plan A R K
+  abbrev pub ended_by :
+      Users → View → ℕ → End → Option K → Option (TransferContent Path) → Plan A R K
   ended_by users view moment end sink None = idle view
-  ended_by users view moment end sink (Some errand) =
-      ended_with users view moment errand (is_aborted view.work) end sink
+  ended_by users view moment end sink (Some content) =
+      ended_with users view moment content (is_aborted view.work) end sink
 
   abbrev pub ended_row : Users → View → ℕ → End → Option K → Plan A R K
   ended_row users view moment end sink = ended_by users view moment end sink (running view.work)

@@ -19,8 +19,8 @@ use Rattle.session_table.specs.declared.notices.Notice.TheVariants as notice
 use Rattle.session_table.specs.declared.refusals.Refusal.TheVariants as refusal
 use Rattle.session_table.specs.declared.rules.Style.{Style}
 use Rattle.session_table.specs.declared.rules.Style.TheVariants.{LongLines, Names, FactLines}
-use Rattle.session_table.specs.declared.stages.Errand.{Errand}
-use Rattle.session_table.specs.declared.stages.Errand.TheVariants.{Listing, Sending, Taking}
+use Rattle.session_table.specs.declared.stages.TransferContent.{TransferContent}
+use Rattle.session_table.specs.declared.stages.TransferContent.TheVariants.{Listing, Sending, Taking}
 use Rattle.session_table.specs.declared.stages.Work.TheVariants.{Transfers}
 use Rattle.session_table.specs.Calls.{Call}
 use Rattle.session_table.specs.FileRows.{by_kind, unless_fault}
@@ -75,8 +75,8 @@ store_mode offset = cond (nat_lt 0 offset) (mode.At offset) mode.New
 
 module _ {A R K : Type 0} where
   -- a transfer uses up the prepared data connection
-  abbrev pub starts : View → Errand Path → Job A R K → Plan A R K
-  starts view errand what = Then (record view { prepared = false; work = Transfers errand })
+  abbrev pub starts : View → TransferContent Path → Job A R K → Plan A R K
+  starts view content what = Then (record view { prepared = false; work = Transfers content })
       (action.Say (answer.Notice notice.Opening) ∷ action.Start what ∷ [])
 
   abbrev pub reads : View → ℕ → Location → Plan A R K

@@ -8,7 +8,7 @@ use Rattle.virtual_path.specs.Path.{Path}
 use Rattle.session_table.specs.declared.settings.Settings.{Settings}
 use Rattle.session_table.specs.declared.stages.Control.{Control}
 use Rattle.session_table.specs.declared.stages.Control.TheVariants.{Open, Closing}
-use Rattle.session_table.specs.declared.stages.Errand.{Errand}
+use Rattle.session_table.specs.declared.stages.TransferContent.{TransferContent}
 use Rattle.session_table.specs.declared.stages.Passive.{Passive}
 use Rattle.session_table.specs.declared.stages.Stage.{Stage}
 use Rattle.session_table.specs.declared.stages.Stage.TheVariants as stage
@@ -56,7 +56,7 @@ is_closed _ = false
 
 -- an aborted transfer counts as none
 abbrev pub has_transfer : Work Path → Bool
-has_transfer (Transfers errand) = true
+has_transfer (Transfers content) = true
 has_transfer _ = false
 
 -- the command that awaits a passive port
@@ -65,18 +65,18 @@ awaited (AwaitsPort passive) = Some passive
 awaited _ = None
 
 -- the content of a transfer that has not ended
-abbrev pub running : Work Path → Option (Errand Path)
-running (Transfers errand) = Some errand
-running (Aborted errand) = Some errand
+abbrev pub running : Work Path → Option (TransferContent Path)
+running (Transfers content) = Some content
+running (Aborted content) = Some content
 running _ = None
 
 abbrev pub is_aborted : Work Path → Bool
-is_aborted (Aborted errand) = true
+is_aborted (Aborted content) = true
 is_aborted _ = false
 
 -- a transfer that runs is aborted
 abbrev pub aborted : Work Path → Work Path
-aborted (Transfers errand) = Aborted errand
+aborted (Transfers content) = Aborted content
 aborted work = work
 
 -- a transfer has not ended

@@ -39,5 +39,5 @@ pub use rules::{
     Conditions, FileRow, LocatedRow, LoginRow, Meanwhile, NamedRow, Rule, StateRow, Style,
 };
 pub use settings::Settings;
-pub use stages::{Control, Errand, Passive, Stage, Work};
+pub use stages::{Control, Passive, Stage, TransferContent, Work};
 pub use text::{Octets, Text};

@@ -35,7 +35,7 @@ pub enum Passive {
 
 /// The content of a transfer; a file by the user's path, a `P`.
 #[derive(Drop)]
-pub enum Errand<P> {
+pub enum TransferContent<P> {
     Listing,
     Sending(P),
     Taking(P),
@@ -48,7 +48,7 @@ pub enum Work<P> {
     /// A passive port is awaited.
     AwaitsPort(Passive),
     /// A transfer runs.
-    Transfers(Errand<P>),
+    Transfers(TransferContent<P>),
     /// A transfer was aborted, and its end is awaited.
-    Aborted(Errand<P>),
+    Aborted(TransferContent<P>),
 }

@@ -18,7 +18,7 @@ use Rattle.world_terms.specs.declared.event.EventAnswer.TheVariants as answer
 use Rattle.world_terms.specs.declared.fault.StepFault.{StepFault}
 use Rattle.world_terms.specs.Decisions.{IsGiven, IsDecision, decided_of}
 use Rattle.world_terms.specs.Lanes.{World, Lane, hidden, amount, new_lane, new_world}
-use Rattle.world_terms.specs.Runs.{Occasion, Runs, or_else, if_ok, ask_by, last_ask, moved_by, moved_in_all, moved_under, octets_by, has_branch, limits_under}
+use Rattle.world_terms.specs.Runs.{TraceEntry, Runs, or_else, if_ok, ask_by, last_ask, moved_by, moved_in_all, moved_under, octets_by, has_branch, limits_under}
 use Rattle.world_terms.specs.Steps.{IsChange, Accepts, Step}
 use Rattle.world_terms.specs.Sums.{pending, shares}
 use Rattle.share_world.specs.Kept.{IsSound}
@@ -50,7 +50,7 @@ get_set (y ∷ ls) (suc i) (suc j) m x e = elim (get_set ls i j m x e) [
 ]
 
 -- what holds after the events of the past
-pub record Kept (r : Rates) (past : List Occasion) (w : World) : Type 0 where
+pub record Kept (r : Rates) (past : List TraceEntry) (w : World) : Type 0 where
   pub sound : (i : ℕ) (l : Lane) → slice_get w.lanes i ≡ Some l → IsSound l
   pub asks : (i : ℕ) (l : Lane) → slice_get w.lanes i ≡ Some l → last_ask i past ≡ l.shown.ask
   pub within : (n : Name) → rate_of r n ≢ 0 → moved_under r n past + sum_by (held r n) w.lanes ≤ limits_under r n past
@@ -102,17 +102,17 @@ less_held r n ask k l m f = elim f.less [
 ]
 
 -- a change of one lane keeps it all
-abbrev pub occasion : World → Event → EventAnswer → Occasion
-occasion w e a = record { before = w; event = e; reply = Ok a }
+abbrev pub entry : World → Event → EventAnswer → TraceEntry
+entry w e a = record { before = w; event = e; reply = Ok a }
 
-abbrev Quiet : Rates → List Occasion → Event → Lane → Type 0
+abbrev Quiet : Rates → List TraceEntry → Event → Lane → Type 0
 Quiet r past e l = (n : Name) → moved_by r n e past ≤ cond (bears_in r n l.shown.ask) (octets_by e) 0
 
-step_change : (r : Rates) (past : List Occasion) (w : World) (ev : Event) (a : EventAnswer) (i : ℕ) (end : World) → Kept r past w → (c : IsChange w i ev a end) → Quiet r past ev c.before
-    → ((l : Lane) → ask_after ev l.shown.ask ≡ or_else (ask_by i ev) l.shown.ask) → ((j : ℕ) → j ≢ i → ask_by j ev ≡ None) → Kept r (occasion w ev a ∷ past) end
+step_change : (r : Rates) (past : List TraceEntry) (w : World) (ev : Event) (a : EventAnswer) (i : ℕ) (end : World) → Kept r past w → (c : IsChange w i ev a end) → Quiet r past ev c.before
+    → ((l : Lane) → ask_after ev l.shown.ask ≡ or_else (ask_by i ev) l.shown.ask) → ((j : ℕ) → j ≢ i → ask_by j ev ≡ None) → Kept r (entry w ev a ∷ past) end
 step_change r past w ev a i end k c quiet own others =
     let f : Effect (ask_after ev c.before.shown.ask) (octets_by ev) c.before c.after = effect ev a c.before c.after c.step.0 c.step.1 (k.sound i c.before c.there) in
-    subst (Kept r (occasion w ev a ∷ past)) (sym c.rest) (record {
+    subst (Kept r (entry w ev a ∷ past)) (sym c.rest) (record {
       sound = λ j l e. elim (get_set w.lanes i j c.after l e) [ inl h ↦ subst IsSound (sym h.1) f.sound | inr h ↦ k.sound j l h.1 ];
       asks = λ j l e. elim (get_set w.lanes i j c.after l e) [
         | inl h ↦ ap (λ (n : ℕ). or_else (ask_by n ev) (last_ask n past)) h.0 ∙ ap (or_else (ask_by i ev)) (k.asks i c.before c.there) ∙ sym (own c.before) ∙ sym f.ask_is ∙ ap (λ (y : Lane). y.shown.ask) (sym h.1)
@@ -159,8 +159,8 @@ decided_within : GrantsKeepNames → (r : Rates) (n : Name) (w : World) (m tick 
 decided_within law r n w m tick total end p d ne true h = keeps_limits law r tick w.lanes end.lanes d.shared n (share_of (rate_of r n) tick) (has_limit (rate_of r n) tick ne)
 decided_within law r n w m tick total end p d ne false h = omega (arith, none_decided r n 0 w.lanes end.lanes p d.shared.given ((or_parts _ _ h).1))
 
-step_decide : GrantsKeepNames → (r : Rates) (past : List Occasion) (w : World) (m tick total : ℕ) (end : World) → Kept r past w → IsDecision r w m tick total end
-    → Kept r (occasion w (event.Decide m) (answer.Decided tick total) ∷ past) end
+step_decide : GrantsKeepNames → (r : Rates) (past : List TraceEntry) (w : World) (m tick total : ℕ) (end : World) → Kept r past w → IsDecision r w m tick total end
+    → Kept r (entry w (event.Decide m) (answer.Decided tick total) ∷ past) end
 step_decide law r past w m tick total end k d = let posted : EachPosted w.lanes = posted_all w.lanes d.ready.posted in record {
   sound = λ i l e. let g : (x : Lane) × (slice_get w.lanes i ≡ Some x) × IsGiven x l = given_at w.lanes end.lanes i l d.shared.given e in given_sound g.0 l (k.sound i g.0 g.1) g.2;
   asks = λ i l e. let g : (x : Lane) × (slice_get w.lanes i ≡ Some x) × IsGiven x l = given_at w.lanes end.lanes i l d.shared.given e in k.asks i g.0 g.1 ∙ sym (given_ask g.0 l g.2);
@@ -183,7 +183,7 @@ other i j a ne = elim (eqb_tells i j) [ inl h ↦ absurd (ne (sym h.1)) | inr h 
 mine : (i : ℕ) (a : Ask) (o : Option Ask) → Some a ≡ or_else (cond (nat_eq i i) (Some a) None) o
 mine i a o = sym (ap (λ (b : Bool). or_else (cond b (Some a) None) o) (eq-eqb i i refl))
 
-step : GrantsKeepNames → (r : Rates) (past : List Occasion) (w : World) (e : Event) (a : EventAnswer) (end : World) → Kept r past w → Accepts r w e a end → Kept r (occasion w e a ∷ past) end
+step : GrantsKeepNames → (r : Rates) (past : List TraceEntry) (w : World) (e : Event) (a : EventAnswer) (end : World) → Kept r past w → Accepts r w e a end → Kept r (entry w e a ∷ past) end
 step law r past w (event.Sit i) a end k c = step_change r past w (event.Sit i) a i end k c (λ n. omega arith) (λ l. refl) (λ j ne. refl)
 step law r past w (event.Asked i b) a end k c = step_change r past w (event.Asked i b) a i end k c (λ n. omega arith) (λ l. mine i b l.shown.ask) (λ j ne. other i j b ne)
 step law r past w (event.Collect i) a end k c = step_change r past w (event.Collect i) a i end k c.1 (λ n. omega arith) (λ l. refl) (λ j ne. refl)
@@ -197,15 +197,15 @@ step law r past w (event.Rise i) a end k c = step_change r past w (event.Rise i)
 step law r past w e a end k c = absurd c
 
 -- a refused event changes nothing
-replied : GrantsKeepNames → (r : Rates) (past : List Occasion) (w : World) (e : Event) (reply : Result EventAnswer StepFault) (end : World) → Kept r past w → Step r w e reply end → Kept r (record { before = w; event = e; reply = reply } ∷ past) end
+replied : GrantsKeepNames → (r : Rates) (past : List TraceEntry) (w : World) (e : Event) (reply : Result EventAnswer StepFault) (end : World) → Kept r past w → Step r w e reply end → Kept r (record { before = w; event = e; reply = reply } ∷ past) end
 replied law r past w e (Ok a) end k s = step law r past w e a end k s
 replied law r past w e (Err f) end k s = subst (Kept r (record { before = w; event = e; reply = Err f } ∷ past)) (sym s.0) (record { sound = k.sound; asks = k.asks; within = λ n h. omega (arith, k.within n h); issued = k.issued })
 
-pub kept_by_runs : GrantsKeepNames → (r : Rates) (k : ℕ) (past : List Occasion) (end : World) → Runs r (new_world k) past end → Kept r past end
+pub kept_by_runs : GrantsKeepNames → (r : Rates) (k : ℕ) (past : List TraceEntry) (end : World) → Runs r (new_world k) past end → Kept r past end
 kept_by_runs law r k [] end e = subst (Kept r []) (sym e) (kept_new r k)
 kept_by_runs law r k (x ∷ past) end e = replied law r past x.before x.event x.reply end (kept_by_runs law r k past x.before e.0) e.1
 
-pub moved_within : GrantsKeepNames → (rates : Rates) (k : ℕ) (past : List Occasion) (end : World) (n : Name) → Runs rates (new_world k) past end
+pub moved_within : GrantsKeepNames → (rates : Rates) (k : ℕ) (past : List TraceEntry) (end : World) (n : Name) → Runs rates (new_world k) past end
     → (rate_of rates n ≡ 0 → ⊥) → moved_under rates n past ≤ limits_under rates n past
 moved_within law r k past end n e h = omega (arith, (kept_by_runs law r k past end e).within n h)
 
@@ -216,13 +216,13 @@ server_bears : (r : Rates) (l : Lane) (h : ℕ) → IsSound l → l.hidden.hand 
 server_bears r l h s e (Some a) asks = refl
 server_bears r l h s e None asks = absurd (let none : l.hidden.hand ≡ None = (s.unasked asks).0 in cc)
 
-moved_here : (r : Rates) (past : List Occasion) (w : World) (i n : ℕ) (a : EventAnswer) (end : World) → Kept r past w → IsChange w i (event.Moved i n) a end → cond (bears_in r Server (last_ask i past)) n 0 ≡ n
+moved_here : (r : Rates) (past : List TraceEntry) (w : World) (i n : ℕ) (a : EventAnswer) (end : World) → Kept r past w → IsChange w i (event.Moved i n) a end → cond (bears_in r Server (last_ask i past)) n 0 ≡ n
 moved_here r past w i n a end k c =
     let h : (h : ℕ) × (c.before.hidden.hand ≡ Some h) × (n ≤ h) × (c.after.hidden ≡ hidden (c.before.hidden.moved + n) (c.before.hidden.back + (h - n)) None c.before.hidden.decided) = c.step.1 in
     let bears : bears_in r Server (last_ask i past) ≡ true = server_bears r c.before h.0 (k.sound i c.before c.there) h.1 (last_ask i past) (sym (k.asks i c.before c.there)) in
     ap (λ (b : Bool). cond b n 0) bears
 
-moved_then : (r : Rates) (past : List Occasion) (w : World) (e : Event) (a : EventAnswer) (end : World) → Kept r past w → Accepts r w e a end → moved_by r Server e past ≡ octets_by e
+moved_then : (r : Rates) (past : List TraceEntry) (w : World) (e : Event) (a : EventAnswer) (end : World) → Kept r past w → Accepts r w e a end → moved_by r Server e past ≡ octets_by e
 moved_then r past w (event.Sit i) a end k c = refl
 moved_then r past w (event.Asked i b) a end k c = refl
 moved_then r past w (event.Collect i) a end k c = refl
@@ -232,14 +232,14 @@ moved_then r past w (event.Taken i) a end k c = refl
 moved_then r past w (event.Moved i n) a end k c = moved_here r past w i n a end k c
 moved_then r past w (event.Rise i) a end k c = refl
 
-moved_reply : (r : Rates) (past : List Occasion) (w : World) (e : Event) (reply : Result EventAnswer StepFault) (end : World) → Kept r past w → Step r w e reply end
+moved_reply : (r : Rates) (past : List TraceEntry) (w : World) (e : Event) (reply : Result EventAnswer StepFault) (end : World) → Kept r past w → Step r w e reply end
     → if_ok reply 0 (λ a. moved_by r Server e past) ≡ if_ok reply 0 (λ a. octets_by e)
 moved_reply r past w e (Ok a) end k s = moved_then r past w e a end k s
 moved_reply r past w e (Err f) end k s = refl
 
-moved_server : GrantsKeepNames → (r : Rates) (k : ℕ) (past : List Occasion) (end : World) → Runs r (new_world k) past end → moved_in_all past ≡ moved_under r Server past
+moved_server : GrantsKeepNames → (r : Rates) (k : ℕ) (past : List TraceEntry) (end : World) → Runs r (new_world k) past end → moved_in_all past ≡ moved_under r Server past
 moved_server law r k [] end e = refl
 moved_server law r k (x ∷ past) end e = omega (arith, moved_server law r k past x.before e.0, moved_reply r past x.before x.event x.reply end (kept_by_runs law r k past x.before e.0) e.1)
 
-pub moved_all : GrantsKeepNames → (r : Rates) (k : ℕ) (past : List Occasion) (end : World) → Runs r (new_world k) past end → (r.server ≡ 0 → ⊥) → moved_in_all past ≤ limits_under r Server past
+pub moved_all : GrantsKeepNames → (r : Rates) (k : ℕ) (past : List TraceEntry) (end : World) → Runs r (new_world k) past end → (r.server ≡ 0 → ⊥) → moved_in_all past ≤ limits_under r Server past
 moved_all law r k past end e h = omega (arith, moved_within law r k past end Server e h, moved_server law r k past end e)

@@ -11,7 +11,7 @@ use Rattle.world_terms.specs.declared.event.Event.{Event}
 use Rattle.world_terms.specs.declared.event.EventAnswer.{EventAnswer}
 use Rattle.world_terms.specs.declared.fault.StepFault.{StepFault}
 use Rattle.world_terms.specs.Lanes.{World}
-use Rattle.world_terms.specs.Runs.{Occasion, IsRun, IsRunOfSome, event_of, reply_of}
+use Rattle.world_terms.specs.Runs.{TraceEntry, IsRun, IsRunOfSome, event_of, reply_of}
 use Rattle.world_terms.specs.Steps.{Step}
 
 pub run_none : (r : Rates) (start : World) → IsRun r start [] [] start
@@ -20,7 +20,7 @@ run_none r start = record { past = []; runs = refl; events_are = refl; replies_a
 pub run_more : (r : Rates) (start w end : World) (es : List Event) (rs : List (Result EventAnswer StepFault)) (e : Event) (reply : Result EventAnswer StepFault)
     → IsRun r start es rs w → Step r w e reply end → IsRun r start (es ++ e ∷ []) (rs ++ reply ∷ []) end
 run_more r start w end es rs e reply run step =
-    let x : Occasion = record { before = w; event = e; reply = reply } in
+    let x : TraceEntry = record { before = w; event = e; reply = reply } in
     record {
       past = x ∷ run.past;
       runs = (run.runs, step);

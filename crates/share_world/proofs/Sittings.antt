@@ -15,7 +15,7 @@ use Rattle.world_terms.specs.declared.event.EventAnswer.TheVariants as answer
 use Rattle.world_terms.specs.declared.fault.StepFault.{StepFault}
 use Rattle.world_terms.specs.Decisions.{IsGiven, IsDecision}
 use Rattle.world_terms.specs.Lanes.{World, Lane, Shown, shown, new_world}
-use Rattle.world_terms.specs.Runs.{Occasion, Runs, exchanges, is_exchange, on_lane}
+use Rattle.world_terms.specs.Runs.{TraceEntry, Runs, exchanges, is_exchange, on_lane}
 use Rattle.world_terms.specs.Shown.{ShownStep}
 use Rattle.world_terms.specs.Steps.{IsChange, Accepts, Step, lane_of}
 use Rattle.share_world.specs.Kept.{IsSound}
@@ -73,10 +73,10 @@ own (event.Rise i) answer.Done l m xs v s h = subst (λ (z : Shown). Sits i z (o
 own e a l m xs v s h = absurd v
 
 -- each lane sits as it should after the events of the past
-abbrev AllSit : List Occasion → World → Type 0
+abbrev AllSit : List TraceEntry → World → Type 0
 AllSit past w = (j : ℕ) (l : Lane) → slice_get w.lanes j ≡ Some l → Sits j l.shown (exchanges j past)
 
-changed : (past : List Occasion) (w : World) (e : Event) (a : EventAnswer) (end : World) → ((j : ℕ) (l : Lane) → slice_get w.lanes j ≡ Some l → IsSound l) → AllSit past w → IsChange w (lane_of e) e a end
+changed : (past : List TraceEntry) (w : World) (e : Event) (a : EventAnswer) (end : World) → ((j : ℕ) (l : Lane) → slice_get w.lanes j ≡ Some l → IsSound l) → AllSit past w → IsChange w (lane_of e) e a end
     → AllSit (record { before = w; event = e; reply = Ok a } ∷ past) end
 changed past w e a end sound k c j l there =
     let at : slice_get (set w.lanes (lane_of e) c.after) j ≡ Some l = sym (ap (λ (x : World). slice_get x.lanes j) c.rest) ∙ there in
@@ -87,13 +87,13 @@ changed past w e a end sound k c j l there =
       | inr h ↦ subst (Sits j l.shown) (sym (on_other j e a (exchanges j past) h.0)) (k j l h.1)
     ]
 
-decided : (past : List Occasion) (r : Rates) (w : World) (m tick total : ℕ) (end : World) → AllSit past w → IsDecision r w m tick total end
+decided : (past : List TraceEntry) (r : Rates) (w : World) (m tick total : ℕ) (end : World) → AllSit past w → IsDecision r w m tick total end
     → AllSit (record { before = w; event = event.Decide m; reply = Ok (answer.Decided tick total) } ∷ past) end
 decided past r w m tick total end k d j l there =
     let g : (x : Lane) × (slice_get w.lanes j ≡ Some x) × IsGiven x l = given_at w.lanes end.lanes j l d.shared.given there in
     given_case (λ (x : Lane). Sits j x.shown (exchanges j past)) g.0 l g.2 (λ n here. k j g.0 g.1) (λ other. k j g.0 g.1)
 
-accepted : (past : List Occasion) (r : Rates) (w : World) (e : Event) (a : EventAnswer) (end : World) → ((j : ℕ) (l : Lane) → slice_get w.lanes j ≡ Some l → IsSound l) → AllSit past w → Accepts r w e a end
+accepted : (past : List TraceEntry) (r : Rates) (w : World) (e : Event) (a : EventAnswer) (end : World) → ((j : ℕ) (l : Lane) → slice_get w.lanes j ≡ Some l → IsSound l) → AllSit past w → Accepts r w e a end
     → AllSit (record { before = w; event = e; reply = Ok a } ∷ past) end
 accepted past r w (event.Sit i) a end sound k c = changed past w (event.Sit i) a end sound k c
 accepted past r w (event.Asked i b) a end sound k c = changed past w (event.Asked i b) a end sound k c
@@ -105,12 +105,12 @@ accepted past r w (event.Moved i n) a end sound k c = changed past w (event.Move
 accepted past r w (event.Rise i) a end sound k c = changed past w (event.Rise i) a end sound k c
 accepted past r w e a end sound k c = absurd c
 
-replied : (past : List Occasion) (r : Rates) (w : World) (e : Event) (reply : Result EventAnswer StepFault) (end : World) → ((j : ℕ) (l : Lane) → slice_get w.lanes j ≡ Some l → IsSound l) → AllSit past w → Step r w e reply end
+replied : (past : List TraceEntry) (r : Rates) (w : World) (e : Event) (reply : Result EventAnswer StepFault) (end : World) → ((j : ℕ) (l : Lane) → slice_get w.lanes j ≡ Some l → IsSound l) → AllSit past w → Step r w e reply end
     → AllSit (record { before = w; event = e; reply = reply } ∷ past) end
 replied past r w e (Ok a) end sound k s = accepted past r w e a end sound k s
 replied past r w e (Err f) end sound k s = subst (AllSit past) (sym s.0) k
 
-all_sit : GrantsKeepNames → (r : Rates) (k : ℕ) (past : List Occasion) (end : World) → Runs r (new_world k) past end → AllSit past end
+all_sit : GrantsKeepNames → (r : Rates) (k : ℕ) (past : List TraceEntry) (end : World) → Runs r (new_world k) past end → AllSit past end
 all_sit law r k [] end e = λ j l there. subst (λ (x : Lane). Sits j x.shown []) (sym (is_new k j l (sym (ap (λ (w : World). slice_get w.lanes j) e) ∙ there))) tt
 all_sit law r k (x ∷ past) end e = replied past r x.before x.event x.reply end (kept_by_runs law r k past x.before e.0).sound (all_sit law r k past x.before e.0) e.1
 
@@ -120,7 +120,7 @@ last_of [] (y ∷ ys) m n e h = absurd (cc)
 last_of (x ∷ xs) [] m n e h = absurd (cc)
 last_of (x ∷ xs) (y ∷ ys) m n e h = last_of xs ys m n (let t : xs ++ m ∷ [] ≡ ys ++ n ∷ [] = cc in t) (let t : xs ≡ ys = cc in t)
 
-pub answers_last : GrantsKeepNames → (r : Rates) (k : ℕ) (past : List Occasion) (w : World) (i n : ℕ) (end : World)
+pub answers_last : GrantsKeepNames → (r : Rates) (k : ℕ) (past : List TraceEntry) (w : World) (i n : ℕ) (end : World)
     → Runs r (new_world k) (record { before = w; event = event.Taken i; reply = Ok (answer.Taken n) } ∷ past) end → AnswersLastAsk past i n
 answers_last law r k past w i n end e =
     let c : IsChange w i (event.Taken i) (answer.Taken n) end = e.1 in

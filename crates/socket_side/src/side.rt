@@ -30,10 +30,8 @@ use std::{io, mem, thread};
 use transfer_ticket::TicketOwner;
 use virtual_tree::Store;
 
-/// The time without progress after which a read or write of a data connection fails, in milliseconds: a third of a
-/// minute, since a write that moved some octets before its time-out counts as progress, so a peer that reads nothing
-/// takes three such times.
-const STANDSTILL: u64 = 20_000;
+/// The time without an octet after which the read of an upload fails, in milliseconds.
+const STANDSTILL: u64 = 60_000;
 
 /// The time for a client to connect to its passive port, in microseconds.
 const PATIENCE: u64 = 60_000_000;
@@ -242,10 +240,8 @@ where
         ensures prepared { self.new.prepared ≡ self.old.prepared }
         ensures ready { self.new.ready ≡ self.old.ready }
     {
-        let _ = stream.set_nodelay(true);
-        let _ = stream.set_write_timeout(Some(Duration::from_millis(STANDSTILL)));
         if is_upload(&job) {
-            let _ = stream.set_read_timeout(Some(Duration::from_millis(3 * STANDSTILL)));
+            let _ = stream.set_read_timeout(Some(Duration::from_millis(STANDSTILL)));
         }
         match DataConnection::new(self.rt.alloc(), stream) {
             Ok(own) => match own.another() {

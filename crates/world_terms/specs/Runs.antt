@@ -15,27 +15,27 @@ use Rattle.world_terms.specs.Lanes.{World}
 use Rattle.world_terms.specs.Steps.{Step, lane_of}
 
 -- an event, with the world before it and its reply
-pub record Occasion : Type 0 where
+pub record TraceEntry : Type 0 where
   pub before : World
   pub event : Event
   pub reply : Result EventAnswer StepFault
 
 -- these events, the newest first, lead from world `start` to world `end`
-abbrev pub Runs : Rates → World → List Occasion → World → Type 0
+abbrev pub Runs : Rates → World → List TraceEntry → World → Type 0
 Runs rates start [] end = end ≡ start
 Runs rates start (x ∷ past) end =
     Runs rates start past x.before × Step rates x.before x.event x.reply end
 
-abbrev pub event_of : Occasion → Event
+abbrev pub event_of : TraceEntry → Event
 event_of x = x.event
 
-abbrev pub reply_of : Occasion → Result EventAnswer StepFault
+abbrev pub reply_of : TraceEntry → Result EventAnswer StepFault
 reply_of x = x.reply
 
 -- a run of these events, the oldest first, with these replies
 pub record IsRun (rates : Rates) (start : World) (events : List Event)
     (replies : List (Result EventAnswer StepFault)) (end : World) : Type 0 where
-  pub past : List Occasion
+  pub past : List TraceEntry
   pub runs : Runs rates start past end
   pub events_are : reverse (map event_of past) ≡ events
   pub replies_are : reverse (map reply_of past) ≡ replies
@@ -64,7 +64,7 @@ or_else None older = older
 or_else (Some a) older = Some a
 
 -- the last ask of a lane
-abbrev pub last_ask : ℕ → List Occasion → Option Ask
+abbrev pub last_ask : ℕ → List TraceEntry → Option Ask
 last_ask i [] = None
 last_ask i (x ∷ past) = or_else (if_ok x.reply None (λ a. ask_by i x.event)) (last_ask i past)
 
@@ -79,19 +79,19 @@ abbrev pub on_lane : ℕ → Event → EventAnswer → List (Event × EventAnswe
 on_lane i e a = if is_exchange e a then (if nat_eq (lane_of e) i then (e, a) ∷ [] else []) else []
 
 -- the exchanges on the word of a lane, the newest first
-abbrev pub exchanges : ℕ → List Occasion → List (Event × EventAnswer)
+abbrev pub exchanges : ℕ → List TraceEntry → List (Event × EventAnswer)
 exchanges i [] = []
 exchanges i (x ∷ past) = if_ok x.reply [] (on_lane i x.event) ++ exchanges i past
 
 -- ---- octets moved under a name, and the limits of the name
 
 -- the octets that an event moves of a grant whose ask, the last of its lane, counts under the name
-abbrev pub moved_by : Rates → Name → Event → List Occasion → ℕ
+abbrev pub moved_by : Rates → Name → Event → List TraceEntry → ℕ
 moved_by rates n (event.Moved i octets) past =
     if bears_in rates n (last_ask i past) then octets else 0
 moved_by rates n e past = 0
 
-abbrev pub moved_under : Rates → Name → List Occasion → ℕ
+abbrev pub moved_under : Rates → Name → List TraceEntry → ℕ
 moved_under rates n [] = 0
 moved_under rates n (x ∷ past) =
     if_ok x.reply 0 (λ a. moved_by rates n x.event past) + moved_under rates n past
@@ -102,7 +102,7 @@ octets_by (event.Moved i octets) = octets
 octets_by e = 0
 
 -- all octets moved
-abbrev pub moved_in_all : List Occasion → ℕ
+abbrev pub moved_in_all : List TraceEntry → ℕ
 moved_in_all [] = 0
 moved_in_all (x ∷ past) = if_ok x.reply 0 (λ a. octets_by x.event) + moved_in_all past
 
@@ -117,7 +117,7 @@ limit_by rates n w (event.Decide m) (answer.Decided tick total) =
 limit_by rates n w e a = 0
 
 -- the sum of a name's limits over the decisions whose trees have its branch
-abbrev pub limits_under : Rates → Name → List Occasion → ℕ
+abbrev pub limits_under : Rates → Name → List TraceEntry → ℕ
 limits_under rates n [] = 0
 limits_under rates n (x ∷ past) =
     if_ok x.reply 0 (limit_by rates n x.before x.event) + limits_under rates n past

@@ -5,8 +5,8 @@ use Rattle.lane_desk.proofs.RoundCalls.{all_in, posting_front, posts_front, post
 use Rattle.desk_rule.proofs.Keeps.{sum_more}
 use Rattle.lane_desk.proofs.round.RoundDesk.post.Goals as goal
 
-pub trace_down-requires : goal.trace_down-requires
-trace_down-requires g c = let n : ℕ = c.args.self.now.lanes in let i : ℕ = c.args.lane in let near : i < n = c.requires.lane in
+pub rotate_down-requires : goal.rotate_down-requires
+rotate_down-requires g c = let n : ℕ = c.args.self.now.lanes in let i : ℕ = c.args.lane in let near : i < n = c.requires.lane in
     (omega arith, search rules, c.args.self.now.few, all_in c.args.self.now.held n (n - n) _ (omega arith) c.args.self.now.knows.slots_are)
 
 pub store-requires : goal.store-requires
@@ -18,8 +18,8 @@ store-requires g c =
     let f = posting_front _ _ _ n c.args.self.now.held i (n - (i + 1)) c.args.grant k near c.requires.due c.rotate_down.ensures.2 c.exchange.ensures.3 in
     (search rules, search rules, posts_front _ _ _ _ n c.args.self.now.held i c.args.grant _ k near c.requires.due c.requires.grant c.requires.most f)
 
-pub trace_down-requires-2 : goal.trace_down-requires-2
-trace_down-requires-2 g c =
+pub rotate_down-requires-2 : goal.rotate_down-requires-2
+rotate_down-requires-2 g c =
     let n : ℕ = c.args.self.now.lanes in
     let i : ℕ = c.args.lane in
     let near : i < n = c.requires.lane in
@@ -40,7 +40,7 @@ invariant_of-self g c =
     record {
       few = c.args.self.now.few;
       knows = knows_after m0 _ n (n - 0) c.args.self.now.held i (has_posted c.args.grant.octets (trace_in i m0.0)) false k near (omega arith) (omega (arith, c.requires.most, sum_more (trace_in i m0.0).posted c.args.grant.octets)) (posted_not_due c.args.grant.octets (trace_in i m0.0) (ap is_due (trace_is m0.0 i k.view_is) ∙ c.requires.due))
-          (c.trace_down-2.ensures.2 ∙ ap (λ m. (m.0, stack (set c.args.self.now.held i false) 0 (n - 0))) t);
+          (c.rotate_down-2.ensures.2 ∙ ap (λ m. (m.0, stack (set c.args.self.now.held i false) 0 (n - 0))) t);
     }
 
 pub returns-clause-same : goal.returns-clause-same
@@ -51,7 +51,7 @@ returns-clause-same g c =
     let m0 = c.args.self.now.seat.me in
     let f = posting_front _ _ _ n c.args.self.now.held i (n - (i + 1)) c.args.grant k c.requires.lane c.requires.due c.rotate_down.ensures.2 c.exchange.ensures.3 in
     let t = posts_then _ _ _ _ i c.args.grant f c.store.ensures.2 in
-    (search rules, refl, ap (λ m. (round_in m.0).back) c.trace_down-2.ensures.2 ∙ ap (λ m. (round_in m.0).back) t ∙ ap (λ s. s.back) (round_after m0.0 i (has_posted c.args.grant.octets (trace_in i m0.0)) k.view_is))
+    (search rules, refl, ap (λ m. (round_in m.0).back) c.rotate_down-2.ensures.2 ∙ ap (λ m. (round_in m.0).back) t ∙ ap (λ s. s.back) (round_after m0.0 i (has_posted c.args.grant.octets (trace_in i m0.0)) k.view_is))
 
 pub returns-clause-posted : goal.returns-clause-posted
 returns-clause-posted g c =
@@ -61,5 +61,5 @@ returns-clause-posted g c =
     let m0 = c.args.self.now.seat.me in
     let f = posting_front _ _ _ n c.args.self.now.held i (n - (i + 1)) c.args.grant k c.requires.lane c.requires.due c.rotate_down.ensures.2 c.exchange.ensures.3 in
     let t = posts_then _ _ _ _ i c.args.grant f c.store.ensures.2 in
-    ap (λ m. (round_in m.0).traces) c.trace_down-2.ensures.2 ∙ ap (λ m. (round_in m.0).traces) t ∙ ap (λ s. s.traces) (round_after m0.0 i (has_posted c.args.grant.octets (trace_in i m0.0)) k.view_is)
+    ap (λ m. (round_in m.0).traces) c.rotate_down-2.ensures.2 ∙ ap (λ m. (round_in m.0).traces) t ∙ ap (λ s. s.traces) (round_after m0.0 i (has_posted c.args.grant.octets (trace_in i m0.0)) k.view_is)
     ∙ ap (λ u. set (round_in m0.0).traces i (has_posted c.args.grant.octets u)) (trace_is m0.0 i k.view_is)

@@ -12,16 +12,16 @@ within stored freed all after sum is = omega arith
 
 pub overflow_sub-self : goal.overflow_sub-self
 overflow_sub-self g c =
-    within c.self.inside.stored c.size_at-freed.result (total c.args.self.now) (total (map.remove c.args.self.now c.args.spot.now))
-    (ap (λ n. total (map.remove c.args.self.now c.args.spot.now) + n) c.size_at-freed.ensures ∙ total-remove c.args.self.now c.args.spot.now)
+    within c.self.inside.stored c.size_at-freed.result (total c.args.self.now) (total (map.remove c.args.self.now c.args.key.now))
+    (ap (λ n. total (map.remove c.args.self.now c.args.key.now) + n) c.size_at-freed.ensures ∙ total-remove c.args.self.now c.args.key.now)
     (c.self.invariant ∙ ap total c.self.view_is)
 
 pub invariant_of-self : goal.invariant_of-self
 invariant_of-self g c =
-    counted c.self.inside.stored c.size_at-freed.result (total c.args.self.now) (total (map.remove c.args.self.now c.args.spot.now))
-    (ap (λ n. total (map.remove c.args.self.now c.args.spot.now) + n) c.size_at-freed.ensures ∙ total-remove c.args.self.now c.args.spot.now)
+    counted c.self.inside.stored c.size_at-freed.result (total c.args.self.now) (total (map.remove c.args.self.now c.args.key.now))
+    (ap (λ n. total (map.remove c.args.self.now c.args.key.now) + n) c.size_at-freed.ensures ∙ total-remove c.args.self.now c.args.key.now)
     (c.self.invariant ∙ ap total c.self.view_is)
-    ∙ sym (ap total (one_taken c.self.inside.nodes.entries c.remove.new.self.entries c.args.spot.now c.remove.ensures.updates.0 ∙ ap (λ tree. map.remove tree c.args.spot.now) c.self.view_is))
+    ∙ sym (ap total (one_taken c.self.inside.nodes.entries c.remove.new.self.entries c.args.key.now c.remove.ensures.updates.0 ∙ ap (λ tree. map.remove tree c.args.key.now) c.self.view_is))
 
 pub returns : goal.returns
-returns g c = one_taken c.self.inside.nodes.entries c.remove.new.self.entries c.args.spot.now c.remove.ensures.updates.0 ∙ ap (λ tree. map.remove tree c.args.spot.now) c.self.view_is
+returns g c = one_taken c.self.inside.nodes.entries c.remove.new.self.entries c.args.key.now c.remove.ensures.updates.0 ∙ ap (λ tree. map.remove tree c.args.key.now) c.self.view_is

@@ -20,7 +20,7 @@ fn job_board(rt: HostRuntime) -> Result<(), Fail> {
     Ok(())
 }
 
-/// What a pass found empty or full is looked at again: another pass may have changed it since.
+/// A miss is not kept by its pass, since another pass may have changed the board.
 #[test]
 fn a_miss_is_not_kept(rt: HostRuntime) -> Result<(), Fail> {
     let (board, mut passes) = open_board(rt.alloc(), 1, 2)?;

@@ -1,16 +1,23 @@
-"""What the calls on sockets, clocks and locks are made with: the address that is listened on, the time of a file, what is given back and charged.
+"""What the calls on sockets, clocks and locks are made with: the address that is listened on, the time of a file, time-outs, what is given back and charged.
 
 No contract says what a call does to the machine. Each row here is refused by a server in which such a call is made otherwise.
 """
+import ctypes
 import os
+import random
 import socket
+import struct
 import threading
 import time
 
-from serving_kit import Client, Server, same, until, want
+from serving_kit import Client, Data, Server, same, until, want
 
 # The second address of this machine's loop.
 OTHER = "127.0.0.2"
+# The calls by which a process takes a socket of another (pidfd_open(2), pidfd_getfd(2)): their numbers are the same on each machine.
+PIDFD_OPEN, PIDFD_GETFD = 434, 438
+# More than the sockets of a connection hold, both sides together.
+MUCH = 24_000_000
 # How far two clocks of one machine may be apart in seconds: that of the store counts whole ones.
 APART = 2
 
@@ -157,6 +164,139 @@ def an_upload_keeps_its_rate():
         same(server.ended()[1], 6_000_000, "octets moved")
 
 
+def lent_sockets(process):
+    """The sockets of a process that the machine lends to this one, which began it."""
+    libc = ctypes.CDLL(None)
+    whole, found = libc.syscall(PIDFD_OPEN, process.pid, 0), []
+    if whole < 0:
+        return found
+    for number in os.listdir(f"/proc/{process.pid}/fd"):
+        if os.readlink(f"/proc/{process.pid}/fd/{number}").startswith("socket:"):
+            one = libc.syscall(PIDFD_GETFD, whole, int(number), 0)
+            if one >= 0:
+                found.append(socket.socket(fileno=one))
+    os.close(whole)
+    return found
+
+
+def seconds_of(connection, option):
+    """The seconds after which calls on a connection fail; 0 for never."""
+    seconds, micros = struct.unpack("ll", connection.getsockopt(socket.SOL_SOCKET, option, 16))
+    return seconds + micros / 1_000_000
+
+
+def time_outs(server, port):
+    """The seconds of a write and of a read on each connection that came to a port of a server."""
+    found = []
+    for it in lent_sockets(server.process):
+        with it:
+            try:
+                it.getpeername()
+            except OSError:
+                continue
+            if it.getsockname()[1] == port:
+                found.append((seconds_of(it, socket.SO_SNDTIMEO), seconds_of(it, socket.SO_RCVTIMEO)))
+    return found
+
+
+def time_outs_are_set():
+    """A peer that moves nothing holds a data connection for a minute at most, and one that reads no reply a session for seconds: the sockets have these time-outs, if the machine lets them be seen."""
+    with Server(root="folder", files={"big": MUCH}) as server:
+        client = Client(server)
+        if time_outs(server, server.port):
+            same([write for write, _ in time_outs(server, server.port)], [1], "a write of a reply")
+            port = client.passive_port()
+            data = Data(port, 4096)
+            client.says("RETR big", "150 Opening data connection")
+            want(data.read(), "some octets")
+            until(lambda: [write for write, _ in time_outs(server, port)] == [20], "the time-out of a download")
+            client.says("ABOR", "426 Transfer aborted", "226 Abort done")
+            data.close()
+            port = client.passive_port()
+            data = Data(port)
+            client.says("STOR up", "150 Opening data connection")
+            until(lambda: [read for _, read in time_outs(server, port)] == [60], "the time-out of an upload")
+            data.close()
+            client.says(None, "226 Transfer complete")
+        client.quit()
+        server.ended()
+
+
+def a_listing_delays_nobody():
+    """While a session lists many entries of a folder, another has its own calls answered."""
+    with Server(sessions=2, root="folder", files={"f": b"abc", "big": None}) as server:
+        for number in range(30_000):
+            server.put(f"big/an-entry-of-many-{number:05}", b"")
+        one, two, asked = Client(server), Client(server), []
+        data = one.passive()
+        begun = time.monotonic()
+        one.send("LIST big")
+        over = threading.Event()
+
+        def ask():
+            while not over.is_set():
+                since = time.monotonic()
+                same(two.length_of("f"), 3, "the length")
+                asked.append((since - begun, time.monotonic() - begun))
+
+        asking = threading.Thread(target=ask)
+        asking.start()
+        one.says(None, "150 Opening data connection")
+        took = time.monotonic() - begun
+        over.set()
+        asking.join()
+        same(len(data.whole().splitlines()), 30_000, "the entries")
+        one.says(None, "226 Transfer complete")
+        meanwhile = sum(since > took / 5 and until < took * 4 / 5 for since, until in asked)
+        want(meanwhile >= 5, f"{meanwhile} calls were answered in the middle of a listing of {took:.2f} seconds")
+        for client in (one, two):
+            client.quit()
+        server.ended()
+
+
+def files_of_any_length():
+    """Files of random lengths, and of those at the edges of buffers, are stored and come back, as octets and as text, in memory and in a folder."""
+    chance = random.Random(60)
+    lengths = [0, 1, 4095, 4096, 4097, 32767, 32768, 60_001, 65_535, 65_536, 65_537, 131_072] + [chance.randrange(200_000) for _ in range(30)]
+    for root in ("memory", "folder"):
+        with Server(root=root, files={} if root == "folder" else None, server="capacity = 1000000" if root == "memory" else "", passive=40) as server:
+            client = Client(server)
+            for number, length in enumerate(lengths):
+                octets = chance.randbytes(length)
+                client.store("up", octets)
+                same(client.length_of("up"), length, "the length")
+                want(client.retrieve("up") == octets, f"other octets of {length}")
+                begin = chance.randrange(length + 1)
+                client.says(f"REST {begin}", f"350 Restart at {begin}")
+                want(client.retrieve("up") == octets[begin:], f"other octets of {length} from {begin} on")
+                if number % 4 == 0:
+                    text = octets.replace(b"\r", b"").replace(b"\n", b"\r\n")
+                    client.says("TYPE A", "200 Type is A")
+                    client.store("up", text)
+                    want(client.retrieve("up") == text, f"another text of {length}")
+                    client.says("TYPE I", "200 Type is I")
+            client.quit()
+            server.ended()
+
+
+def four_thousand_users_are_served():
+    """A server with 4,000 users in 200 groups, each with rates and guarantees, begins, and moves the files of the first, of the last and of one between."""
+    rates = "down_rate = 20000000\nup_rate = 20000000\n"
+    groups = "".join(f'[[group]]\nname = "g{number}"\n{rates}' for number in range(200))
+    row = 'password = "secret"\nhome = "/"\nperms = "elradfmw"\nsession_down_floor = 1\n'
+    users = "".join(f'[[user]]\nname = "u{number}"\ngroup = "g{number % 200}"\n{row}{rates}' for number in range(4000))
+    server = Server(sessions=3, root="folder", files={"f": b"a\nb"}, users=groups + users)
+    server.text = server.made_text().replace("version = 1", "version = 2", 1)
+    with server:
+        clients = [Client(server, f"u{number}") for number in (0, 2017, 3999)]
+        for client in clients:
+            client.store("up", bytes(100_000))
+            same(client.retrieve("up"), bytes(100_000), "what came back")
+        for client in clients:
+            client.quit()
+        same(server.ended()[1], 600_000, "octets moved")
+
+
 def closed_streams_are_the_null_device():
     """A server whose standard streams were closed has the null device in the place of each, so that none of its files or sockets is one of them."""
     with Server(sessions=1, root="folder", before="exec <&- >&- 2>&-", words=["--login-delay", "0", "--ready-file", "started"]) as server:
@@ -172,6 +312,10 @@ def closed_streams_are_the_null_device():
 
 ROWS = [
     it_listens_at_its_address_alone,
+    time_outs_are_set,
+    a_listing_delays_nobody,
+    files_of_any_length,
+    four_thousand_users_are_served,
     one_guarantee_comes_back_once,
     a_stop_waits_for_no_reader,
     a_listing_of_thirty_thousand,

@@ -276,17 +276,28 @@ def memory_of(process):
         return next(int(line.split()[1]) * 1024 for line in it if line.startswith("VmSize:"))
 
 
+def greeted_or_none(server):
+    """A client that is greeted, or none."""
+    client = Client(server, name=None)
+    if client.line() == "220 Ready":
+        return client
+    client.close()
+    return None
+
+
 def a_session_without_a_thread():
-    """A client whose session the machine gives no thread is told so, and closed; once there is room the next one is served."""
-    with Server(sessions=2) as server:
+    """A client whose session the machine gives no thread is told so, and closed; once there is room the next one is served, in its place."""
+    with Server(sessions=2, server="max_cons = 2") as server:
         first = Client(server)
         resource.prlimit(server.process.pid, resource.RLIMIT_AS, (memory_of(server.process) + 65536, resource.RLIM_INFINITY))
         second = Client(server, name=None)
         second.says(None, "421 No thread for a session")
         second.at_end()
         resource.prlimit(server.process.pid, resource.RLIMIT_AS, (resource.RLIM_INFINITY, resource.RLIM_INFINITY))
+        found = []
+        until(lambda: found.append(greeted_or_none(server)) or found[-1], "the place of a client that was turned away")
         first.quit()
-        Client(server).quit()
+        found[-1].quit()
         server.ended()
         notes = server.notes_made(heads=True)
         want("127.0.0.1 refused: no thread could be started" in notes, f"a note of it: {notes}")

@@ -148,6 +148,9 @@ class Reading:
                 self.begin(lanes, Rates(server, (down, up), self.next_groups, self.next_users))
                 self.next_groups, self.next_users = {}, {}
                 return ""
+            case "run":
+                # (the answers of its events are the same, and none is printed before the last of them)
+                return ""
             case "look":
                 return self.look()
             case "decide":

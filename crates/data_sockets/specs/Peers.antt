@@ -1,5 +1,5 @@
 -- Addresses of connections.
-use Rattle.std.specs.Prelude.{◌≡◌, ⊤, ℕ, List, Option, Some, None}
+use Rattle.std.specs.Prelude.{◌≡◌, ⊤, ℕ, List, [], ◌∷◌, Option, Some, None}
 use Rattle.std.specs.Net.Addr.{ipv4_octets}
 use Rattle.std.specs.Net.Socket.{v4_ip, v4_port}
 use Rattle.std.specs.declared.net.socket_addr.SocketAddr.{SocketAddr}
@@ -10,6 +10,11 @@ abbrev pub IsAddress : SocketAddr → List ℕ → ℕ → Type 0
 IsAddress (V4 socket) address port =
     (ipv4_octets (v4_ip socket) ≡ address) × (v4_port socket ≡ port)
 IsAddress (V6 socket) address port = ⊥
+
+-- the octets of an IPv4 address; those of no host for another
+abbrev pub IsOctetsOf : SocketAddr → List ℕ → Type 0
+IsOctetsOf (V4 socket) octets = octets ≡ ipv4_octets (v4_ip socket)
+IsOctetsOf (V6 socket) octets = octets ≡ 0 ∷ 0 ∷ 0 ∷ 0 ∷ []
 
 -- the socket has this address, at any port
 abbrev pub IsFrom : SocketAddr → List ℕ → Type 0

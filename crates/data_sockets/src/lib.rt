@@ -24,5 +24,5 @@ pub use connection::DataConnection;
 pub use end::TransferEnd;
 pub use name::TransferName;
 pub use outgoing::{Outgoing, Progress};
-pub use passive::{accept_from, listen, socket_address};
+pub use passive::{accept_from, address_octets, listen, socket_address};
 pub use served::{Listing, Served};

@@ -1,7 +1,7 @@
 //! Passive ports: listening, and accepting the peer.
 
 ghost use Rattle.std.specs.Prelude.{◌↔◌, IsTrue};
-ghost use Rattle.data_sockets.specs.Peers.{IsAddress, IsFrom, IsWanted};
+ghost use Rattle.data_sockets.specs.Peers.{IsAddress, IsFrom, IsOctetsOf, IsWanted};
 
 use std::io;
 use std::net::{Ipv4Addr, Net, SocketAddr, SocketAddrV4, TcpListener, TcpStream};
@@ -17,12 +17,22 @@ pub fn socket_address(address: [u8; 4], port: u16) -> SocketAddr
     SocketAddr::V4(SocketAddrV4::new(Ipv4Addr::new(a, b, c, d), port))
 }
 
-/// Listens on a port, so that `accept_from` does not wait.
-pub fn listen<R>(rt: &R, address: [u8; 4], port: u16) -> io::Result<TcpListener>
+/// The octets of an IPv4 address; those of no host for another.
+pub fn address_octets(address: SocketAddr) -> [u8; 4]
+    ensures octets { IsOctetsOf address result }
+{
+    match address {
+        SocketAddr::V4(at) => at.ip().octets(),
+        SocketAddr::V6(_) => [0; 4],
+    }
+}
+
+/// Listens at an address, so that `accept_from` does not wait.
+pub fn listen<R>(rt: &R, at: SocketAddr) -> io::Result<TcpListener>
 where
     R: Net<Listener = TcpListener, Stream = TcpStream>,
 {
-    let listener = TcpListener::bind(rt, socket_address(address, port))?;
+    let listener = TcpListener::bind(rt, at)?;
     listener.set_nonblocking(true)?;
     Ok(listener)
 }

@@ -207,6 +207,20 @@ fn rounds_keep_the_rates_of_their_pace(rt: HostRuntime) {
     holds(&rt, settled.issued == 8 && settled.moved == 8);
 }
 
+/// Moments in microseconds, each half a second after a second began, up to the last that there is.
+static LATE: [u64; 3] = [8_589_934_592_500_000, 9_223_372_036_854_500_000, u64::MAX];
+
+#[test]
+fn rounds_are_held_at_late_moments(rt: HostRuntime) {
+    let mut paced = PacedDesk::open(&rt);
+    for now in &LATE {
+        // the rates keep a tenth of a second, so both get all that they ask for
+        holds(&rt, paced.shares(&rt, *now, (10, 10)));
+    }
+    let settled = paced.close(&rt);
+    holds(&rt, settled.issued == 60 && settled.moved == 60);
+}
+
 #[test]
 fn rates_are_changed_between_rounds(rt: HostRuntime) {
     let mut paced = PacedDesk::open(&rt);

@@ -176,6 +176,35 @@ fn one_round_a_tick(rt: HostRuntime) {
     );
 }
 
+/// Moments of rounds, in milliseconds, up to the last that there is, and the octets that 25 a second grant in their ticks.
+static MOMENTS: [(u64, u64); 6] = [
+    (0, 2),
+    (429_496_729_500, 3),
+    (429_496_729_600, 2),
+    (429_496_729_700, 3),
+    (9_223_372_036_854_775_800, 2),
+    (u64::MAX, 2),
+];
+
+#[test]
+fn a_round_is_held_at_any_moment(rt: HostRuntime) {
+    let limits = limits(&rt, 25, 0);
+    let mut desk = desk_of(&rt, 1, false);
+    for (moment, octets) in &MOMENTS {
+        holds(&rt, desk.sit(0) && desk.ask(0, down(0, 5)));
+        match desk.round(rt.alloc(), &limits, *moment) {
+            Ok(record) => holds(
+                &rt,
+                record.tick == *moment / 100 && record.sealed.grants() == [*octets].as_slice(),
+            ),
+            Err(_) => panic!(&rt; "a round was refused"),
+        }
+        holds(&rt, desk.take(0, u64::MAX) == Some(*octets) && desk.rise(0));
+    }
+    let settled = desk.close();
+    holds(&rt, settled.issued == 14 && settled.moved == 14);
+}
+
 /// Lane 4 was granted 7 octets and has not taken them, lane 1 sits, lanes 2 and 3 have asked, and lane 3 was collected.
 #[test]
 fn five_lanes_in_different_states(rt: HostRuntime) {

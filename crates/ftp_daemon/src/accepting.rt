@@ -1,14 +1,15 @@
 //! Control connections: admission, and a thread for each.
 
-ghost use Rattle.std.specs.Prelude.{◌≡◌};
+ghost use Rattle.std.specs.Prelude.{◌≡◌, ◌≢◌, ◌≤◌, ◌↔◌, IsTrue, false};
 ghost use Rattle.std.specs.Thread.{IsSend, IsSync};
-ghost use Rattle.ftp_daemon.specs.Accepting.{is_reported};
+ghost use Rattle.ftp_daemon.specs.Accepting.{is_reported, refusal};
 
+use data_sockets::address_octets;
 use event_word::{has_passed, micros};
 use lent_parts::PartsName;
 use passive_ports::AdmitFault;
 use recorded_store::Recorder;
-use server_house::{House, NotServed, ServerEvent, ServerHooks, ShutdownStage};
+use server_house::{ClientSession, House, NotServed, ServerEvent, ServerHooks, ShutdownStage};
 use socket_host::serve_session;
 use std::alloc::Global;
 use std::io::{ErrorKind, Write};
@@ -31,7 +32,10 @@ const PAUSE: u64 = 20;
 /// The time between two reports of such failures at least, in microseconds.
 const QUIET: u64 = 1_000_000;
 
-fn refusal(why: NotServed) -> &'static [u8] {
+// The reply to a client that is not served.
+fn refusal(why: NotServed) -> &'static [u8]
+    ensures text { result.now ≡ refusal why }
+{
     match why {
         NotServed::NotAdmitted(AdmitFault::TooMany) => b"421 Too many connections\r\n",
         NotServed::NotAdmitted(AdmitFault::TooManyOfAddress) => {
@@ -63,35 +67,27 @@ where
     let _ = stream.shutdown(Shutdown::Write);
 }
 
-// The address of a peer; it is always IPv4, since the server listens on IPv4.
-fn octets_of(address: SocketAddr) -> [u8; 4] {
-    match address {
-        SocketAddr::V4(from) => from.ip().octets(),
-        SocketAddr::V6(_) => [0; 4],
-    }
-}
-
 // Returns whether no more sessions are to be admitted; for `sessions`, 0 is no limit.
-fn is_enough(sessions: u64, admitted: u64) -> bool {
+fn is_enough(sessions: u64, admitted: u64) -> bool
+    ensures endless { sessions ≡ 0 → result ≡ false }
+    ensures enough { sessions ≢ 0 → (IsTrue result ↔ (sessions ≤ admitted)) }
+{
     sessions != 0 && admitted >= sessions
 }
 
-// An admitted client: its address, and the key of its connection in the registry. Its connection is among the arrivals.
-#[derive(Clone, Copy)]
-struct Client {
-    peer: [u8; 4],
-    key: usize,
-}
-
 // Takes the connection of a client from the arrivals.
-fn take_arrival<R, S, H, B>(rt: &R, house: &House<S, H, B>, key: usize) -> Option<TcpStream>
+fn take_arrival<R, S, H, B>(
+    rt: &R,
+    house: &House<S, H, B>,
+    session: ClientSession,
+) -> Option<TcpStream>
 where
     R: Wait,
     S: Store<Global>,
     H: ServerHooks,
     B: PartsName,
 {
-    match house.arrivals.get(key) {
+    match house.arrivals.get(session.number) {
         Some(arrival) => arrival.lock(rt).take(),
         None => None,
     }
@@ -102,22 +98,21 @@ fn arrive<R, S, H, B>(
     rt: &R,
     house: &House<S, H, B>,
     stream: TcpStream,
-    peer: [u8; 4],
-    key: usize,
-) -> Option<Client>
+    session: ClientSession,
+) -> Option<ClientSession>
 where
     R: Wait,
     S: Store<Global>,
     H: ServerHooks,
     B: PartsName,
 {
-    match house.arrivals.get(key) {
+    match house.arrivals.get(session.number) {
         Some(arrival) => {
             *arrival.lock(rt) = Some(stream);
-            Some(Client { peer, key })
+            Some(session)
         }
         None => {
-            house.registry.lock(rt).leave(key);
+            house.registry.lock(rt).leave(session.number);
             None
         }
     }
@@ -168,21 +163,21 @@ fn admit<R, S, H, B>(
     house: &House<S, H, B>,
     stream: TcpStream,
     from: SocketAddr,
-) -> Option<Client>
+) -> Option<ClientSession>
 where
     R: Wait,
     S: Store<Global>,
     H: ServerHooks,
     B: PartsName,
 {
-    let peer = octets_of(from);
+    let peer = address_octets(from);
     if house.ending.has_begun(ShutdownStage::Drain) {
         refuse(rt, house, stream, peer, NotServed::Ending);
         return None;
     }
     let admitted = house.registry.lock(rt).admit(peer);
     match admitted {
-        Ok(key) => arrive(rt, house, stream, peer, key),
+        Ok(number) => arrive(rt, house, stream, ClientSession { peer, number }),
         Err(fault) => {
             refuse(rt, house, stream, peer, NotServed::NotAdmitted(fault));
             None
@@ -196,7 +191,7 @@ fn next_client<R, S, H, B>(
     house: &House<S, H, B>,
     listener: &TcpListener,
     reported: &mut Option<u64>,
-) -> Option<Client>
+) -> Option<ClientSession>
 where
     R: Wait + Clock,
     S: Store<Global>,
@@ -218,32 +213,30 @@ where
 }
 
 // Serves a client to the end.
-fn serve_client<R, S, H, B>(rt: &R, house: &House<S, H, B>, client: Client)
+fn serve_client<R, S, H, B>(rt: &R, house: &House<S, H, B>, session: ClientSession)
 where
     R: Wait + Clock + Net<Listener = TcpListener, Stream = TcpStream> + AllocGlobal,
     S: Store<Global> + Recorder,
     H: ServerHooks,
     B: PartsName,
 {
-    let Client { peer, key } = client;
-    if let Some(stream) = take_arrival(rt, house, key) {
-        serve_session(rt, house, stream, peer, key);
+    if let Some(stream) = take_arrival(rt, house, session) {
+        serve_session(rt, house, stream, session);
     }
 }
 
 // Turns away a client for which no thread could be started: it leaves the registry.
-fn turn_away<R, S, H, B>(rt: &R, house: &House<S, H, B>, client: Client)
+fn turn_away<R, S, H, B>(rt: &R, house: &House<S, H, B>, session: ClientSession)
 where
     R: Wait,
     S: Store<Global>,
     H: ServerHooks,
     B: PartsName,
 {
-    let Client { peer, key } = client;
-    if let Some(stream) = take_arrival(rt, house, key) {
-        refuse(rt, house, stream, peer, NotServed::NoThread);
+    if let Some(stream) = take_arrival(rt, house, session) {
+        refuse(rt, house, stream, session.peer, NotServed::NoThread);
     }
-    house.registry.lock(rt).leave(key);
+    house.registry.lock(rt).leave(session.number);
 }
 
 /// Accepts control connections until the wanted number of sessions has begun, or the sessions are to end; then stops
@@ -280,13 +273,13 @@ where
                     break;
                 }
                 match next_client(rt, house, &listener, &mut reported) {
-                    Some(client) => {
+                    Some(session) => {
                         let started = Builder::new()
                             .stack_size(STACK)
-                            .spawn_scoped(scope, move || serve_client(rt, house, client));
+                            .spawn_scoped(scope, move || serve_client(rt, house, session));
                         match started {
                             Ok(_) => admitted = admitted.saturating_add(1),
-                            Err(_) => turn_away(rt, house, client),
+                            Err(_) => turn_away(rt, house, session),
                         }
                     }
                     None => {}

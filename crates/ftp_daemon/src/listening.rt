@@ -3,11 +3,10 @@
 ghost use Rattle.std.specs.Prelude.{◌≡◌};
 ghost use Rattle.ftp_daemon.specs.Descriptors.{are_few};
 
-use data_sockets::socket_address;
 use ftpd_program::ServeFault;
 use libc::types::rlimit;
 use server_config::ServerNumbers;
-use server_house::{ServerEvent, ServerHooks, descriptors_for};
+use server_house::{OwnAddress, ServerEvent, ServerHooks, descriptors_for};
 use std::net::{Net, TcpListener, TcpStream};
 
 /// Listens on the address and port of a server. Returns `Bind` if they cannot be bound; the handler is told the reason.
@@ -20,8 +19,7 @@ where
     R: Net<Listener = TcpListener, Stream = TcpStream>,
     H: ServerHooks,
 {
-    let own = socket_address(numbers.address, numbers.port);
-    match TcpListener::bind(rt, own) {
+    match TcpListener::bind(rt, OwnAddress::of_server(numbers).socket()) {
         Ok(listener) => Ok(listener),
         Err(error) => {
             handler.on_server(ServerEvent::NotBound(numbers.address, numbers.port, error));

@@ -12,7 +12,6 @@ ghost use Rattle.round_pace.specs.Paced.{IsPacedFrom};
 use client_patience::Patience;
 use ftpd_program::ServeFault;
 use grant_ledger::{Book, Settled, Tally, settle};
-use handler_hooks::Hooks;
 use lane_desk::{Desk, LaneSeat, RoundDesk, Worked, open_desk};
 use lane_rounds::RoundClock;
 use line_rates::Limits;
@@ -30,7 +29,7 @@ use virtual_tree::Store;
 
 /// The parts that a caller hands to a server.
 #[derive(Drop)]
-pub struct Service<S: Drop, H: Hooks, P: Drop> {
+pub struct Service<S: Drop, H: Drop, P: Drop> {
     /// The users, and the settings of sessions.
     pub terms: Arc<Terms>,
     pub numbers: ServerNumbers,
@@ -49,7 +48,7 @@ pub struct Service<S: Drop, H: Hooks, P: Drop> {
 
 /// The parts that the threads will share, except desk and board.
 #[derive(Drop)]
-pub(crate) struct Rooms<S: Store<Global>, H: Hooks, P: Drop> {
+pub(crate) struct Rooms<S: Store<Global>, H: Drop, P: Drop> {
     pub(crate) terms: SharedTerms,
     pub(crate) numbers: ServerNumbers,
     pub(crate) store: S,
@@ -138,7 +137,7 @@ pub(crate) fn open_rooms<R, S, H, P>(
 where
     R: RoundClock + AllocGlobal,
     S: Store<Global> + Drop,
-    H: Hooks,
+    H: Drop,
     P: Drop,
     ensures new { IfOk result (λ r. IsPacedFrom (tick_of r.begun) service.limits r.pace) }
     ensures when { IfOk result (λ r. R.when r.begun ≡ true) }

@@ -21,7 +21,6 @@ use crate::works::{LentLine, Lists, Works, lend_line, lend_passes, new_lists};
 use event_word::{EventCount, SharedEventCount};
 use ftpd_program::ServeFault;
 use grant_ledger::Settled;
-use handler_hooks::Hooks;
 use lane_rounds::RoundClock;
 use lent_parts::{LentBoard, LentPass, PartsName};
 use paced_rounds::seconds_are_kept;
@@ -40,7 +39,7 @@ use transfer_worker::{BoardPass, JobBoard, open_board};
 use virtual_tree::Store;
 
 // The parts that the threads share, with the board; also the pace, and what the owner sees to.
-fn furnish<S: Store<Global>, H: Hooks, B: PartsName, P: Drop>(
+fn furnish<S: Store<Global>, H: Drop, B: PartsName, P: Drop>(
     rooms: Rooms<S, H, P>,
     board: LentBoard<B, u32>,
     pass: LentPass<B, u32>,

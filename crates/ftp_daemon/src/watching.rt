@@ -7,15 +7,13 @@ ghost use Rattle.line_rates.specs.Rates.{Rates};
 
 use crate::draining::{Due, next_due};
 use crate::reloading::{ReloadFault, ReloadSign, take};
-use data_sockets::socket_address;
 use event_word::{has_passed, micros};
 use grant_ledger::MAX_LANES;
-use handler_hooks::Hooks;
 use lane_rounds::{TalliedRounds, look};
 use lent_parts::PartsName;
 use round_tally::Tallies;
 use server_house::{
-    House, LaneLook, LaneSign, ServerEvent, ServerHooks, ServerLook, ShutdownStage,
+    House, LaneLook, LaneSign, OwnAddress, ServerEvent, ServerHooks, ServerLook, ShutdownStage,
 };
 use std::alloc::Global;
 use std::net::{Net, TcpListener, TcpStream};
@@ -131,7 +129,7 @@ fn end<R, S, H, B>(rt: &R, house: &House<S, H, B>)
 where
     R: Wait + Clock + Net<Listener = TcpListener, Stream = TcpStream>,
     S: Store<Global>,
-    H: Hooks,
+    H: Drop,
     B: PartsName,
 {
     house.ending.begin(ShutdownStage::Sessions);
@@ -257,10 +255,10 @@ fn wake<R, S, H, B>(rt: &R, house: &House<S, H, B>)
 where
     R: Wait + Clock + Net<Listener = TcpListener, Stream = TcpStream>,
     S: Store<Global>,
-    H: Hooks,
+    H: Drop,
     B: PartsName,
 {
-    let own = socket_address(house.numbers.address, house.numbers.port);
+    let own = OwnAddress::of_server(&house.numbers).socket();
     for _ in rt.forever() {
         if house.ending.has_begun(ShutdownStage::Lanes) {
             return;

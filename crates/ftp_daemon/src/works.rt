@@ -15,7 +15,6 @@ use crate::opening::Line;
 use crate::settling::{Lent, Room};
 use crate::watching::OwnerSigns;
 use grant_ledger::Tally;
-use handler_hooks::Hooks;
 use lane_desk::{LaneSeat, Rounds};
 use lane_rounds::{RoundClock, TalliedRounds};
 use lent_parts::{LentDesk, LentPass, LentRounds, LentWorker, PartsName};
@@ -29,7 +28,7 @@ use transfer_worker::BoardPass;
 use virtual_tree::Store;
 
 /// Everything that the threads of a server share. It cannot be dropped.
-pub(crate) struct Works<R: RoundClock, S: Store<Global>, H: Hooks, B: PartsName, P: OwnerSigns> {
+pub(crate) struct Works<R: RoundClock, S: Store<Global>, H: Drop, B: PartsName, P: OwnerSigns> {
     pub(crate) rt: R,
     pub(crate) house: House<S, H, B>,
     /// The passes with which lanes take transfers: each takes one as it begins.

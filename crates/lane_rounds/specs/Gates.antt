@@ -1,5 +1,7 @@
 -- A lane's gate: its answers, and the knowledge of the lane that runs a transfer.
 use Rattle.std.specs.Prelude.{ℕ, ◌+◌, min, nat_le, nat_lt, Bool, true, false, ◌&&◌, ◌||◌, not, if◌then◌else◌}
+use Rattle.line_rates.specs.declared.ask.Way.{Way}
+use Rattle.line_rates.specs.declared.ask.Way.TheVariants.{Down, Up}
 use Rattle.round_cadence.specs.declared.intervals.TheConstants.{WORTH, WORTH_UP}
 use Rattle.server_house.specs.Tickets.{is_upload}
 use Rattle.transfer_ticket.specs.declared.view.TicketView.{TicketView}
@@ -7,6 +9,7 @@ use Rattle.transfer_ticket.specs.declared.view.TicketView.TheVariants.{Away, Mis
 use Rattle.transfer_worker.specs.declared.gate.Go.{Go}
 use Rattle.transfer_worker.specs.declared.gate.Go.TheVariants.{On, Stop}
 use Rattle.transfer_worker.specs.declared.job.LaneJob.{LaneJob}
+use Rattle.transfer_worker.specs.declared.job.LaneJob.TheVariants.{Send, Take}
 
 -- a transfer stops before an ask alone, if its session has asked for that or rounds are refused to
 -- it for lack of memory
@@ -23,6 +26,11 @@ dribbles_after dribbles is_free octets =
     else dribbles
 
 module _ {R K C : Type 0} where
+  -- the direction, the user and the session of a transfer
+  abbrev pub signed : LaneJob R K C → Way × ℕ × ℕ
+  signed (Send user session source connection data_type) = (Down, user, session)
+  signed (Take user session connection sink data_type) = (Up, user, session)
+
   -- the transfer that a lane runs is an upload
   abbrev pub runs_upload : TicketView (LaneJob R K C) → Bool
   runs_upload Away = false

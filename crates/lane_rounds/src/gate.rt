@@ -11,7 +11,6 @@ use crate::ends::{report_of, reported_of};
 use crate::paced::TalliedRounds;
 use crate::rounds::help;
 use data_sockets::{DataConnection, Served};
-use handler_hooks::Hooks;
 use lent_parts::{LentDesk, PartsName};
 use round_cadence::{WORTH, WORTH_UP};
 use server_house::{House, LaneEnds, LaneSign, SessionEnd, SessionJob};
@@ -51,7 +50,7 @@ pub(crate) struct LaneGate<
     't,
     R: RoundClock,
     S: Store<Global>,
-    H: Hooks,
+    H: Drop,
     B: PartsName,
     N,
 > {
@@ -85,7 +84,7 @@ impl<'r, 'h, 'd, 't, R, S, H, B, N> LaneGate<'r, 'h, 'd, 't, R, S, H, B, N>
 where
     R: Wait + Clock + RoundClock + AllocGlobal,
     S: Store<Global>,
-    H: Hooks,
+    H: Drop,
     B: PartsName,
 {
     /// The gate of a lane for the transfer that it runs, an upload if so.
@@ -248,7 +247,7 @@ impl<'r, 'h, 'd, 't, R, S, H, B, N> Gate<
 where
     R: Wait + Clock + RoundClock + AllocGlobal,
     S: Store<Global>,
-    H: Hooks,
+    H: Drop,
     B: PartsName,
 {
     ghost use Rattle.std.specs.Prelude.{None};

@@ -5,7 +5,6 @@ ghost use Rattle.lane_rounds.specs.Clocks.{IsTestOf};
 use crate::clock::RoundClock;
 use crate::paced::TalliedRounds;
 use crate::rounds::try_one;
-use handler_hooks::Hooks;
 use lent_parts::{LentDesk, PartsName};
 use server_house::{House, ShutdownStage};
 use std::alloc::Global;
@@ -27,7 +26,7 @@ pub fn keep_rounds<R, S, H, B, N>(
 where
     R: Wait + Clock + RoundClock + AllocGlobal,
     S: Store<Global>,
-    H: Hooks,
+    H: Drop,
     B: PartsName,
     requires clock { IsTestOf R.when B.when }
 {

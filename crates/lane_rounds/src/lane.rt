@@ -4,12 +4,12 @@ ghost use Rattle.std.specs.Prelude.{◌≡◌};
 ghost use Rattle.desk_rule.specs.declared.view.SeatState.TheVariants.{Free};
 ghost use Rattle.lane_desk.specs.Seats.{seat_view};
 ghost use Rattle.lane_rounds.specs.Clocks.{IsTestOf};
+ghost use Rattle.lane_rounds.specs.Gates.{signed};
 ghost use Rattle.server_house.specs.Tickets.{is_upload};
 
 use crate::clock::RoundClock;
 use crate::gate::LaneGate;
 use crate::paced::TalliedRounds;
-use handler_hooks::Hooks;
 use lent_parts::{LentDesk, LentPass, LentWorker, PartsName};
 use line_rates::Way;
 use server_house::{House, LaneSign, SessionTicket, ShutdownStage};
@@ -31,18 +31,21 @@ fn is_upload<R: Source, K: Sink, C: Read + Write + Drop>(job: &LaneJob<R, K, C>)
     matches!(job, LaneJob::Take { .. })
 }
 
-// Records the user, the direction and the session that the lane works for.
-fn sign<R: Source, K: Sink, C: Read + Write + Drop>(sign: &LaneSign, job: &LaneJob<R, K, C>) {
+// The direction, the user and the session of a transfer.
+fn signed<R: Source, K: Sink, C: Read + Write + Drop>(job: &LaneJob<R, K, C>) -> (Way, u32, u32)
+    ensures signed { result ≡ signed job.now }
+{
     match job {
-        LaneJob::Send { user, session, .. } => {
-            sign.name.set(Way::Down, *user);
-            sign.set_session(Some(*session));
-        }
-        LaneJob::Take { user, session, .. } => {
-            sign.name.set(Way::Up, *user);
-            sign.set_session(Some(*session));
-        }
+        LaneJob::Send { user, session, .. } => (Way::Down, *user, *session),
+        LaneJob::Take { user, session, .. } => (Way::Up, *user, *session),
     }
+}
+
+// Records for whom the lane works.
+fn sign<R: Source, K: Sink, C: Read + Write + Drop>(sign: &LaneSign, job: &LaneJob<R, K, C>) {
+    let (way, user, session) = signed(job);
+    sign.name.set(way, user);
+    sign.set_session(Some(session));
 }
 
 // Runs the transfer that waits on a ticket to its end, and reports that; nothing if it was taken back.
@@ -57,7 +60,7 @@ fn run_transfer<'h, R, S, H, B, N>(
 where
     R: Wait + Clock + RoundClock + AllocGlobal,
     S: Store<Global>,
-    H: Hooks,
+    H: Drop,
     B: PartsName,
     requires clock { IsTestOf R.when B.when }
     requires free { (seat_view worker.old.seat).state ≡ Free }
@@ -94,7 +97,7 @@ pub fn work_lane<R, S, H, B, N>(
 where
     R: Wait + Clock + RoundClock + AllocGlobal,
     S: Store<Global>,
-    H: Hooks,
+    H: Drop,
     B: PartsName,
     requires clock { IsTestOf R.when B.when }
 {

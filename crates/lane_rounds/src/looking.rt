@@ -5,7 +5,6 @@ ghost use Rattle.round_tally.specs.Counts.{tallied};
 
 use crate::paced::TalliedRounds;
 use grant_ledger::MAX_LANES;
-use handler_hooks::Hooks;
 use lent_parts::PartsName;
 use round_tally::Tallies;
 use server_house::{House, LaneSign};
@@ -55,7 +54,7 @@ pub fn look<R, S, H, B, N>(
 where
     R: Wait + Clock,
     S: Store<Global>,
-    H: Hooks,
+    H: Drop,
     B: PartsName,
 {
     for _ in 0..TRIES {

@@ -5,7 +5,6 @@ ghost use Rattle.lane_rounds.specs.Dues.{sooner};
 
 use crate::paced::TalliedRounds;
 use grant_ledger::MAX_LANES;
-use handler_hooks::Hooks;
 use lane_desk::RoundRecord;
 use lent_parts::{LentDesk, LentRounds, PartsName};
 use round_pace::{Due, TICK_MICROS};
@@ -42,7 +41,7 @@ fn wake_lanes(lanes: &[LaneSign], answered: u64, is_refused: bool) {
 // The lanes that a round is of: those of transfers whose rows are open, or that are to stop: their asks are to be
 // answered, so that their lanes can leave them. A lane without a transfer is not tried. The signs are hints, as for
 // `due_by`: a lane whose sign is stale is left out, or asked too early, in one round.
-fn open_lanes<S: Store<Global>, H: Hooks, B: PartsName, N>(
+fn open_lanes<S: Store<Global>, H: Drop, B: PartsName, N>(
     house: &House<S, H, B>,
     rounds: &LentRounds<B, N>,
     now: u64,
@@ -78,7 +77,7 @@ fn report_wholes(lanes: &[LaneSign], record: &RoundRecord) {
 }
 
 // Holds one round of the lanes whose transfers' rows are open. A refused one has answered each lane too, with 0 octets.
-fn hold_one<S: Store<Global>, H: Hooks, B: PartsName, N>(
+fn hold_one<S: Store<Global>, H: Drop, B: PartsName, N>(
     alloc: Global,
     house: &House<S, H, B>,
     desk: &LentDesk<B, N>,
@@ -111,7 +110,7 @@ fn sooner(one: Due, other: Due) -> Due
 // The earliest moment of a round for the worker of a lane: at once, if its transfer is to stop, and never without a
 // transfer. The lane's sign is a hint: it may have the name of the worker's next transfer by now, and then a round is
 // held too early or too late for this one.
-fn due_at<S: Store<Global>, H: Hooks, B: PartsName, N>(
+fn due_at<S: Store<Global>, H: Drop, B: PartsName, N>(
     house: &House<S, H, B>,
     rounds: &LentRounds<B, N>,
     sign: &LaneSign,
@@ -127,7 +126,7 @@ fn due_at<S: Store<Global>, H: Hooks, B: PartsName, N>(
 }
 
 // The earliest moment of a round for the worker of a lane, or for that of any.
-fn due_by<S: Store<Global>, H: Hooks, B: PartsName, N>(
+fn due_by<S: Store<Global>, H: Drop, B: PartsName, N>(
     house: &House<S, H, B>,
     rounds: &LentRounds<B, N>,
     sign: Option<&LaneSign>,
@@ -147,7 +146,7 @@ fn due_by<S: Store<Global>, H: Hooks, B: PartsName, N>(
 
 /// Holds one round at a moment in microseconds, if none is being held and one is due: for the worker of the lane with
 /// this sign, or for that of any lane.
-pub(crate) fn try_one<S: Store<Global>, H: Hooks, B: PartsName, N>(
+pub(crate) fn try_one<S: Store<Global>, H: Drop, B: PartsName, N>(
     alloc: Global,
     house: &House<S, H, B>,
     desk: &LentDesk<B, N>,
@@ -176,7 +175,7 @@ pub(crate) fn try_one<S: Store<Global>, H: Hooks, B: PartsName, N>(
 /// The bell is rung before the try. So if another thread has the lock, it sees the bell after it has released the lock,
 /// and holds a round for whoever is due. The lane itself looks again a tick later: its rows may not have been open in
 /// that round.
-pub(crate) fn help<S: Store<Global>, H: Hooks, B: PartsName, N>(
+pub(crate) fn help<S: Store<Global>, H: Drop, B: PartsName, N>(
     alloc: Global,
     house: &House<S, H, B>,
     desk: &LentDesk<B, N>,

@@ -1,6 +1,6 @@
 //! The shared parts of a server.
 
-ghost use Rattle.std.specs.Prelude.{◌≡◌, IfOk, [], ◌∷◌};
+ghost use Rattle.std.specs.Prelude.{◌≡◌, IfOk, [], ◌∷◌, slice_index_or};
 ghost use Rattle.server_house.specs.Settings.{AreSettingsAt, announced};
 
 use crate::ending::ServerShutdown;
@@ -10,7 +10,6 @@ use crate::ticket::SessionTicket;
 use client_patience::Patience;
 use event_word::{EventCount, SharedEventCount};
 use ftp_terms::LineText;
-use handler_hooks::Hooks;
 use lent_parts::{LentBoard, LentPass, PartsName};
 use passive_ports::{Registry, RestingPorts};
 use rate_floors::Floors;
@@ -24,7 +23,7 @@ use virtual_tree::Store;
 /// The parts that the threads of a server share, with its store `S`, the handler `H` of its owner, and the name `B` of
 /// its board.
 #[derive(Drop)]
-pub struct House<S: Store<Global>, H: Hooks, B: PartsName> {
+pub struct House<S: Store<Global>, H: Drop, B: PartsName> {
     /// The users, and the settings of sessions, which a reload exchanges.
     pub terms: SharedTerms,
     pub numbers: ServerNumbers,
@@ -56,7 +55,7 @@ pub struct House<S: Store<Global>, H: Hooks, B: PartsName> {
     pub ending: ServerShutdown,
 }
 
-impl<S: Store<Global>, H: Hooks, B: PartsName> House<S, H, B> {
+impl<S: Store<Global>, H: Drop, B: PartsName> House<S, H, B> {
     /// Returns whether the session that a lane works for wants its transfer to end.
     pub fn is_stopping(&self, session: u64) -> bool {
         match self.tickets.get(session as usize) {
@@ -65,8 +64,10 @@ impl<S: Store<Global>, H: Hooks, B: PartsName> House<S, H, B> {
         }
     }
 
-    /// The store of the session of a connection.
-    pub fn store_of(&self, key: usize) -> &Mutex<S> {
+    /// The store of the session of a connection: its own, or the shared one if it has none.
+    pub fn store_of(&self, key: usize) -> &Mutex<S>
+        ensures own { result.now ≡ slice_index_or self.now.own_stores.items key self.now.store }
+    {
         match self.own_stores.get(key) {
             Some(own) => own,
             None => &self.store,

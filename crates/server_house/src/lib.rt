@@ -11,6 +11,7 @@ mod descriptors;
 mod ending;
 mod house;
 mod lane;
+mod own_address;
 mod server_hooks;
 mod terms;
 mod ticket;
@@ -20,9 +21,10 @@ pub use descriptors::descriptors_for;
 pub use ending::{ServerShutdown, ShutdownStage, stages_stay_begun};
 pub use house::{House, copy_settings};
 pub use lane::LaneSign;
+pub use own_address::OwnAddress;
 pub use server_hooks::{
-    BegunTransfer, LaneLook, NotServed, ServerEvent, ServerHooks, ServerLook, SessionEvent,
-    SessionRefusal, StoreNote, TransferKind, TransferRecord,
+    BegunTransfer, ClientSession, LaneLook, NotServed, ServerEvent, ServerHooks, ServerLook,
+    SessionEvent, SessionRefusal, StoreNote, TransferKind, TransferRecord,
 };
 pub use terms::{HeldTerms, SharedTerms, Terms};
 pub use ticket::{LaneEnds, SessionEnd, SessionJob, SessionTicket};

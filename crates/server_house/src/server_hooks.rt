@@ -1,12 +1,22 @@
-//! Hooks of a server, beside those of its sessions.
+//! Callbacks of a server's owner for the events of its sessions and its own.
 
 use crate::cause::EndCause;
 use client_patience::TimeOut;
-use handler_hooks::Hooks;
 use passive_ports::AdmitFault;
 use recorded_store::StoreRecord;
 use round_tally::LaneTally;
+use session_table::HookCall;
+use std::alloc::Global;
 use std::io;
+
+/// The session of a client.
+#[derive(Clone, Copy, Debug, PartialEq, Eq)]
+pub struct ClientSession {
+    /// The address of the client.
+    pub peer: [u8; 4],
+    /// The number of the connection.
+    pub number: usize,
+}
 
 /// The reason for which a client is not served.
 #[derive(Clone, Copy, Debug, PartialEq, Eq)]
@@ -70,10 +80,6 @@ pub enum TransferKind {
 /// A transfer that began and has ended, whoever ended it.
 #[derive(Clone, Copy)]
 pub struct TransferRecord<'a> {
-    /// The address of the session's client.
-    pub peer: [u8; 4],
-    /// The number of the session.
-    pub session: usize,
     /// The user who was logged in when it began.
     pub user: &'a str,
     pub kind: TransferKind,
@@ -94,10 +100,6 @@ pub struct TransferRecord<'a> {
 /// A transfer that has begun.
 #[derive(Clone, Copy)]
 pub struct BegunTransfer<'a> {
-    /// The address of the session's client.
-    pub peer: [u8; 4],
-    /// The number of the session.
-    pub session: usize,
     /// The user who is logged in, and the number by which rounds identify them.
     pub user: &'a str,
     pub number: u32,
@@ -138,10 +140,6 @@ pub struct ServerLook<'a> {
 /// A change that a session has made in its store, or a fault of the store.
 #[derive(Clone, Copy)]
 pub struct StoreNote<'a> {
-    /// The address of the session's client.
-    pub peer: [u8; 4],
-    /// The number of the session.
-    pub session: usize,
     /// The user who is logged in.
     pub user: &'a str,
     pub record: &'a StoreRecord,
@@ -149,15 +147,15 @@ pub struct StoreNote<'a> {
     pub error: Option<io::Error>,
 }
 
-/// Tells the handler of the server's owner whose session the calls of [`Hooks`] are about, and what happened to the
-/// server and its clients otherwise.
-pub trait ServerHooks: Hooks {
-    /// The following calls are about the session of this peer with this number, until the next such call. If they
-    /// report an incomplete file, this is the reason.
-    fn attend(&mut self, peer: [u8; 4], session: usize, cause: Option<EndCause>);
+/// Callbacks for the events of a server and of its sessions. One that is about a session has it as its first argument. A
+/// session waits for its callbacks: they may note, count or report to others, and must not take long.
+pub trait ServerHooks: Drop {
+    /// An event of this session. A handler with a callback for each of them (`Hooks` of `handler_hooks`) passes it to
+    /// `report` there.
+    fn on_call(&mut self, session: ClientSession, call: &HookCall<Global>);
 
-    /// An event of the session that the calls are about.
-    fn on_session(&mut self, event: SessionEvent);
+    /// An event of this session for which a handler has no callback.
+    fn on_session(&mut self, session: ClientSession, event: SessionEvent);
 
     /// A client of this address is not served.
     fn on_refused(&mut self, peer: [u8; 4], why: NotServed);
@@ -171,15 +169,15 @@ pub trait ServerHooks: Hooks {
     /// Returns whether the sizes of files that are sent are to be asked for.
     fn wants_sizes(&self) -> bool;
 
-    /// A transfer has begun. It is called about no session that is attended.
-    fn on_begun(&mut self, transfer: &BegunTransfer<'_>);
+    /// A transfer of this session has begun.
+    fn on_begun(&mut self, session: ClientSession, transfer: &BegunTransfer<'_>);
 
     /// A look at what goes on, once a second, if the owner's signs ask for it.
     fn on_look(&mut self, look: &ServerLook<'_>);
 
-    /// A transfer has ended. It is called also if its session is gone, and about no session that is attended.
-    fn on_transfer(&mut self, record: &TransferRecord<'_>);
+    /// A transfer of this session has ended. It is called also if the control connection is gone.
+    fn on_transfer(&mut self, session: ClientSession, record: &TransferRecord<'_>);
 
-    /// A session has changed its store, or its store has a fault.
-    fn on_store(&mut self, note: &StoreNote<'_>);
+    /// This session has changed its store, or its store has a fault.
+    fn on_store(&mut self, session: ClientSession, note: &StoreNote<'_>);
 }

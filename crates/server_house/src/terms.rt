@@ -1,5 +1,8 @@
 //! The terms by which sessions go: a reload of the configuration exchanges them.
 
+ghost use Rattle.std.specs.Prelude.{◌≡◌};
+ghost use Rattle.std.specs.Arc.{arc_value};
+
 use authorizer::Authorizer;
 use session_table::Settings;
 use std::alloc::AllocError;
@@ -22,12 +25,16 @@ pub struct HeldTerms {
 
 impl HeldTerms {
     /// The terms.
-    pub fn terms(&self) -> &Terms {
+    pub fn terms(&self) -> &Terms
+        ensures terms { result.now ≡ arc_value self.now.terms }
+    {
         &self.terms
     }
 
     /// Number of exchanges before they were in force.
-    pub fn exchanges(&self) -> u64 {
+    pub fn exchanges(&self) -> u64
+        ensures exchanges { result ≡ self.now.exchanges }
+    {
         self.exchanges
     }
 }

@@ -2,8 +2,8 @@
 
 use crate::expect::holds;
 use data_sockets::{
-    DataConnection, Listing, Outgoing, Progress, Served, TransferName, accept_from, listen,
-    socket_address,
+    DataConnection, Listing, Outgoing, Progress, Served, TransferName, accept_from, address_octets,
+    listen, socket_address,
 };
 use line_rates::Way;
 use session_table::{End, Octets};
@@ -58,7 +58,7 @@ where
 
 #[test]
 fn a_connection_is_begun(rt: HostRuntime) {
-    let listener = listen(&rt, LOOPBACK, 0).expect(&rt, "a port");
+    let listener = listen(&rt, socket_address(LOOPBACK, 0)).expect(&rt, "a port");
     let at = listener.local_addr().expect(&rt, "an address");
     holds(&rt, reached(&rt, at));
     drop(listener);
@@ -87,12 +87,10 @@ where
 
 #[test]
 fn octets_go_over_the_loopback(rt: HostRuntime) {
-    let listener = listen(&rt, LOOPBACK, 0).expect(&rt, "a port");
+    let listener = listen(&rt, socket_address(LOOPBACK, 0)).expect(&rt, "a port");
     talk(&rt, &listener);
-    match socket_address(LOOPBACK, 21) {
-        SocketAddr::V4(at) => holds(&rt, at.port() == 21),
-        SocketAddr::V6(_) => holds(&rt, false),
-    }
+    let at = socket_address(LOOPBACK, 21);
+    holds(&rt, at.port() == 21 && address_octets(at) == LOOPBACK);
 }
 
 #[test]

@@ -2,6 +2,7 @@
 use Rattle.std.specs.Prelude.{◌≡◌, ℕ, ◌/◌, ◌%◌, Bool, true, false, List, [], ◌++◌, codes, Option, None, Some, is_none}
 use Rattle.std.specs.Borrow.{Bor}
 use Rattle.std.specs.Fmt.{◌++?◌, debug_str, decimal}
+use Rattle.server_house.specs.declared.server_hooks.ClientSession.{ClientSession}
 use Rattle.server_house.specs.declared.server_hooks.TransferKind.{TransferKind}
 use Rattle.server_house.specs.declared.server_hooks.TransferKind.TheVariants.{Sent, Received, Listed}
 use Rattle.server_house.specs.declared.server_hooks.TransferRecord.{TransferRecord}
@@ -41,11 +42,12 @@ IsSentOr Sent sent = sent ≡ true
 IsSentOr Received sent = sent ≡ false
 IsSentOr Listed sent = ⊥
 
--- The transfer of a file is that of the record, at this second; a listing has none.
-abbrev pub IsFileTransfer : TransferRecord → ℕ → Option FileTransfer → Type 0
-IsFileTransfer transfer ended None = transfer.kind ≡ Listed
-IsFileTransfer transfer ended (Some file) =
-    (file.ended ≡ ended) × (file.micros ≡ transfer.micros) × (file.peer ≡ transfer.peer)
+-- The transfer of a file is that of the record, of this session and at this second; a listing has
+-- none.
+abbrev pub IsFileTransfer : ClientSession → TransferRecord → ℕ → Option FileTransfer → Type 0
+IsFileTransfer session transfer ended None = transfer.kind ≡ Listed
+IsFileTransfer session transfer ended (Some file) =
+    (file.ended ≡ ended) × (file.micros ≡ transfer.micros) × (file.peer ≡ session.peer)
     × (file.octets ≡ transfer.octets) × (file.path.now ≡ known_path transfer.path)
     × (file.is_text ≡ transfer.is_text) × IsSentOr transfer.kind file.is_sent
     × (file.user.now ≡ transfer.user.now) × (file.is_whole ≡ is_none transfer.cause)

@@ -1,10 +1,13 @@
 -- The words of notes.
-use Rattle.std.specs.Prelude.{ℕ, List, codes, Option, Some, None}
+use Rattle.std.specs.Prelude.{ℕ, List, ◌++◌, codes, Option, Some, None, option_map}
 use Rattle.std.specs.Borrow.{Bor}
-use Rattle.std.specs.Fmt.{◌++?◌, debug_str}
+use Rattle.std.specs.Fmt.{◌++?◌, debug_str, decimal}
+use Rattle.std.specs.Net.Text.{ipv4_text}
+use Rattle.std.specs.declared.alloc.Global.{Global}
 use Rattle.passive_ports.specs.declared.fault.AdmitFault.TheVariants.{TooMany, TooManyOfAddress, Memory}
 use Rattle.server_house.specs.declared.cause.EndCause.{EndCause}
 use Rattle.server_house.specs.declared.cause.EndCause.TheVariants.{Aborted, NothingPrepared, NoClient, NotConnected, NoMemory, File, Connection, ControlLost, ServerEnds}
+use Rattle.server_house.specs.declared.server_hooks.ClientSession.{ClientSession}
 use Rattle.server_house.specs.declared.server_hooks.NotServed.{NotServed}
 use Rattle.server_house.specs.declared.server_hooks.NotServed.TheVariants.{NotAdmitted, NoThread, Ending}
 use Rattle.server_house.specs.declared.server_hooks.ServerEvent.{ServerEvent}
@@ -12,6 +15,8 @@ use Rattle.server_house.specs.declared.server_hooks.ServerEvent.TheVariants.{Not
 use Rattle.server_house.specs.declared.server_hooks.SessionEvent.{SessionEvent}
 use Rattle.server_house.specs.declared.server_hooks.SessionEvent.TheVariants.{Refused, NoPort, TimedOut}
 use Rattle.server_house.specs.declared.server_hooks.SessionRefusal.TheVariants.{TooManyLogins, NoGuarantee, TooManyHeldLines}
+use Rattle.session_table.specs.declared.actions.HookCall.{HookCall}
+use Rattle.session_table.specs.declared.actions.HookCall.TheVariants as hook
 use Rattle.client_patience.specs.declared.waits.TimeOut.TheVariants as time
 use Rattle.session_notes.specs.declared.words.Noted.{Noted}
 use Rattle.session_notes.specs.declared.words.Noted.TheVariants.{Connect, Disconnect, Login, LoginFailed, Logout}
@@ -31,6 +36,23 @@ words_with words (Some name) = Some words ++? Some (codes " ") ++? debug_str nam
 
 abbrev pub note_text : NoteText → Option (List ℕ)
 note_text text = words_with (event_words text.event) text.name
+
+-- the event of a note, and the name that it is about, if it has one
+abbrev pub parts_of : NoteText → Noted × Option (List ℕ)
+parts_of text = (text.event, option_map (λ name. name.now) text.name)
+
+-- the note of each event; the end of a file's transfer has none of its own
+abbrev pub note_of : HookCall Global → Option (Noted × Option (List ℕ))
+note_of hook.Connect = Some (Connect, None)
+note_of hook.Disconnect = Some (Disconnect, None)
+note_of (hook.Login name) = Some (Login, Some name)
+note_of (hook.LoginFailed name) = Some (LoginFailed, Some name)
+note_of (hook.Logout name) = Some (Logout, Some name)
+note_of _ = None
+
+-- the address of the client, and the number of the connection
+abbrev pub head_text : ClientSession → Option (List ℕ)
+head_text session = Some (ipv4_text session.peer ++ codes " #" ++ decimal session.number)
 
 abbrev pub refusal_words : NotServed → List ℕ
 refusal_words (NotAdmitted TooMany) = codes "too many connections"

@@ -7,14 +7,15 @@ use crate::moment::{second_of, seconds_of};
 use crate::stamp::Stamp;
 use crate::stores::{ChangeText, level_of_record, path_in, path_to, record_words};
 use crate::transfers::{TransferText, file_transfer};
-use crate::words::{CauseText, NoteText, Noted, ServerText, SessionText, refusal_words};
-use handler_hooks::Hooks;
+use crate::words::{CauseText, ServerText, SessionHead, SessionText, note_of, refusal_words};
 use line_queue::LogForm;
 use log::{Level, Log, log};
 use server_house::{
-    BegunTransfer, EndCause, NotServed, ServerEvent, ServerHooks, ServerLook, SessionEvent,
+    BegunTransfer, ClientSession, NotServed, ServerEvent, ServerHooks, ServerLook, SessionEvent,
     StoreNote, TransferRecord,
 };
+use session_table::HookCall;
+use std::alloc::Global;
 use std::net::Ipv4Addr;
 use std::time::Clock;
 use transfer_log::FileTransfer;
@@ -32,9 +33,6 @@ pub struct Notes<L, T> {
     log: L,
     transfers: T,
     form: LogForm,
-    // the peer of the session that the next events are about
-    peer: [u8; 4],
-    session: usize,
 }
 
 impl<L: Log + Clock, T: TransferLog> Notes<L, T> {
@@ -45,8 +43,6 @@ impl<L: Log + Clock, T: TransferLog> Notes<L, T> {
             log,
             transfers,
             form,
-            peer: [0; 4],
-            session: 0,
         }
     }
 
@@ -61,64 +57,25 @@ impl<L: Log + Clock, T: TransferLog> Notes<L, T> {
             log!(self.log; target: "", Level::Warn, "{stamp}configuration: {line}");
         }
     }
-
-    fn note(&self, event: Noted, name: Option<&str>) {
-        let stamp = self.stamp();
-        let peer = Ipv4Addr::from(self.peer);
-        let session = self.session;
-        let text = NoteText { event, name };
-        log!(self.log; target: "", level_of_event(event), "{stamp}{peer} #{session} {text}");
-    }
-}
-
-impl<L: Log + Clock + Drop, T: TransferLog + Drop> Hooks for Notes<L, T> {
-    ghost use Rattle.std.specs.Prelude.{⊤};
-
-    ghost Reported = { λ _ _ _. ⊤ };
-
-    fn on_connect(&mut self) {
-        self.note(Noted::Connect, None);
-    }
-
-    fn on_disconnect(&mut self) {
-        self.note(Noted::Disconnect, None);
-    }
-
-    fn on_login(&mut self, user: &str) {
-        self.note(Noted::Login, Some(user));
-    }
-
-    fn on_login_failed(&mut self, user: &str) {
-        self.note(Noted::LoginFailed, Some(user));
-    }
-
-    fn on_logout(&mut self, user: &str) {
-        self.note(Noted::Logout, Some(user));
-    }
-
-    // The record of a transfer has more (`on_transfer`).
-    fn on_file_sent(&mut self, _path: &str) {}
-
-    fn on_file_received(&mut self, _path: &str) {}
-
-    fn on_incomplete_file_sent(&mut self, _path: &str) {}
-
-    fn on_incomplete_file_received(&mut self, _path: &str) {}
 }
 
 impl<L: Log + Clock + Drop, T: TransferLog + Drop> ServerHooks for Notes<L, T> {
-    fn attend(&mut self, peer: [u8; 4], session: usize, _cause: Option<EndCause>) {
-        self.peer = peer;
-        self.session = session;
+    // The record of a file's transfer has more than its event (`on_transfer`).
+    fn on_call(&mut self, session: ClientSession, call: &HookCall<Global>) {
+        if let Some(text) = note_of(call) {
+            let stamp = self.stamp();
+            let head = SessionHead(session);
+            let level = level_of_event(text.event);
+            log!(self.log; target: "", level, "{stamp}{head} {text}");
+        }
     }
 
-    fn on_session(&mut self, event: SessionEvent) {
+    fn on_session(&mut self, session: ClientSession, event: SessionEvent) {
         let stamp = self.stamp();
-        let peer = Ipv4Addr::from(self.peer);
-        let session = self.session;
+        let head = SessionHead(session);
         let level = level_of_session(event);
         let text = SessionText(event);
-        log!(self.log; target: "", level, "{stamp}{peer} #{session} {text}");
+        log!(self.log; target: "", level, "{stamp}{head} {text}");
     }
 
     fn on_refused(&mut self, peer: [u8; 4], why: NotServed) {
@@ -150,36 +107,34 @@ impl<L: Log + Clock + Drop, T: TransferLog + Drop> ServerHooks for Notes<L, T> {
         false
     }
 
-    fn on_begun(&mut self, _transfer: &BegunTransfer<'_>) {}
+    fn on_begun(&mut self, _session: ClientSession, _transfer: &BegunTransfer<'_>) {}
 
     fn on_look(&mut self, _look: &ServerLook<'_>) {}
 
-    fn on_transfer(&mut self, record: &TransferRecord<'_>) {
+    fn on_transfer(&mut self, session: ClientSession, record: &TransferRecord<'_>) {
         let ended = seconds_of(self.log.since_1970());
-        if let Some(transfer) = file_transfer(record, ended) {
+        if let Some(transfer) = file_transfer(session, record, ended) {
             self.transfers.append(&transfer);
         }
         let stamp = self.stamp();
-        let peer = Ipv4Addr::from(record.peer);
-        let session = record.session;
+        let head = SessionHead(session);
         let text = TransferText(*record);
         match record.cause {
-            None => log!(self.log; target: "", Level::Info, "{stamp}{peer} #{session} {text}"),
+            None => log!(self.log; target: "", Level::Info, "{stamp}{head} {text}"),
             Some(cause) => {
                 let level = level_of_cause(cause);
                 let cause = CauseText {
                     cause,
                     error: record.error,
                 };
-                log!(self.log; target: "", level, "{stamp}{peer} #{session} {text}: {cause}");
+                log!(self.log; target: "", level, "{stamp}{head} {text}: {cause}");
             }
         }
     }
 
-    fn on_store(&mut self, note: &StoreNote<'_>) {
+    fn on_store(&mut self, session: ClientSession, note: &StoreNote<'_>) {
         let stamp = self.stamp();
-        let peer = Ipv4Addr::from(note.peer);
-        let session = note.session;
+        let head = SessionHead(session);
         let level = level_of_record(note.record);
         let text = ChangeText {
             words: record_words(note.record),
@@ -188,10 +143,8 @@ impl<L: Log + Clock + Drop, T: TransferLog + Drop> ServerHooks for Notes<L, T> {
             user: note.user,
         };
         match note.error {
-            None => log!(self.log; target: "", level, "{stamp}{peer} #{session} {text}"),
-            Some(error) => {
-                log!(self.log; target: "", level, "{stamp}{peer} #{session} {text}: {error}");
-            }
+            None => log!(self.log; target: "", level, "{stamp}{head} {text}"),
+            Some(error) => log!(self.log; target: "", level, "{stamp}{head} {text}: {error}"),
         }
     }
 }

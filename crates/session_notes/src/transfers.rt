@@ -3,7 +3,7 @@
 ghost use Rattle.std.specs.Prelude.{◌≡◌};
 ghost use Rattle.session_notes.specs.Transfers.{IsFileTransfer, transfer_words};
 
-use server_house::{TransferKind, TransferRecord};
+use server_house::{ClientSession, TransferKind, TransferRecord};
 use std::fmt;
 use transfer_log::FileTransfer;
 
@@ -47,9 +47,13 @@ impl fmt::Display for TransferText<'_> {
     }
 }
 
-/// The transfer of a file as a transfer log has it, at the second of its end; none for a listing.
-pub(crate) fn file_transfer<'a>(record: &TransferRecord<'a>, ended: u64) -> Option<FileTransfer<'a>>
-    ensures transfer { IsFileTransfer record.now ended result }
+/// The transfer of a file of a session as a transfer log has it, at the second of its end; none for a listing.
+pub(crate) fn file_transfer<'a>(
+    session: ClientSession,
+    record: &TransferRecord<'a>,
+    ended: u64,
+) -> Option<FileTransfer<'a>>
+    ensures transfer { IsFileTransfer session record.now ended result }
 {
     let is_sent = match record.kind {
         TransferKind::Sent => true,
@@ -59,7 +63,7 @@ pub(crate) fn file_transfer<'a>(record: &TransferRecord<'a>, ended: u64) -> Opti
     Some(FileTransfer {
         ended,
         micros: record.micros,
-        peer: record.peer,
+        peer: session.peer,
         octets: record.octets,
         path: record.path.unwrap_or(""),
         is_text: record.is_text,

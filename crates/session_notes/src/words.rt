@@ -1,11 +1,13 @@
 //! The words of events and refusals.
 
-ghost use Rattle.std.specs.Prelude.{◌≡◌};
-ghost use Rattle.session_notes.specs.Words.{cause_words, event_words, refusal_words, server_words, session_words};
+ghost use Rattle.std.specs.Prelude.{◌≡◌, option_map};
+ghost use Rattle.session_notes.specs.Words.{cause_words, event_words, note_of, parts_of, refusal_words, server_words, session_words};
 
 use client_patience::TimeOut;
 use passive_ports::AdmitFault;
-use server_house::{EndCause, NotServed, ServerEvent, SessionEvent, SessionRefusal};
+use server_house::{ClientSession, EndCause, NotServed, ServerEvent, SessionEvent, SessionRefusal};
+use session_table::HookCall;
+use std::alloc::Global;
 use std::io::ErrorKind;
 use std::net::{Ipv4Addr, SocketAddrV4};
 use std::{fmt, io};
@@ -51,6 +53,37 @@ impl fmt::Display for NoteText<'_> {
             None => f.write_str(words),
             Some(name) => write!(f, "{words} {name:?}"),
         }
+    }
+}
+
+/// The note of an event; the end of a file's transfer has none of its own.
+pub(crate) fn note_of(call: &HookCall<Global>) -> Option<NoteText<'_>>
+    ensures note { option_map parts_of result ≡ note_of call.now }
+{
+    let (event, name) = match call {
+        HookCall::Connect => (Noted::Connect, None),
+        HookCall::Disconnect => (Noted::Disconnect, None),
+        HookCall::Login(name) => (Noted::Login, Some(name.as_str())),
+        HookCall::LoginFailed(name) => (Noted::LoginFailed, Some(name.as_str())),
+        HookCall::Logout(name) => (Noted::Logout, Some(name.as_str())),
+        _ => return None,
+    };
+    Some(NoteText { event, name })
+}
+
+/// The session that a note is about: the address of the client, and the number of the connection.
+#[derive(Clone, Copy)]
+pub(crate) struct SessionHead(pub ClientSession);
+
+impl fmt::Display for SessionHead {
+    ghost use Rattle.session_notes.specs.Words.{head_text};
+
+    ghost output = { λ head. head_text head.0 };
+
+    fn fmt<W: fmt::Write>(&self, f: &mut fmt::Formatter<W>) -> fmt::Result {
+        let peer = Ipv4Addr::from(self.0.peer);
+        let number = self.0.number;
+        write!(f, "{peer} #{number}")
     }
 }
 

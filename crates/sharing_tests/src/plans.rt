@@ -58,7 +58,7 @@ const ALL_OF_IT: Rates = Rates {
     ..FREE
 };
 
-static PLANS: [Row; 7] = [
+static PLANS: [Row; 8] = [
     // Kids are in the order of first ask.
     Row {
         rates: TWO_GROUPS,
@@ -225,6 +225,41 @@ static PLANS: [Row; 7] = [
                     user: 1,
                     session: 1,
                     want: 1,
+                    ..DOWN
+                },
+            ),
+        ],
+        lanes: &[0, 1],
+        nodes: &[
+            (NO, 2),
+            (Some(9), 2),
+            (Some(5), 2),
+            (Some(3), 2),
+            (Some(2), 1),
+            (NO, 1),
+            (Some(2), 1),
+            (NO, 1),
+        ],
+        grants: &[2, 1],
+    },
+    // The sessions of a user of a group too are in the order of first ask: the remainder goes to the first.
+    Row {
+        rates: ONE_IN_A_GROUP,
+        tick: 0,
+        asks: &[
+            (
+                0,
+                Ask {
+                    user: 1,
+                    session: 5,
+                    ..DOWN
+                },
+            ),
+            (
+                1,
+                Ask {
+                    user: 1,
+                    session: 2,
                     ..DOWN
                 },
             ),

@@ -1,5 +1,5 @@
 -- The record of a transfer.
-use Rattle.std.specs.Prelude.{Bool, true, false, ◌&&◌, Option, Some, None}
+use Rattle.std.specs.Prelude.{ℕ, Bool, true, false, ◌&&◌, List, Option, Some, None, option_map}
 use Rattle.std.specs.declared.alloc.Global.{Global}
 use Rattle.ftp_terms.specs.declared.data_type.DataType.{DataType}
 use Rattle.ftp_terms.specs.declared.data_type.DataType.TheVariants.{Ascii, Image}
@@ -11,6 +11,7 @@ use Rattle.session_table.specs.declared.actions.HookCall.{HookCall}
 use Rattle.session_table.specs.declared.actions.HookCall.TheVariants.{Connect, Disconnect, Login, LoginFailed, Logout, FileSent, FileReceived, IncompleteFileSent, IncompleteFileReceived}
 use Rattle.session_table.specs.declared.actions.Job.{Job}
 use Rattle.session_table.specs.declared.actions.Job.TheVariants.{Text, SendFile, TakeFile}
+use Rattle.virtual_path.specs.Path.{Path, path_text}
 
 -- a call reports the end of a file's transfer
 abbrev pub ends_file : HookCall Global → Bool
@@ -52,3 +53,10 @@ is_listed Received = false
 
 abbrev pub ends_listing : {K : Type 0} → Option (DataEvent K) → TransferKind → Bool
 ends_listing event kind = is_end event && is_listed kind
+
+-- the text of the path of the last file that was opened, if it is known and the transfer is a
+-- file's
+abbrev pub path_of : TransferKind → Option Path → Option (List ℕ)
+path_of Listed path = None
+path_of Sent path = option_map path_text path
+path_of Received path = option_map path_text path

@@ -1,10 +1,5 @@
--- The octets of a read and of a last reply, the errors of a read that only found nothing, and the
--- octets of an address.
-use Rattle.std.specs.Prelude.{◌≡◌, ◌++◌, nat_lt, ◌&&◌, ◌||◌, not, if◌then◌else◌, ⊤, ℕ, Bool, true, false, List, [], ◌∷◌, Option, Some, None, codes, take}
-use Rattle.std.specs.Net.Addr.{ipv4_octets}
-use Rattle.std.specs.Net.Socket.{v4_ip}
-use Rattle.std.specs.declared.net.socket_addr.SocketAddr.{SocketAddr}
-use Rattle.std.specs.declared.net.socket_addr.SocketAddr.TheVariants.{V4, V6}
+-- The octets of a read and of a last reply, and the errors of a read that only found nothing.
+use Rattle.std.specs.Prelude.{◌++◌, nat_lt, ◌&&◌, ◌||◌, not, if◌then◌else◌, ℕ, Bool, true, false, List, [], ◌∷◌, Option, Some, None, codes, take}
 use Rattle.std.specs.declared.io.ErrorKind.{ErrorKind}
 use Rattle.std.specs.declared.io.ErrorKind.TheVariants.{WouldBlock, TimedOut, Interrupted}
 use Rattle.control_session.specs.declared.host.Piece.{Piece}
@@ -30,11 +25,6 @@ is_pause _ = false
 abbrev pub time_out_of : Bool → ℕ → ℕ
 time_out_of true silences = 1
 time_out_of false silences = if nat_lt silences 50 then 200 else 1000
-
--- the octets of an IPv4 address
-abbrev pub IsOctetsOf : SocketAddr → List ℕ → Type 0
-IsOctetsOf (V4 socket) octets = ipv4_octets (v4_ip socket) ≡ octets
-IsOctetsOf (V6 socket) octets = ⊤
 
 -- the last reply to a client that has passed a limit of time
 abbrev pub time_out_reply : TimeOut → List ℕ

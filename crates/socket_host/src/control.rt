@@ -3,15 +3,16 @@
 ghost use Rattle.std.specs.Prelude.{◌<◌, ◌≡◌, ◌≤◌, IfOk, length, take};
 ghost use Rattle.control_session.specs.Calls.{reads_within};
 ghost use Rattle.line_mender.specs.Mended.{after_all, after_silence, ending_of, kept};
-ghost use Rattle.socket_host.specs.Texts.{IsOctetsOf, is_pause, octets_in, time_out_of};
+ghost use Rattle.socket_host.specs.Texts.{is_pause, octets_in, time_out_of};
 
 use crate::replying::write_reply;
 use control_session::Piece;
+use data_sockets::address_octets;
 use line_mender::Mender;
 use server_house::ServerShutdown;
 use std::io;
 use std::io::{ErrorKind, Read};
-use std::net::{Shutdown, SocketAddr, TcpStream};
+use std::net::{Shutdown, TcpStream};
 use std::time::Duration;
 
 /// The time-out of a read while nothing runs, in milliseconds.
@@ -66,16 +67,6 @@ pub(crate) fn is_pause(kind: ErrorKind) -> bool
         kind,
         ErrorKind::WouldBlock | ErrorKind::TimedOut | ErrorKind::Interrupted
     )
-}
-
-// The octets of an IPv4 address; a connection to an IPv4 listener has no other.
-fn octets_of(address: SocketAddr) -> [u8; 4]
-    ensures octets { IsOctetsOf address result }
-{
-    match address {
-        SocketAddr::V4(at) => at.ip().octets(),
-        SocketAddr::V6(_) => [0; 4],
-    }
 }
 
 impl ControlSocket {
@@ -193,7 +184,7 @@ impl ControlSocket {
     /// The address of the server at which the client arrived; that of no host if it is unknown.
     pub fn arrived_at(&self) -> [u8; 4] {
         match self.stream.local_addr() {
-            Ok(at) => octets_of(at),
+            Ok(at) => address_octets(at),
             Err(_) => [0; 4],
         }
     }

@@ -1,6 +1,6 @@
 //! The host of a control session.
 
-ghost use Rattle.std.specs.Prelude.{◌≡◌, ◌<◌, IfErr, IfNone, IfOk, IfSome, OnErr, [], false, length, option_map, true, unwrap_or};
+ghost use Rattle.std.specs.Prelude.{◌≡◌, ◌<◌, IfErr, IfNone, IfOk, IfSome, OnErr, [], false, length, option_map, string_bytes, true};
 ghost use Rattle.std.specs.declared.alloc.Global.{Global};
 ghost use Rattle.control_session.specs.Calls.{reads_within};
 ghost use Rattle.control_session.specs.Rows.{IsRow};
@@ -11,8 +11,9 @@ ghost use Rattle.rate_floors.specs.Promises.{HasNoSessions};
 ghost use Rattle.session_table.specs.Steps.{asks_floors};
 ghost use Rattle.session_table.specs.Views.{is_closed};
 ghost use Rattle.socket_host.specs.Cuts.{cause_of_cut};
-ghost use Rattle.socket_host.specs.Records.{ends_file, ends_listing, is_end, is_text, job_kind};
+ghost use Rattle.socket_host.specs.Records.{ends_file, ends_listing, is_end, is_text, job_kind, path_of};
 ghost use Rattle.socket_host.specs.Refusals.{refusal_of};
+ghost use Rattle.socket_host.specs.Standing.{Follows};
 ghost use Rattle.socket_host.specs.Texts.{is_without_port, last_reply, time_out_reply};
 ghost use Rattle.socket_host.specs.Unsaid.{AnyCall};
 
@@ -24,14 +25,13 @@ use control_session::{DataEvent, Host, Leaving, Piece, Session, close_by, end_by
 use event_word::{has_passed, micros};
 use ftp_terms::DataType;
 use ftp_wire::HostPort;
-use handler_hooks::{Hooks, report};
 use lent_parts::PartsName;
 use line_rates::Limits;
 use rate_floors::Floors;
 use recorded_store::{Recorder, StoreRecord};
 use server_house::{
-    BegunTransfer, EndCause, HeldTerms, House, ServerHooks, SessionEvent, SessionRefusal,
-    ShutdownStage, StoreNote, TransferKind, TransferRecord, copy_settings,
+    BegunTransfer, ClientSession, EndCause, HeldTerms, House, ServerHooks, SessionEvent,
+    SessionRefusal, ShutdownStage, StoreNote, TransferKind, TransferRecord, copy_settings,
 };
 use session_table::{Action, Answer, End, HookCall, Input, Job, Refusal, Settings, Text};
 use socket_side::SocketSide;
@@ -198,16 +198,15 @@ pub struct SessionNeeds {
 }
 
 /// The host of the session of one control connection. It cannot be dropped: its data side leaves its ticket.
-pub struct SocketHost<'h, R, S: Store<Global>, H: Hooks, B: PartsName> {
+pub struct SocketHost<'h, R, S: Store<Global>, H: Drop, B: PartsName> {
     rt: &'h R,
     house: &'h House<S, H, B>,
     // the user, and the terms whose users are lent to each step
     standing: Standing,
     socket: ControlSocket,
     side: SocketSide<'h, R, S, H, B>,
-    peer: [u8; 4],
-    // the number of the connection
-    key: usize,
+    // the session, as the owner's handler knows it
+    own: ClientSession,
     waits: Waits,
     // the last transfer that was begun
     begun: Begun,
@@ -226,17 +225,18 @@ where
     H: ServerHooks,
     B: PartsName,
 {
-    /// The host of a connection with this data side, from this peer and with this key in the registry, which holds these
-    /// terms. The floors are those of nobody.
+    /// The host of this session, over its connection and with this data side, which holds these terms. The floors are
+    /// those of nobody.
     pub fn new(
         rt: &'h R,
         house: &'h House<S, H, B>,
         socket: ControlSocket,
         side: SocketSide<'h, R, S, H, B>,
-        peer: [u8; 4],
-        key: usize,
+        own: ClientSession,
         needs: SessionNeeds,
-    ) -> Self {
+    ) -> Self
+        ensures own { result.own ≡ own }
+    {
         let SessionNeeds { held, no_floors } = needs;
         SocketHost {
             rt,
@@ -244,8 +244,7 @@ where
             standing: Standing::new(rt.alloc(), held),
             socket,
             side,
-            peer,
-            key,
+            own,
             waits: Waits::new(micros(rt)),
             begun: Begun {
                 since: 0,
@@ -266,8 +265,7 @@ where
             standing: _,
             socket: _,
             side,
-            peer: _,
-            key: _,
+            own: _,
             waits: _,
             begun: _,
             path: _,
@@ -324,7 +322,9 @@ where
     }
 
     // Follows who is logged in, and when.
-    fn follow(&mut self, call: &HookCall<Global>) {
+    fn follow(&mut self, call: &HookCall<Global>)
+        ensures follows { Follows self.old.standing call.now self.new.standing }
+    {
         match call {
             HookCall::Login(name) => {
                 self.standing.log_in(self.rt.alloc(), name.as_str());
@@ -340,7 +340,10 @@ where
     }
 
     // The path of the file of the last transfer, if it is one and is known.
-    fn last_path(&self) -> Option<&str> {
+    fn last_path(&self) -> Option<&str>
+        ensures path { option_map (λ path. path.now) result
+            ≡ path_of self.now.begun.kind self.now.path }
+    {
         match (self.begun.kind, &self.path) {
             (TransferKind::Listed, _) | (_, None) => None,
             (_, Some(path)) => Some(path.text()),
@@ -348,10 +351,16 @@ where
     }
 
     // The record of the transfer whose end was reported last.
-    fn record(&self, cause: Option<EndCause>) -> TransferRecord<'_> {
+    fn record(&self, cause: Option<EndCause>) -> TransferRecord<'_>
+        ensures user { result.user.now ≡ string_bytes self.now.standing.name }
+        ensures kind { (result.kind ≡ self.now.begun.kind)
+            × (result.is_text ≡ self.now.begun.is_text) }
+        ensures path { option_map (λ path. path.now) result.path
+            ≡ path_of self.now.begun.kind self.now.path }
+        ensures octets { result.octets ≡ self.now.side.moved }
+        ensures cause { result.cause ≡ cause }
+    {
         TransferRecord {
-            peer: self.peer,
-            session: self.key,
             user: self.standing.name(),
             kind: self.begun.kind,
             path: self.last_path(),
@@ -368,7 +377,10 @@ where
 
     // The last error of the machine in the session's store or files, if there was one since it was asked for.
     fn store_error(&self) -> Option<io::Error> {
-        self.house.store_of(self.key).lock(self.rt).take_error()
+        self.house
+            .store_of(self.own.number)
+            .lock(self.rt)
+            .take_error()
     }
 
     // The octets of the file that is sent, if the owner asks for that. The call is none of the session's.
@@ -380,7 +392,7 @@ where
         if !self.house.handler.lock(self.rt).wants_sizes() {
             return None;
         }
-        let mut store = self.house.store_of(self.key).lock(self.rt);
+        let mut store = self.house.store_of(self.own.number).lock(self.rt);
         let found = store.stat(path);
         let _ = store.take_last();
         let _ = store.take_error();
@@ -390,25 +402,42 @@ where
         }
     }
 
-    // Reports that the last transfer was begun.
-    fn report_begin(&self) {
-        let transfer = BegunTransfer {
-            peer: self.peer,
-            session: self.key,
+    // The last transfer as it was begun, of a file of this size.
+    fn beginning(&self, size: Option<u64>) -> BegunTransfer<'_>
+        ensures user { (result.user.now ≡ string_bytes self.now.standing.name)
+            × (result.number ≡ self.now.standing.user) }
+        ensures begun { (result.kind ≡ self.now.begun.kind)
+            × (result.since ≡ self.now.begun.since) }
+        ensures path { option_map (λ path. path.now) result.path
+            ≡ path_of self.now.begun.kind self.now.path }
+        ensures size { result.size ≡ size }
+    {
+        BegunTransfer {
             user: self.standing.name(),
             number: self.standing.user(),
             kind: self.begun.kind,
             path: self.last_path(),
-            size: self.size(),
+            size,
             since: self.begun.since,
-        };
-        self.house.handler.lock(self.rt).on_begun(&transfer);
+        }
+    }
+
+    // Reports that the last transfer was begun.
+    fn report_begin(&self) {
+        let transfer = self.beginning(self.size());
+        self.house
+            .handler
+            .lock(self.rt)
+            .on_begun(self.own, &transfer);
     }
 
     // Reports the end of the last transfer that was begun.
     fn report_end(&self, cause: Option<EndCause>) {
         let record = self.record(cause);
-        self.house.handler.lock(self.rt).on_transfer(&record);
+        self.house
+            .handler
+            .lock(self.rt)
+            .on_transfer(self.own, &record);
     }
 
     // Reports a change of the store, or a fault.
@@ -418,13 +447,11 @@ where
             _ => None,
         };
         let note = StoreNote {
-            peer: self.peer,
-            session: self.key,
             user: self.standing.name(),
             record,
             error,
         };
-        self.house.handler.lock(self.rt).on_store(&note);
+        self.house.handler.lock(self.rt).on_store(self.own, &note);
     }
 
     // Follows a call of the store: the file that is opened, a change, or a fault.
@@ -468,22 +495,20 @@ where
         let users = &self.standing.terms().users;
         if asks_floors(session, input) {
             let mut floors = self.house.floors.lock(self.rt);
-            let mut store = self.house.store_of(self.key).lock(self.rt);
+            let mut store = self.house.store_of(self.own.number).lock(self.rt);
             let made = step_by(session, users, &mut *floors, &mut *store, input, moment);
             return (made, store.take_last());
         }
         // Asks for no admission (`others_ask_no_floors` of `session_table`), so needs no lock of the floors.
         let floors = &mut self.no_floors;
-        let mut store = self.house.store_of(self.key).lock(self.rt);
+        let mut store = self.house.store_of(self.own.number).lock(self.rt);
         let made = step_by(session, users, floors, &mut *store, input, moment);
         (made, store.take_last())
     }
 
     // Reports an event of the session that is none of its steps.
     fn report(&mut self, event: SessionEvent) {
-        let mut handler = self.house.handler.lock(self.rt);
-        handler.attend(self.peer, self.key, None);
-        handler.on_session(event);
+        self.house.handler.lock(self.rt).on_session(self.own, event);
     }
 
     // Tells the client that it has passed a limit of time.
@@ -514,7 +539,7 @@ where
     {
         let record = {
             let moment = millis_since_1970(self.rt);
-            let mut store = self.house.store_of(self.key).lock(self.rt);
+            let mut store = self.house.store_of(self.own.number).lock(self.rt);
             let floors = &mut self.no_floors;
             let users = &self.standing.terms().users;
             end_by(session, users, floors, &mut *store, event, moment);
@@ -566,7 +591,7 @@ where
         nobody: &mut Option<Text<Global>>,
     ) -> Option<Leaving<Global>> {
         let moment = millis_since_1970(self.rt);
-        let mut store = self.house.store_of(self.key).lock(self.rt);
+        let mut store = self.house.store_of(self.own.number).lock(self.rt);
         let users = &self.standing.terms().users;
         let floors = &mut self.no_floors;
         match nobody.take() {
@@ -588,13 +613,10 @@ where
 
     fn note(&mut self, call: &HookCall<Global>) {
         self.follow(call);
-        let cause = self.side.cause();
         if ends_file(call) {
-            self.report_end(cause);
+            self.report_end(self.side.cause());
         }
-        let mut handler = self.house.handler.lock(self.rt);
-        handler.attend(self.peer, self.key, cause);
-        report(&mut *handler, call);
+        self.house.handler.lock(self.rt).on_call(self.own, call);
     }
 
     fn write(&mut self, reply: &[u8]) -> io::Result<()> {
@@ -638,13 +660,14 @@ where
 
     fn start(&mut self, job: &mut Option<Job<Global, S::Source, S::Sink>>) {
         if let Some(job) = job.take() {
+            let since = micros(self.rt);
             self.begun = Begun {
-                since: micros(self.rt),
+                since,
                 kind: kind_of(&job),
                 is_text: is_text(&job),
             };
             self.report_begin();
-            self.side.start(job, self.standing.user());
+            self.side.start(job, self.standing.user(), since);
         }
     }
 
@@ -653,7 +676,7 @@ where
     }
 
     fn look(&mut self) -> Option<DataEvent<S::Sink>> {
-        let event = self.side.look(self.standing.user());
+        let event = self.side.look(self.standing.user(), micros(self.rt));
         if is_without_port(&event) {
             if let Some(error) = self.side.port_fault() {
                 self.report(SessionEvent::NoPort(error));

@@ -9,7 +9,9 @@ use crate::host::{SessionNeeds, SocketHost, floors_of_nobody};
 use control_session::{Host, run_control};
 use lent_parts::PartsName;
 use recorded_store::Recorder;
-use server_house::{House, LaneEnds, ServerHooks, SessionEnd, SessionJob, SharedTerms};
+use server_house::{
+    ClientSession, House, LaneEnds, ServerHooks, SessionEnd, SessionJob, SharedTerms,
+};
 use session_table::Settings;
 use socket_side::SocketSide;
 use std::alloc::{AllocError, Global};
@@ -108,8 +110,7 @@ fn run_at<'h, R, S, H, B>(
     rt: &'h R,
     house: &'h House<S, H, B>,
     stream: TcpStream,
-    peer: [u8; 4],
-    key: usize,
+    own: ClientSession,
     owner: TicketOwner<'h, SessionJob<S>, SessionEnd<S>, LaneEnds>,
     needs: SessionNeeds,
 )
@@ -120,22 +121,16 @@ where
     B: PartsName,
     requires idle { owner_view owner ≡ Idle }
 {
-    let wanted = wanted_peer(&needs.held.terms().settings, peer);
-    let side = SocketSide::new(rt, house, wanted, session_number(key), owner);
+    let wanted = wanted_peer(&needs.held.terms().settings, own.peer);
+    let side = SocketSide::new(rt, house, wanted, session_number(own.number), owner);
     let socket = ControlSocket::new(stream);
-    let host = SocketHost::new(rt, house, socket, side, peer, key, needs);
-    run_whole(&rt.alloc(), host, peer);
+    let host = SocketHost::new(rt, house, socket, side, own, needs);
+    run_whole(&rt.alloc(), host, own.peer);
 }
 
 // Runs a session and closes its connection. Nobody else sits at its ticket, since the session before left it before it
 // left the registry.
-fn run_client<R, S, H, B>(
-    rt: &R,
-    house: &House<S, H, B>,
-    stream: TcpStream,
-    peer: [u8; 4],
-    key: usize,
-)
+fn run_client<R, S, H, B>(rt: &R, house: &House<S, H, B>, stream: TcpStream, own: ClientSession)
 where
     R: Wait + Clock + Net<Listener = TcpListener, Stream = TcpStream> + AllocGlobal,
     S: Store<Global> + Recorder,
@@ -145,24 +140,23 @@ where
     let Some(needs) = needs_of(rt, &house.terms) else {
         return;
     };
-    match house.tickets.get(key) {
+    match house.tickets.get(own.number) {
         Some(ticket) => match TicketOwner::sit(ticket) {
-            Ok(owner) => run_at(rt, house, stream, peer, key, owner, needs),
+            Ok(owner) => run_at(rt, house, stream, own, owner, needs),
             Err(_) => {}
         },
         None => {}
     }
 }
 
-/// Serves a client from the greeting to the end of the control connection, which was accepted from this peer and has
-/// this key in the registry. However the session ends, its transfers have ended and its floor is released. The
-/// connection leaves the registry last, once its socket is closed, so that the registry bounds threads and sockets.
+/// Serves a session from the greeting to the end of its control connection, whose number is its key in the registry.
+/// However the session ends, its transfers have ended and its floor is released. The connection leaves the registry
+/// last, once its socket is closed, so that the registry bounds threads and sockets.
 pub fn serve_session<R, S, H, B>(
     rt: &R,
     house: &House<S, H, B>,
     stream: TcpStream,
-    peer: [u8; 4],
-    key: usize,
+    own: ClientSession,
 )
 where
     R: Wait + Clock + Net<Listener = TcpListener, Stream = TcpStream> + AllocGlobal,
@@ -170,6 +164,6 @@ where
     H: ServerHooks,
     B: PartsName,
 {
-    run_client(rt, house, stream, peer, key);
-    house.registry.lock(rt).leave(key);
+    run_client(rt, house, stream, own);
+    house.registry.lock(rt).leave(own.number);
 }

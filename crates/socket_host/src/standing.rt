@@ -1,8 +1,8 @@
 //! The user of a session, and the terms that it holds.
 
-ghost use Rattle.std.specs.Prelude.{◌≡◌, false, not, option_map, string_bytes, true, unwrap_or};
-ghost use Rattle.std.specs.FinMap as map;
-ghost use Rattle.socket_host.specs.Standing.{is_user};
+ghost use Rattle.std.specs.Prelude.{◌≡◌, ◌⊎◌, [], false, not, string_bytes, true};
+ghost use Rattle.std.specs.Arc.{arc_value};
+ghost use Rattle.socket_host.specs.Standing.{is_user, number_of};
 
 use authorizer::Authorizer;
 use server_house::{HeldTerms, Terms};
@@ -24,8 +24,7 @@ pub(crate) struct Standing {
 
 // The number of a user; 0 for no user.
 fn number_of(users: &Authorizer, name: &str) -> u32
-    ensures number { result
-        ≡ unwrap_or (option_map (λ user. user.number) (map.get users.now.users name.now)) 0 }
+    ensures number { result ≡ number_of users.now.users name.now }
 {
     match users.number(name) {
         Some(number) => number,
@@ -41,7 +40,9 @@ fn is_user(users: &Authorizer, name: &str, number: u32) -> bool
 }
 
 // A copy of a name; empty if memory runs out.
-fn copy_name(alloc: Global, name: &str) -> String {
+fn copy_name(alloc: Global, name: &str) -> String
+    ensures name { (string_bytes result ≡ name.now) ⊎ (string_bytes result ≡ []) }
+{
     match String::from_str(alloc, name) {
         Ok(name) => name,
         Err(_) => String::new(alloc),
@@ -52,6 +53,7 @@ impl Standing {
     /// Nobody yet, by these terms.
     pub fn new(alloc: Global, held: HeldTerms) -> Standing
         ensures held { result.held ≡ held }
+        ensures seen { result.seen ≡ held.exchanges }
         ensures outside { result.is_inside ≡ false }
         ensures removed { result.is_removed ≡ false }
     {
@@ -67,12 +69,16 @@ impl Standing {
     }
 
     /// The terms.
-    pub fn terms(&self) -> &Terms {
+    pub fn terms(&self) -> &Terms
+        ensures terms { result.now ≡ arc_value self.now.held.terms }
+    {
         self.held.terms()
     }
 
     /// The name of the user who was logged in last.
-    pub fn name(&self) -> &str {
+    pub fn name(&self) -> &str
+        ensures name { result.now ≡ string_bytes self.now.name }
+    {
         self.name.as_str()
     }
 
@@ -90,10 +96,16 @@ impl Standing {
         self.is_removed
     }
 
-    /// Notes a login.
+    /// Notes a login: the user has the number that the terms have for the name. Without memory the name is empty.
     pub fn log_in(&mut self, alloc: Global, name: &str)
+        ensures user { self.new.user
+            ≡ number_of (arc_value self.old.held.terms).users.users name.now }
+        ensures name { (string_bytes self.new.name ≡ name.now)
+            ⊎ (string_bytes self.new.name ≡ []) }
         ensures held { self.new.held ≡ self.old.held }
+        ensures seen { self.new.seen ≡ self.old.seen }
         ensures inside { self.new.is_inside ≡ true }
+        ensures removed { self.new.is_removed ≡ false }
     {
         self.user = number_of(&self.held.terms().users, name);
         self.name = copy_name(alloc, name);
@@ -103,7 +115,9 @@ impl Standing {
 
     /// Notes that the user has left.
     pub fn log_out(&mut self)
+        ensures user { (self.new.user ≡ self.old.user) × (self.new.name ≡ self.old.name) }
         ensures held { self.new.held ≡ self.old.held }
+        ensures seen { self.new.seen ≡ self.old.seen }
         ensures inside { self.new.is_inside ≡ false }
         ensures removed { self.new.is_removed ≡ false }
     {
@@ -112,7 +126,11 @@ impl Standing {
     }
 
     /// Returns whether the terms in force, after this number of exchanges, are still to be compared.
-    pub fn is_behind(&self, exchanges: u64) -> bool {
+    pub fn is_behind(&self, exchanges: u64) -> bool
+        ensures seen { result ≡ false → self.now.seen ≡ exchanges }
+        ensures held { result ≡ false → self.now.is_inside ≡ false
+            → self.now.held.exchanges ≡ exchanges }
+    {
         self.seen != exchanges || !self.is_inside && self.held.exchanges() != exchanges
     }
 
@@ -121,8 +139,10 @@ impl Standing {
         ensures judged { self.old.is_inside ≡ true → self.new.is_removed
             ≡ not (is_user users.now.users (string_bytes self.old.name) self.old.user) }
         ensures stays { self.old.is_inside ≡ false → self.new.is_removed ≡ self.old.is_removed }
+        ensures user { (self.new.user ≡ self.old.user) × (self.new.name ≡ self.old.name) }
         ensures inside { self.new.is_inside ≡ self.old.is_inside }
         ensures held { self.new.held ≡ self.old.held }
+        ensures seen { self.new.seen ≡ self.old.seen }
     {
         if self.is_inside {
             self.is_removed = !is_user(users, self.name.as_str(), self.user);
@@ -133,6 +153,8 @@ impl Standing {
     pub fn take(&mut self, newest: HeldTerms)
         ensures kept { self.old.is_inside ≡ true → self.new.held ≡ self.old.held }
         ensures taken { self.old.is_inside ≡ false → self.new.held ≡ newest }
+        ensures seen { self.new.seen ≡ newest.exchanges }
+        ensures user { (self.new.user ≡ self.old.user) × (self.new.name ≡ self.old.name) }
         ensures inside { self.new.is_inside ≡ self.old.is_inside }
         ensures removed { self.new.is_removed ≡ self.old.is_removed }
     {

@@ -1,5 +1,5 @@
 -- The transfer of a session, step by step.
-use Rattle.std.specs.Prelude.{◌≡◌, ◌⊎◌, ⊤, ℕ, ◌/◌, max, min, Bool, true, false, not, ◌||◌, IsTrue, Option, Some, None}
+use Rattle.std.specs.Prelude.{◌≡◌, ◌⊎◌, ⊤, ℕ, ◌+◌, ◌/◌, ◌<◌, max, min, Bool, true, false, not, ◌||◌, IsTrue, Option, Some, None}
 use Rattle.std.specs.declared.alloc.Global.{Global}
 use Rattle.std.specs.declared.net.tcp.TcpListener.{TcpListener}
 use Rattle.data_sockets.specs.declared.connection.DataConnection.{DataConnection}
@@ -45,6 +45,14 @@ event_of (Some reported) = Some (Ended reported.end reported.sink)
 abbrev pub IsMovedBy : {K : Type 0} → Option (TransferEnd K) → ℕ → Type 0
 IsMovedBy None moved = ⊤
 IsMovedBy (Some reported) moved = moved ≡ reported.moved
+
+-- the time for a client to connect to its passive port, and for a client's port to answer, in
+-- microseconds
+abbrev pub client_time : ℕ
+client_time = 60_000_000
+
+abbrev pub answer_time : ℕ
+answer_time = 5_000_000
 
 -- the time until the next look for a data connection, in milliseconds, by the microseconds waited
 -- so far: a tenth of these, from 20 to 200
@@ -132,32 +140,33 @@ module _ {R K : Type 0} where
       ((reported.end ≡ NoMemory) ⊎ (reported.end ≡ NoConnection)) × (reported.sink ≡ sink_in job)
       × (reported.moved ≡ 0)
 
-  -- the same job waits at the same port since the same moment, or it was handed over, or no client
-  -- came in time
-  abbrev pub IsAwaited : TcpListener → ℕ → Job Global R K → ℕ → Running R K → Type 0
-  IsAwaited listener port job since running.Nothing = ⊥
-  IsAwaited listener port job since (running.Awaited again at waiting moment) =
+  -- the same job waits at the same port since the same moment, and not too long, or it was handed
+  -- over, or no client came in time
+  abbrev pub IsAwaited : TcpListener → ℕ → Job Global R K → ℕ → ℕ → Running R K → Type 0
+  IsAwaited listener port job since now running.Nothing = ⊥
+  IsAwaited listener port job since now (running.Awaited again at waiting moment) =
       (again ≡ listener) × (at ≡ port) × (waiting ≡ job) × (moment ≡ since)
-  IsAwaited listener port job since (running.Connecting outgoing waiting moment) = ⊥
-  IsAwaited listener port job since (running.Moving connection is_aborted) = is_aborted ≡ false
-  IsAwaited listener port job since (running.Over reported) = IsUnbegun job reported
+      × (¬ (since + client_time < now))
+  IsAwaited listener port job since now (running.Connecting outgoing waiting moment) = ⊥
+  IsAwaited listener port job since now (running.Moving connection is_aborted) = is_aborted ≡ false
+  IsAwaited listener port job since now (running.Over reported) =
+      IsUnbegun job reported × (reported.end ≡ NoConnection → since + client_time < now)
 
-  -- the same job waits for the client's port since the same moment, or it was handed over, or there
-  -- was no connection in time
-  abbrev pub IsConnecting : Job Global R K → ℕ → Running R K → Type 0
-  IsConnecting job since running.Nothing = ⊥
-  IsConnecting job since (running.Awaited listener port waiting moment) = ⊥
-  IsConnecting job since (running.Connecting outgoing waiting moment) =
-      (waiting ≡ job) × (moment ≡ since)
-  IsConnecting job since (running.Moving connection is_aborted) = is_aborted ≡ false
-  IsConnecting job since (running.Over reported) = IsUnbegun job reported
+  -- the same job waits for the client's port since the same moment, and not too long, or it was
+  -- handed over, or there was no connection in time
+  abbrev pub IsConnecting : Job Global R K → ℕ → ℕ → Running R K → Type 0
+  IsConnecting job since now running.Nothing = ⊥
+  IsConnecting job since now (running.Awaited listener port waiting moment) = ⊥
+  IsConnecting job since now (running.Connecting outgoing waiting moment) =
+      (waiting ≡ job) × (moment ≡ since) × (¬ (since + answer_time < now))
+  IsConnecting job since now (running.Moving connection is_aborted) = is_aborted ≡ false
+  IsConnecting job since now (running.Over reported) = IsUnbegun job reported
 
-  -- a transfer over what was prepared; over nothing it ends at once
-  abbrev pub Starts : Prepared → Job Global R K → Running R K → Type 0
-  Starts prepared.Nothing job new = new ≡ over NoConnection job
-  Starts (prepared.Target to) job new = (since : ℕ) × IsConnecting job since new
-  Starts (prepared.Listening listener port) job new =
-      (since : ℕ) × IsAwaited listener port job since new
+  -- a transfer over what was prepared, from this moment on; over nothing it ends at once
+  abbrev pub Starts : Prepared → Job Global R K → ℕ → Running R K → Type 0
+  Starts prepared.Nothing job now new = new ≡ over NoConnection job
+  Starts (prepared.Target to) job now new = IsConnecting job now now new
+  Starts (prepared.Listening listener port) job now new = IsAwaited listener port job now now new
 
   -- A transfer on a ticket is taken back if no lane has begun it: then it is over, and its sink
   -- comes back. Otherwise it is marked, and its lane is asked to stop, unless it has ended.
@@ -179,12 +188,13 @@ module _ {R K : Type 0} where
   Aborts view (running.Over reported) new = new ≡ running.Over reported
 
   -- only a transfer without a connection goes on by itself
-  abbrev pub GoesOn : Running R K → Running R K → Type 0
-  GoesOn (running.Awaited listener port job since) new = IsAwaited listener port job since new
-  GoesOn (running.Connecting outgoing job since) new = IsConnecting job since new
-  GoesOn running.Nothing new = new ≡ running.Nothing
-  GoesOn (running.Moving connection is_aborted) new = new ≡ running.Moving connection is_aborted
-  GoesOn (running.Over reported) new = new ≡ running.Over reported
+  abbrev pub GoesOn : ℕ → Running R K → Running R K → Type 0
+  GoesOn now (running.Awaited listener port job since) new =
+      IsAwaited listener port job since now new
+  GoesOn now (running.Connecting outgoing job since) new = IsConnecting job since now new
+  GoesOn now running.Nothing new = new ≡ running.Nothing
+  GoesOn now (running.Moving connection is_aborted) new = new ≡ running.Moving connection is_aborted
+  GoesOn now (running.Over reported) new = new ≡ running.Over reported
 
   -- The end of a transfer on the ticket is Aborted exactly if it was aborted. The sink of an upload
   -- comes back, unless there was no memory to begin it.
@@ -235,13 +245,13 @@ module _ {R K : Type 0} where
       (new ≡ running.Nothing) × IsEndOf view is_aborted end
   TakesEnd view (running.Over reported) end new = (end ≡ Some reported) × (new ≡ running.Nothing)
 
-  -- a look: the transfer goes on, and its end is taken, with the octets that it had moved; what was
-  -- on the ticket before stays there
+  -- a look at a moment: the transfer goes on, and its end is taken, with the octets that it had
+  -- moved; what was on the ticket before stays there
   abbrev pub Looks
-      : Ticket R K → Running R K → Option (DataEvent K) → Running R K → ℕ → Type 0
-  Looks before old event new moved =
+      : Ticket R K → ℕ → Running R K → Option (DataEvent K) → Running R K → ℕ → Type 0
+  Looks before now old event new moved =
       (mid : Running R K) × (end : Option (TransferEnd K)) × (view : Ticket R K)
-      × (is_moving old ≡ true → view ≡ before) × GoesOn old mid × TakesEnd view mid end new
+      × (is_moving old ≡ true → view ≡ before) × GoesOn now old mid × TakesEnd view mid end new
       × (event ≡ event_of end) × IsMovedBy end moved
 
   -- The report of a transfer that is waited for, or of nothing if nothing runs, with the octets

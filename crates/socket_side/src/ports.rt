@@ -2,16 +2,18 @@
 
 use data_sockets::listen;
 use passive_ports::{PortHost, RestingPorts};
+use server_config::ServerNumbers;
+use server_house::OwnAddress;
 use std::io;
 use std::net::{Net, TcpListener, TcpStream};
 use std::sync::{Mutex, Wait};
 
-/// The passive ports behind their lock, and the address to listen on.
+/// The passive ports behind their lock, and the numbers of the server that listens on them.
 #[derive(Drop)]
 pub(crate) struct SharedPorts<'r, 'p, R> {
     pub rt: &'r R,
     pub ports: &'p Mutex<RestingPorts>,
-    pub address: [u8; 4],
+    pub numbers: ServerNumbers,
     /// The error of the last port that could not be listened on.
     pub fault: Option<io::Error>,
 }
@@ -31,7 +33,8 @@ where
     fn bind(&mut self, port: u16) -> Option<TcpListener>
         ensures { ⊤ }
     {
-        match listen(self.rt, self.address, port) {
+        let own = OwnAddress::of_port(&self.numbers, port);
+        match listen(self.rt, own.socket()) {
             Ok(listener) => Some(listener),
             Err(error) => {
                 self.fault = Some(error);

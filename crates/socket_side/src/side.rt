@@ -16,7 +16,6 @@ use crate::running::{Prepared, Running, is_upload, lane_job, over};
 use data_sockets::{DataConnection, Outgoing, Progress, TransferEnd, accept_from, socket_address};
 use event_word::{has_passed, micros};
 use ftp_wire::HostPort;
-use handler_hooks::Hooks;
 use lent_parts::PartsName;
 use passive_ports::{MOST_TRIES, open_passive};
 use server_house::{EndCause, House, LaneEnds, SessionEnd, SessionJob};
@@ -95,7 +94,7 @@ fn event_of<K: Drop>(end: Option<TransferEnd<K>>) -> Option<DataEvent<K>>
 }
 
 /// The data side of the session of one control connection. It cannot be dropped: it leaves its ticket.
-pub struct SocketSide<'h, R, S: Store<Global>, H: Hooks, B: PartsName> {
+pub struct SocketSide<'h, R, S: Store<Global>, H: Drop, B: PartsName> {
     rt: &'h R,
     house: &'h House<S, H, B>,
     // the peer whose data connections are accepted; none for any
@@ -118,7 +117,7 @@ impl<'h, R, S, H, B> SocketSide<'h, R, S, H, B>
 where
     R: Wait + Clock + Net<Listener = TcpListener, Stream = TcpStream> + AllocGlobal,
     S: Store<Global>,
-    H: Hooks,
+    H: Drop,
     B: PartsName,
 {
     /// The data side of the session with this number, at its ticket, with nothing prepared and nothing running. It accepts
@@ -177,7 +176,7 @@ where
         let mut ports = SharedPorts {
             rt: self.rt,
             ports: &self.house.ports,
-            address: self.house.numbers.address,
+            numbers: self.house.numbers,
             fault: None,
         };
         let listening = open_passive(&mut ports, MOST_TRIES);
@@ -304,17 +303,18 @@ where
         self.run.running = over(End::NoConnection, job);
     }
 
-    // Checks once whether the client has connected to its port.
+    // Checks once, at this moment, whether the client has connected to its port.
     fn await_client(
         &mut self,
         listener: TcpListener,
         port: u16,
         job: Job<Global, S::Source, S::Sink>,
         since: u64,
+        now: u64,
         user: u32,
     )
         requires nothing { self.old.run.running ≡ Running.Nothing }
-        ensures running { IsAwaited listener port job since self.new.run.running }
+        ensures running { IsAwaited listener port job since now self.new.run.running }
         ensures prepared { self.new.prepared ≡ self.old.prepared }
         ensures ready { self.new.ready ≡ self.old.ready }
     {
@@ -324,7 +324,7 @@ where
                 self.hand_over(stream, job, user);
             }
             None => {
-                if has_passed(since, micros(self.rt), PATIENCE) {
+                if has_passed(since, now, PATIENCE) {
                     self.close_port(listener, port);
                     self.end_without(EndCause::NoClient, job);
                 } else {
@@ -339,16 +339,17 @@ where
         }
     }
 
-    // Checks once whether the client's port has answered.
+    // Checks once, at this moment, whether the client's port has answered.
     fn await_answer(
         &mut self,
         outgoing: Outgoing,
         job: Job<Global, S::Source, S::Sink>,
         since: u64,
+        now: u64,
         user: u32,
     )
         requires nothing { self.old.run.running ≡ Running.Nothing }
-        ensures running { IsConnecting job since self.new.run.running }
+        ensures running { IsConnecting job since now self.new.run.running }
         ensures prepared { self.new.prepared ≡ self.old.prepared }
         ensures ready { self.new.ready ≡ self.old.ready }
     {
@@ -356,7 +357,7 @@ where
             Progress::Connected(stream) => self.hand_over(stream, job, user),
             Progress::Failed(error) => self.end_without(EndCause::NotConnected(error), job),
             Progress::Pending(outgoing) => {
-                if has_passed(since, micros(self.rt), CONNECTING) {
+                if has_passed(since, now, CONNECTING) {
                     let error = io::Error::from(ErrorKind::TimedOut);
                     self.end_without(EndCause::NotConnected(error), job);
                 } else {
@@ -370,18 +371,15 @@ where
         }
     }
 
-    // Begins a connection to a client's port.
-    fn connect(&mut self, to: HostPort, job: Job<Global, S::Source, S::Sink>, user: u32)
+    // Begins a connection to a client's port, at this moment.
+    fn connect(&mut self, to: HostPort, job: Job<Global, S::Source, S::Sink>, user: u32, now: u64)
         requires nothing { self.old.run.running ≡ Running.Nothing }
-        ensures running { Starts (Prepared.Target to) job self.new.run.running }
+        ensures running { Starts (Prepared.Target to) job now self.new.run.running }
         ensures prepared { self.new.prepared ≡ self.old.prepared }
         ensures ready { self.new.ready ≡ self.old.ready }
     {
         match Outgoing::begin(self.rt, socket_address(to.address, to.port)) {
-            Ok(outgoing) => {
-                let since = micros(self.rt);
-                self.await_answer(outgoing, job, since, user);
-            }
+            Ok(outgoing) => self.await_answer(outgoing, job, now, now, user),
             Err(error) => self.end_without(EndCause::NotConnected(error), job),
         }
     }
@@ -396,9 +394,10 @@ where
         self.await_end();
     }
 
-    /// Begins a transfer of a user over the connection that was prepared. One that runs is ended first.
-    pub fn start(&mut self, job: Job<Global, S::Source, S::Sink>, user: u32)
-        ensures running { Starts self.old.prepared job self.new.run.running }
+    /// Begins a transfer of a user over the connection that was prepared, at this moment in microseconds. One that runs
+    /// is ended first.
+    pub fn start(&mut self, job: Job<Global, S::Source, S::Sink>, user: u32, now: u64)
+        ensures running { Starts self.old.prepared job now self.new.run.running }
         ensures prepared { self.new.prepared ≡ Prepared.Nothing }
         ensures ready { self.new.ready ≡ self.old.ready }
         ensures cause { StartCause self.old.prepared self.new.cause }
@@ -408,10 +407,9 @@ where
         self.cause = None;
         match prepared {
             Prepared::Nothing => self.end_without(EndCause::NothingPrepared, job),
-            Prepared::Target(to) => self.connect(to, job, user),
+            Prepared::Target(to) => self.connect(to, job, user, now),
             Prepared::Listening(listener, port) => {
-                let since = micros(self.rt);
-                self.await_client(listener, port, job, since, user);
+                self.await_client(listener, port, job, now, now, user);
             }
         }
     }
@@ -464,9 +462,9 @@ where
         }
     }
 
-    // Accepts the client's connection, if it has come, or takes that to its port, if it is there.
-    fn go_on(&mut self, user: u32)
-        ensures running { GoesOn self.old.run.running self.new.run.running }
+    // Accepts the client's connection, if it has come by this moment, or takes that to its port, if it is there.
+    fn go_on(&mut self, user: u32, now: u64)
+        ensures running { GoesOn now self.old.run.running self.new.run.running }
         ensures ticket { is_moving self.old.run.running ≡ true
             → owner_view self.new.run.owner ≡ owner_view self.old.run.owner }
         ensures prepared { self.new.prepared ≡ self.old.prepared }
@@ -481,25 +479,27 @@ where
                     job,
                     since,
                 },
-            ) => self.await_client(listener, port, job, since, user),
+            ) => self.await_client(listener, port, job, since, now, user),
             Some(
                 Running::Connecting {
                     outgoing,
                     job,
                     since,
                 },
-            ) => self.await_answer(outgoing, job, since, user),
+            ) => self.await_answer(outgoing, job, since, now, user),
             Some(Running::Over(reported)) => self.run.running = Running::Over(reported),
             Some(Running::Moving { .. }) => unreachable!(),
             Some(Running::Nothing) | None => {}
         }
     }
 
-    /// Reports a port, or the end of this user's transfer; `None` if there is neither yet. Does not wait.
-    pub fn look(&mut self, user: u32) -> Option<DataEvent<S::Sink>>
+    /// Reports a port, or the end of this user's transfer; `None` if there is neither by this moment, in microseconds. A
+    /// client that has not connected to its port within a minute, or whose port has not answered within five seconds,
+    /// is not waited for any longer. Does not wait.
+    pub fn look(&mut self, user: u32, now: u64) -> Option<DataEvent<S::Sink>>
         ensures port { IfSome self.old.ready (λ port. (result ≡ Some (Ready port))
             × (self.new.run.running ≡ self.old.run.running)) }
-        ensures end { IfNone self.old.ready (Looks (owner_view self.old.run.owner)
+        ensures end { IfNone self.old.ready (Looks (owner_view self.old.run.owner) now
             self.old.run.running result self.new.run.running self.new.moved) }
         ensures ready { self.new.ready ≡ None }
         ensures prepared { self.new.prepared ≡ self.old.prepared }
@@ -509,7 +509,7 @@ where
         if let Some(port) = self.ready.take() {
             return Some(DataEvent::Ready(port));
         }
-        self.go_on(user);
+        self.go_on(user, now);
         event_of(self.take_end())
     }
 

@@ -5,11 +5,11 @@ ghost use Rattle.std.specs.Prelude.{◌≤◌, length};
 use crate::cell::StatusCell;
 use crate::facts::{Counts, KeptTransfer, StatusFacts};
 use crate::making::status_of;
-use handler_hooks::Hooks;
 use server_house::{
-    BegunTransfer, EndCause, NotServed, ServerEvent, ServerHooks, ServerLook, SessionEvent,
+    BegunTransfer, ClientSession, NotServed, ServerEvent, ServerHooks, ServerLook, SessionEvent,
     StoreNote, TransferRecord,
 };
+use session_table::HookCall;
 use std::alloc::{AllocError, Global};
 use std::sync::{Arc, Wait};
 
@@ -28,13 +28,17 @@ fn copied(alloc: Global, text: Option<&str>) -> Option<String> {
     String::from_str(alloc, text?).ok()
 }
 
-// A transfer that has begun, to be kept.
-fn kept(alloc: Global, transfer: &BegunTransfer<'_>) -> Result<KeptTransfer, AllocError> {
+// A transfer of a session that has begun, to be kept.
+fn kept(
+    alloc: Global,
+    session: ClientSession,
+    transfer: &BegunTransfer<'_>,
+) -> Result<KeptTransfer, AllocError> {
     Ok(KeptTransfer {
-        session: transfer.session as u64,
+        session: session.number as u64,
         user: String::from_str(alloc, transfer.user)?,
         number: transfer.number,
-        peer: transfer.peer,
+        peer: session.peer,
         kind: transfer.kind,
         path: copied(alloc, transfer.path),
         size: transfer.size,
@@ -97,66 +101,26 @@ impl<R: Wait + AllocGlobal, N> StatusKeeper<R, N> {
         }
     }
 
-    // Keeps a transfer. Without memory for it, it has no row.
-    fn keep(&mut self, transfer: &BegunTransfer<'_>) {
-        self.forget(transfer.session as u64);
-        if let Ok(kept) = kept(self.rt.alloc(), transfer) {
+    // Keeps a transfer of a session. Without memory for it, it has no row.
+    fn keep(&mut self, session: ClientSession, transfer: &BegunTransfer<'_>) {
+        self.forget(session.number as u64);
+        if let Ok(kept) = kept(self.rt.alloc(), session, transfer) {
             let place = count_before(&self.transfers, kept.session);
             let _ = self.transfers.insert(place, kept);
         }
     }
 }
 
-impl<R: Wait + AllocGlobal + Drop, N: Hooks> Hooks for StatusKeeper<R, N> {
-    ghost use Rattle.std.specs.Prelude.{⊤};
-
-    ghost Reported = { λ _ _ _. ⊤ };
-
-    fn on_connect(&mut self) {
-        self.within.on_connect();
-    }
-
-    fn on_disconnect(&mut self) {
-        self.within.on_disconnect();
-    }
-
-    fn on_login(&mut self, user: &str) {
-        self.within.on_login(user);
-    }
-
-    fn on_login_failed(&mut self, user: &str) {
-        self.counts.failed_logins = self.counts.failed_logins.saturating_add(1);
-        self.within.on_login_failed(user);
-    }
-
-    fn on_logout(&mut self, user: &str) {
-        self.within.on_logout(user);
-    }
-
-    fn on_file_sent(&mut self, path: &str) {
-        self.within.on_file_sent(path);
-    }
-
-    fn on_file_received(&mut self, path: &str) {
-        self.within.on_file_received(path);
-    }
-
-    fn on_incomplete_file_sent(&mut self, path: &str) {
-        self.within.on_incomplete_file_sent(path);
-    }
-
-    fn on_incomplete_file_received(&mut self, path: &str) {
-        self.within.on_incomplete_file_received(path);
-    }
-}
-
 impl<R: Wait + AllocGlobal + Drop, N: ServerHooks> ServerHooks for StatusKeeper<R, N> {
-    fn attend(&mut self, peer: [u8; 4], session: usize, cause: Option<EndCause>) {
-        self.within.attend(peer, session, cause);
+    fn on_call(&mut self, session: ClientSession, call: &HookCall<Global>) {
+        if let HookCall::LoginFailed(_) = call {
+            self.counts.failed_logins = self.counts.failed_logins.saturating_add(1);
+        }
+        self.within.on_call(session, call);
     }
 
-    fn on_session(&mut self, event: SessionEvent) {
-        self.within.on_session(event);
+    fn on_session(&mut self, session: ClientSession, event: SessionEvent) {
+        self.within.on_session(session, event);
     }
 
     fn on_refused(&mut self, peer: [u8; 4], why: NotServed) {
@@ -181,11 +145,11 @@ impl<R: Wait + AllocGlobal + Drop, N: ServerHooks> ServerHooks for StatusKeeper<
         self.cell.is_some()
     }
 
-    fn on_begun(&mut self, transfer: &BegunTransfer<'_>) {
+    fn on_begun(&mut self, session: ClientSession, transfer: &BegunTransfer<'_>) {
         if self.cell.is_some() {
-            self.keep(transfer);
+            self.keep(session, transfer);
         }
-        self.within.on_begun(transfer);
+        self.within.on_begun(session, transfer);
     }
 
     fn on_look(&mut self, look: &ServerLook<'_>) {
@@ -199,14 +163,14 @@ impl<R: Wait + AllocGlobal + Drop, N: ServerHooks> ServerHooks for StatusKeeper<
         self.within.on_look(look);
     }
 
-    fn on_transfer(&mut self, record: &TransferRecord<'_>) {
+    fn on_transfer(&mut self, session: ClientSession, record: &TransferRecord<'_>) {
         self.counts.ended = self.counts.ended.saturating_add(1);
         self.counts.ended_moved = self.counts.ended_moved.saturating_add(record.octets);
-        self.forget(record.session as u64);
-        self.within.on_transfer(record);
+        self.forget(session.number as u64);
+        self.within.on_transfer(session, record);
     }
 
-    fn on_store(&mut self, note: &StoreNote<'_>) {
-        self.within.on_store(note);
+    fn on_store(&mut self, session: ClientSession, note: &StoreNote<'_>) {
+        self.within.on_store(session, note);
     }
 }

@@ -1,4 +1,4 @@
-//! A world, its output, and the rows of the next one.
+//! A world, its output, the rows of the next one, and the events of a run.
 
 use crate::fault::Fault;
 use crate::words::{Line, line_of};
@@ -14,6 +14,9 @@ pub(crate) struct Room {
     world: World,
     groups: Vec<GroupRate>,
     users: Vec<UserRate>,
+    // the events of a run that has begun, and the number of those that are still to come
+    events: Vec<Event>,
+    left: u64,
 }
 
 fn limits(rates: [u64; 3], groups: Vec<GroupRate>, users: Vec<UserRate>) -> Result<Limits, Fault> {
@@ -42,6 +45,16 @@ fn report_fault<W: Write>(writer: &mut W, fault: StepFault) -> Result<(), Fault>
         fault => writeln!(writer, "{fault:?}")?,
     }
     Ok(())
+}
+
+fn report_reply<W: Write>(
+    writer: &mut W,
+    reply: Result<EventAnswer, StepFault>,
+) -> Result<(), Fault> {
+    match reply {
+        Ok(answer) => report_answer(writer, answer),
+        Err(fault) => report_fault(writer, fault),
+    }
 }
 
 fn report_amounts<W: Write>(writer: &mut W, word: &str, amounts: &[u64]) -> Result<(), Fault> {
@@ -74,6 +87,8 @@ impl Room {
             world: World::new(alloc, 0, limits)?,
             groups: Vec::new(alloc),
             users: Vec::new(alloc),
+            events: Vec::new(alloc),
+            left: 0,
         })
     }
 
@@ -91,6 +106,10 @@ impl Room {
             Line::User(row) => Ok(self.add_user(row)?),
             Line::World(lanes, rates) => self.begin(lanes, rates),
             Line::Event(event) => self.make(writer, event),
+            Line::Run(count) => {
+                self.left = count;
+                Ok(())
+            }
             Line::Look => report_world(writer, &self.world),
         }
     }
@@ -113,9 +132,25 @@ impl Room {
     }
 
     fn make<W: Write>(&mut self, writer: &mut W, event: Event) -> Result<(), Fault> {
-        match self.world.step(event) {
-            Ok(answer) => report_answer(writer, answer),
-            Err(fault) => report_fault(writer, fault),
+        if self.left == 0 {
+            return report_reply(writer, self.world.step(event));
         }
+        self.events.push(event)?;
+        self.left -= 1;
+        if self.left == 0 {
+            self.run(writer)
+        } else {
+            Ok(())
+        }
+    }
+
+    // Performs the events of a run.
+    fn run<W: Write>(&mut self, writer: &mut W) -> Result<(), Fault> {
+        let replies = self.world.run(&self.events)?;
+        for reply in &replies {
+            report_reply(writer, *reply)?;
+        }
+        self.events.clear();
+        Ok(())
     }
 }

@@ -16,6 +16,8 @@ pub(crate) enum Line {
     /// `sit LANE`, `ask LANE USER SESSION WAY WANT`, `collect LANE`, `decide MOMENT`, `post LANE`, `take LANE`,
     /// `move LANE OCTETS`, `rise LANE`: an event.
     Event(Event),
+    /// `run COUNT`: the events of this number of lines are performed as one run, and the answers printed then.
+    Run(u64),
     /// `look`: prints the octets issued, and for each lane the octets moved and given back, and the amounts posted and
     /// taken.
     Look,
@@ -150,6 +152,7 @@ pub(crate) fn line_of(text: &str) -> Option<Line> {
         "group" => Some(Line::Group(group(&mut words)?)),
         "user" => Some(Line::User(user(&mut words)?)),
         "world" => world(&mut words),
+        "run" => Some(Line::Run(words.number()?)),
         "look" => Some(Line::Look),
         verb => Some(Line::Event(event(verb, &mut words)?)),
     }

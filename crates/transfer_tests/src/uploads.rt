@@ -162,7 +162,7 @@ fn uploads(rt: HostRuntime) {
     }
 }
 
-// One pump reads at most 65,536 octets, whatever the grant.
+// One pump reads at most 65,536 octets, whatever the grant, and all that it was granted of fewer, under both types.
 #[test]
 fn a_full_read(rt: HostRuntime) {
     let alloc = rt.alloc();
@@ -175,7 +175,23 @@ fn a_full_read(rt: HostRuntime) {
         settled: (65_536, 14_464),
         ..IMAGE
     };
-    expect_received(&rt, &row);
+    let granted = Row {
+        text: &zeros[..65_535],
+        grants: &[40_000, 25_535],
+        moved: &[40_000, 25_535],
+        settled: (65_535, 0),
+        ..row
+    };
+    for data_type in [DataType::Image, DataType::Ascii] {
+        expect_received(&rt, &Row { data_type, ..row });
+        expect_received(
+            &rt,
+            &Row {
+                data_type,
+                ..granted
+            },
+        );
+    }
 }
 
 /// The schedules of the reads and writes of an upload of `abcdef`, with pumps of two octets; the octets of the sink,

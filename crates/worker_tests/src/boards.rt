@@ -20,6 +20,25 @@ fn job_board(rt: HostRuntime) -> Result<(), Fail> {
     Ok(())
 }
 
+/// A miss is not kept by its pass, since another pass may have changed the board.
+#[test]
+fn a_miss_is_not_kept(rt: HostRuntime) -> Result<(), Fail> {
+    let (board, mut passes) = open_board(rt.alloc(), 1, 2)?;
+    let (Some(mut one), Some(mut two)) = (passes.pop(), passes.pop()) else {
+        panic!(rt; "two passes");
+    };
+    assert!(rt; board.pop(&rt, &mut one).is_none());
+    assert!(rt; board.push(&rt, &mut two, 9u32).is_ok());
+    assert!(rt; board.pop(&rt, &mut one) == Some(9));
+    assert!(rt; board.push(&rt, &mut one, 7).is_ok());
+    assert!(rt; board.push(&rt, &mut one, 8) == Err(8));
+    assert!(rt; board.pop(&rt, &mut two) == Some(7));
+    assert!(rt; board.push(&rt, &mut one, 8).is_ok());
+    assert!(rt; board.pop(&rt, &mut two) == Some(8));
+    assert!(rt; board.pop(&rt, &mut two).is_none());
+    Ok(())
+}
+
 #[test]
 fn a_board_has_a_place(rt: HostRuntime) {
     let opened = open_board::<u32, _>(rt.alloc(), 0, 1);

@@ -137,6 +137,53 @@ fn a_whole_run(rt: HostRuntime) {
     is_settled(&rt, &world);
 }
 
+// The events of one round of this number of lanes, each of which wants as many octets as its number.
+fn one_round(rt: &(impl Abort + AllocGlobal), lanes: usize) -> Vec<Event> {
+    let mut events = Vec::new(rt.alloc());
+    for lane in 0..lanes {
+        let ask = Ask {
+            want: lane as u64,
+            ..FIRST
+        };
+        for event in [
+            Event::Sit { lane },
+            Event::Asked { lane, ask },
+            Event::Collect { lane },
+        ] {
+            events.push(event).expect(rt, "memory");
+        }
+    }
+    let decide = Event::Decide { moment: u64::MAX };
+    events.push(decide).expect(rt, "memory");
+    for lane in 0..lanes {
+        let octets = lane as u64;
+        for event in [
+            Event::Post { lane },
+            Event::Taken { lane },
+            Event::Moved { lane, octets },
+            Event::Rise { lane },
+        ] {
+            events.push(event).expect(rt, "memory");
+        }
+    }
+    events
+}
+
+/// A run of 449 events in a world of 64 lanes, at the last moment that there is.
+#[test]
+fn a_long_run(rt: HostRuntime) {
+    let alloc = rt.alloc();
+    let limits = Limits::of(0, 0, 0, Vec::new(alloc), Vec::new(alloc)).expect(&rt, "limits");
+    let mut world = World::new(alloc, 64, limits).expect(&rt, "a world");
+    let replies = world.run(&one_round(&rt, 64)).expect(&rt, "memory");
+    holds(&rt, replies.len() == 449);
+    for reply in &replies {
+        holds(&rt, reply.is_ok());
+    }
+    holds(&rt, world.issued() == 2_016);
+    holds(&rt, world.moved(63) == 63 && world.back(63) == 0);
+}
+
 #[test]
 fn too_many_lanes(rt: HostRuntime) {
     let alloc = rt.alloc();

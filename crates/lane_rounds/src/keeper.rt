@@ -12,7 +12,7 @@ use std::sync::{Mutex, Wait};
 use std::time::{Clock, Duration};
 use virtual_tree::Store;
 
-/// The longest wait for the bell before it checks by itself, in milliseconds. A lane that waits for a later round looks
+/// The longest wait for a signal before it checks by itself, in milliseconds. A lane that waits for a later round looks
 /// again by itself.
 const BACKSTOP: u64 = 200;
 

@@ -19,7 +19,7 @@ const IN_A_ROW: usize = 4;
 /// The result of trying to hold a round.
 #[derive(Drop)]
 pub(crate) enum Tried {
-    /// It was held; the value is the bell's count before.
+    /// It was held; the value is the waker's count before.
     Held(u64),
     /// Another thread is holding one.
     ByAnother,
@@ -172,7 +172,7 @@ pub(crate) fn try_one<S: Store<Global>, H: Drop, B: PartsName, N>(
 /// Makes sure that a round is held after an ask: here, or by a thread that holds one now. Returns the moment at which
 /// the lane is to look again if it has no answer by then; `None` if a round of its ask was held.
 ///
-/// The bell is rung before the try. So if another thread has the lock, it sees the bell after it has released the lock,
+/// The waker is raised before the try. So if another thread has the lock, it sees that after it has released the lock,
 /// and holds a round for whoever is due. The lane itself looks again a tick later: its rows may not have been open in
 /// that round.
 pub(crate) fn help<S: Store<Global>, H: Drop, B: PartsName, N>(

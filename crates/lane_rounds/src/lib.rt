@@ -1,11 +1,11 @@
 //! The lanes of a server, and the rounds that they hold for each other.
 //!
 //! A lane takes transfers from the board and runs each to its end ([`work_lane`]). If its ask is not answered yet, it
-//! tries the lock of the [`TalliedRounds`] and holds a round itself, for all lanes that have asked and whose transfers' rows are
-//! open; nobody waits for that lock. If another thread has the lock, that thread looks at the `waker` after it has released
-//! the lock, and the lane looks again a tick later, so no ask is missed.
+//! tries the lock of the [`TalliedRounds`] and holds a round itself, for all lanes that have asked and whose transfers'
+//! rows are open; nobody waits for that lock. If another thread has the lock, that thread looks at the `waker` after it
+//! has released the lock, and the lane looks again a tick later, so no ask is missed.
 //! [`keep_rounds`] is the fallback: it holds a round when no lane does. The pace says when a round may be held and what
-//! it may grant. The moments of rounds are read from a [`RoundClock`]. They tally what rounds grant to each transfer,
+//! it may grant. The moments of rounds are read from a [`RoundClock`]. The rounds tally what they grant to each transfer,
 //! and what holds it back in them, for a [`look`].
 #![tactic(auto)]
 

@@ -138,7 +138,8 @@ def notes_name_their_session():
             wanted = ["connect", 'login "ann"', 'sent "/f"', "listed", f'made directory "/of-{address}"', 'logout "ann"', "disconnect"]
             same([re.sub(AMOUNTS, "", it) for it in own], wanted, f"the notes of {address}")
         own = [it.split(" ", 5)[5] for it in notes if " 127.0.0.3 #2 " in it]
-        same(own, ["connect", *['login failed "ann"'] * 3, "refused: too many login attempts", "disconnect"], "the notes of who was refused")
+        wrong = 'login failed "ann"'
+        same(own, ["connect", wrong, wrong, "refused: too many login attempts", wrong, "disconnect"], "the notes of who was refused")
         same(len(notes), 20, "the number of notes")
         with open(f"{server.place}/log", encoding="ascii") as log:
             same([line.split()[6] for line in log], ["127.0.0.2", "127.0.0.1"], "the addresses in the transfer log")

@@ -9,11 +9,13 @@ use event_word::{has_passed, micros};
 use lent_parts::PartsName;
 use passive_ports::AdmitFault;
 use recorded_store::Recorder;
-use server_house::{ClientSession, House, NotServed, ServerEvent, ServerHooks, ShutdownStage};
+use server_house::{
+    ClientSession, House, NotServed, ServerEvent, ServerHooks, ServerRuntime, ShutdownStage,
+};
 use socket_host::serve_session;
 use std::alloc::Global;
 use std::io::{ErrorKind, Write};
-use std::net::{Net, Shutdown, SocketAddr, TcpListener, TcpStream};
+use std::net::{Shutdown, SocketAddr, TcpListener, TcpStream};
 use std::sync::Wait;
 use std::thread::{Builder, Threads};
 use std::time::{Clock, Duration};
@@ -215,7 +217,7 @@ where
 // Serves a client to the end.
 fn serve_client<R, S, H, B>(rt: &R, house: &House<S, H, B>, session: ClientSession)
 where
-    R: Wait + Clock + Net<Listener = TcpListener, Stream = TcpStream> + AllocGlobal,
+    R: ServerRuntime,
     S: Store<Global> + Recorder,
     H: ServerHooks,
     B: PartsName,
@@ -243,14 +245,7 @@ where
 /// listening. Returns once all sessions have ended.
 pub(crate) fn accept_all<R, S, H, B>(rt: &R, house: &House<S, H, B>, listener: TcpListener)
 where
-    R: Threads
-        + Wait
-        + Clock
-        + Net<Listener = TcpListener, Stream = TcpStream>
-        + AllocGlobal
-        + Copy
-        + Send
-        + Sync,
+    R: Threads + ServerRuntime + Copy + Send + Sync,
     S: Store<Global> + Recorder + Send + Drop,
     S::Source: Send,
     S::Sink: Send,

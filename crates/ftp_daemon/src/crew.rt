@@ -4,11 +4,8 @@ use crate::watching::{OwnerSigns, watch};
 use crate::works::Works;
 use lane_rounds::{RoundClock, keep_rounds, work_lane};
 use lent_parts::PartsName;
-use server_house::{ServerHooks, ShutdownStage};
+use server_house::{ServerHooks, ServerRuntime, ShutdownStage};
 use std::alloc::Global;
-use std::net::{Net, TcpListener, TcpStream};
-use std::sync::Wait;
-use std::time::Clock;
 use virtual_tree::Store;
 
 /// The work of the threads of one server. A scope of threads is lent one type for it, with one parameter: with the
@@ -32,7 +29,7 @@ pub(crate) trait Crew {
 
 impl<R, S, H, B, P> Crew for Works<R, S, H, B, P>
 where
-    R: Wait + Clock + RoundClock + Net<Listener = TcpListener, Stream = TcpStream> + AllocGlobal,
+    R: ServerRuntime + RoundClock,
     S: Store<Global>,
     H: ServerHooks,
     B: PartsName,

@@ -7,13 +7,12 @@ use crate::crew::Crew;
 use ftpd_program::ServeFault;
 use lent_parts::PartsName;
 use recorded_store::Recorder;
-use server_house::{House, ServerHooks};
+use server_house::{House, ServerHooks, ServerRuntime};
 use std::alloc::Global;
-use std::net::{Net, TcpListener, TcpStream};
+use std::net::TcpListener;
 use std::sync::Wait;
 use std::thread;
 use std::thread::{Builder, Threads};
-use std::time::Clock;
 use text_io::TextWriter;
 use virtual_tree::Store;
 
@@ -31,14 +30,7 @@ pub(crate) fn serve_clients<R, S, H, B, W>(
     writer: &mut W,
 ) -> Result<(), ServeFault>
 where
-    R: Threads
-        + Wait
-        + Clock
-        + Net<Listener = TcpListener, Stream = TcpStream>
-        + AllocGlobal
-        + Copy
-        + Send
-        + Sync,
+    R: Threads + ServerRuntime + Copy + Send + Sync,
     S: Store<Global> + Recorder + Send + Drop,
     S::Source: Send,
     S::Sink: Send,

@@ -31,7 +31,7 @@ pub use opening::Service;
 pub use reloading::{Reload, ReloadFault, ReloadSign};
 pub use script_session::SessionFault;
 pub use server_config::{Config, ConfigFault, migrate};
-pub use server_house::Terms;
+pub use server_house::{ServerRuntime, Terms};
 pub use serving::serve;
 pub use sheet_check::{CheckFault, run_check};
 pub use sheet_share::{ShareFault, run_share};

@@ -27,13 +27,12 @@ use paced_rounds::seconds_are_kept;
 use recorded_store::Recorder;
 use round_cadence::Cadence;
 use round_pace::{Pace, histories_keep_rates};
-use server_house::{House, ServerHooks, ServerShutdown};
+use server_house::{House, ServerHooks, ServerRuntime, ServerShutdown};
 use std::alloc::{AllocError, Global};
 use std::marker::Brand;
-use std::net::{Net, TcpListener, TcpStream};
-use std::sync::{Mutex, Wait};
+use std::net::TcpListener;
+use std::sync::Mutex;
 use std::thread::Threads;
-use std::time::Clock;
 use text_io::TextWriter;
 use transfer_worker::{BoardPass, JobBoard, open_board};
 use virtual_tree::Store;
@@ -94,15 +93,7 @@ fn serve_works<R, S, H, B, P, W>(
     writer: &mut W,
 ) -> (Settled, Result<(), ServeFault>)
 where
-    R: Threads
-        + Wait
-        + Clock
-        + RoundClock
-        + Net<Listener = TcpListener, Stream = TcpStream>
-        + AllocGlobal
-        + Copy
-        + Send
-        + Sync,
+    R: Threads + ServerRuntime + RoundClock + Copy + Send + Sync,
     S: Store<Global> + Recorder + Send + Drop,
     S::Source: Send,
     S::Sink: Send,
@@ -147,15 +138,7 @@ fn serve_lent<R, S, H, B, P, W>(
     writer: &mut W,
 ) -> (Settled, Result<(), ServeFault>)
 where
-    R: Threads
-        + Wait
-        + Clock
-        + RoundClock
-        + Net<Listener = TcpListener, Stream = TcpStream>
-        + AllocGlobal
-        + Copy
-        + Send
-        + Sync,
+    R: Threads + ServerRuntime + RoundClock + Copy + Send + Sync,
     S: Store<Global> + Recorder + Send + Drop,
     S::Source: Send,
     S::Sink: Send,
@@ -205,15 +188,7 @@ fn serve_named<R, S, H, B, P, W>(
     writer: &mut W,
 ) -> (Settled, Result<(), ServeFault>)
 where
-    R: Threads
-        + Wait
-        + Clock
-        + RoundClock
-        + Net<Listener = TcpListener, Stream = TcpStream>
-        + AllocGlobal
-        + Copy
-        + Send
-        + Sync,
+    R: Threads + ServerRuntime + RoundClock + Copy + Send + Sync,
     S: Store<Global> + Recorder + Send + Drop,
     S::Source: Send,
     S::Sink: Send,
@@ -283,15 +258,7 @@ pub fn serve<R, S, H, P, W>(
     writer: &mut W,
 ) -> Result<Settled, ServeFault>
 where
-    R: Threads
-        + Wait
-        + Clock
-        + RoundClock
-        + Net<Listener = TcpListener, Stream = TcpStream>
-        + AllocGlobal
-        + Copy
-        + Send
-        + Sync,
+    R: Threads + ServerRuntime + RoundClock + Copy + Send + Sync,
     S: Store<Global> + Recorder + Send + Drop,
     S::Source: Send,
     S::Sink: Send,

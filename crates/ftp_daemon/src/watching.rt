@@ -13,7 +13,8 @@ use lane_rounds::{TalliedRounds, look};
 use lent_parts::PartsName;
 use round_tally::Tallies;
 use server_house::{
-    House, LaneLook, LaneSign, OwnAddress, ServerEvent, ServerHooks, ServerLook, ShutdownStage,
+    House, LaneLook, LaneSign, OwnAddress, ServerEvent, ServerHooks, ServerLook, ServerRuntime,
+    ShutdownStage,
 };
 use std::alloc::Global;
 use std::net::{Net, TcpListener, TcpStream};
@@ -208,7 +209,7 @@ pub(crate) fn watch<R, S, H, B, P>(
     signs: &P,
 )
 where
-    R: Wait + Clock + Net<Listener = TcpListener, Stream = TcpStream> + AllocGlobal,
+    R: ServerRuntime,
     S: Store<Global>,
     H: ServerHooks,
     B: PartsName,

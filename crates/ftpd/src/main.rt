@@ -18,7 +18,7 @@ mod status_file;
 mod watched_file;
 
 use asked::Asked;
-use ftp_daemon::RoundClock;
+use ftp_daemon::{RoundClock, ServerRuntime};
 use ftpd_program::{FtpdErrorText, FtpdExit, StartFault, run_words};
 use line_queue::{LineOutlet, Readiness, StandardError};
 use machine_files::MachineFiles;
@@ -26,11 +26,8 @@ use serving::serve_asked;
 use sheets_program::{Machine, NOBODY_READS, Noted, as_words, line_words, null_device};
 use std::io;
 use std::io::Write;
-use std::net::{Net, TcpListener, TcpStream};
 use std::process::ExitCode;
-use std::sync::Wait;
 use std::thread::Threads;
-use std::time::Clock;
 use text_io::FallibleIo;
 use watched_file::watched;
 
@@ -43,15 +40,7 @@ fn run<'w, R, W>(
     output: &mut FallibleIo<W>,
 ) -> (FtpdExit<'w>, Option<StartFault>)
 where
-    R: Threads
-        + Wait
-        + Clock
-        + RoundClock
-        + Net<Listener = TcpListener, Stream = TcpStream>
-        + AllocGlobal
-        + Copy
-        + Send
-        + Sync,
+    R: Threads + ServerRuntime + RoundClock + Copy + Send + Sync,
     W: Write,
 {
     let mut asked = Asked::new();
@@ -107,15 +96,7 @@ fn reported<W: Write>(
 /// Runs the command of the words after the program's name, and returns the status.
 fn run_line<R>(rt: &R, machine: &HostRuntime) -> u8
 where
-    R: Threads
-        + Wait
-        + Clock
-        + RoundClock
-        + Net<Listener = TcpListener, Stream = TcpStream>
-        + AllocGlobal
-        + Copy
-        + Send
-        + Sync,
+    R: Threads + ServerRuntime + RoundClock + Copy + Send + Sync,
 {
     let mut output = FallibleIo(Noted::new(io::writer(machine)));
     let texts = match line_words(machine) {

@@ -2,6 +2,7 @@
 
 ghost use Rattle.std.specs.Thread.{IsSync};
 
+use ftp_daemon::ServerRuntime;
 use ftpd_program::ServeFault;
 use server_status::Status;
 use status_keeper::StatusCell;
@@ -111,12 +112,7 @@ pub(crate) fn serve_with_page<R, F>(
     serve: F,
 ) -> Result<(), ServeFault>
 where
-    R: Threads
-        + Wait
-        + Clock
-        + Net<Listener = TcpListener, Stream = TcpStream>
-        + AllocGlobal
-        + Sync,
+    R: Threads + ServerRuntime + Sync,
     F: FnOnce() -> Result<(), ServeFault>,
     requires serve { F.pre serve }
 {

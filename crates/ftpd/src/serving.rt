@@ -11,7 +11,7 @@ use crate::sign_file::SignFile;
 use crate::starting::{Means, Prepared, Unprepared, prepare};
 use crate::status_file::{MachineSigns, StatusFile};
 use folder_store::DirStore;
-use ftp_daemon::{Patience, RoundClock, ServeFault, Service, Terms, serve};
+use ftp_daemon::{Patience, RoundClock, ServeFault, ServerRuntime, Service, Terms, serve};
 use ftpd_program::{FtpdExit, ReadyOutput, StartFault};
 use last_fault::LastFault;
 use line_queue::{QueuedLog, SharedLines};
@@ -24,10 +24,8 @@ use sheets_program::Exit as Common;
 use status_keeper::{StatusCell, StatusKeeper};
 use std::alloc::{AllocError, Global};
 use std::io::Write;
-use std::net::{Net, TcpListener, TcpStream};
-use std::sync::{Arc, Mutex, Wait};
+use std::sync::{Arc, Mutex};
 use std::thread::Threads;
-use std::time::Clock;
 use text_io::{FallibleIo, TextWriter};
 use virtual_tree::StoreFault;
 
@@ -85,15 +83,7 @@ fn serve_config<R, W>(
     output: &mut W,
 ) -> Result<(), ServeFault>
 where
-    R: Threads
-        + Wait
-        + Clock
-        + RoundClock
-        + Net<Listener = TcpListener, Stream = TcpStream>
-        + AllocGlobal
-        + Copy
-        + Send
-        + Sync,
+    R: Threads + ServerRuntime + RoundClock + Copy + Send + Sync,
     W: TextWriter,
 {
     let ServedConfig {
@@ -265,15 +255,7 @@ fn serve_with<R, W>(
     output: &mut W,
 ) -> Result<(), ServeFault>
 where
-    R: Threads
-        + Wait
-        + Clock
-        + RoundClock
-        + Net<Listener = TcpListener, Stream = TcpStream>
-        + AllocGlobal
-        + Copy
-        + Send
-        + Sync,
+    R: Threads + ServerRuntime + RoundClock + Copy + Send + Sync,
     W: TextWriter,
 {
     let Means {
@@ -337,15 +319,7 @@ pub(crate) fn serve_asked<'w, R, W>(
     output: &mut FallibleIo<W>,
 ) -> (FtpdExit<'w>, Option<StartFault>)
 where
-    R: Threads
-        + Wait
-        + Clock
-        + RoundClock
-        + Net<Listener = TcpListener, Stream = TcpStream>
-        + AllocGlobal
-        + Copy
-        + Send
-        + Sync,
+    R: Threads + ServerRuntime + RoundClock + Copy + Send + Sync,
     W: Write,
 {
     let Prepared { means, ready } = match prepare(rt, machine, service) {

@@ -38,19 +38,9 @@ fn wake_lanes(lanes: &[LaneSign], answered: u64, is_refused: bool) {
     }
 }
 
-// Returns whether the transfer of a lane is to stop: its ask is to be answered, so that the lane can leave it.
-fn is_stopping<S: Store<Global>, H: Drop, B: PartsName>(
-    house: &House<S, H, B>,
-    sign: &LaneSign,
-) -> bool {
-    match sign.session() {
-        Some(session) => house.is_stopping(session),
-        None => false,
-    }
-}
-
-// The lanes that a round is of: those of transfers whose rows are open, or that are to stop. The signs are hints, as
-// for `due_by`: a lane whose sign is stale is left out, or asked too early, in one round.
+// The lanes that a round is of: those of transfers whose rows are open, or that are to stop: their asks are to be
+// answered, so that their lanes can leave them. A lane without a transfer is not tried. The signs are hints, as for
+// `due_by`: a lane whose sign is stale is left out, or asked too early, in one round.
 fn open_lanes<S: Store<Global>, H: Drop, B: PartsName, N>(
     house: &House<S, H, B>,
     rounds: &LentRounds<B, N>,
@@ -59,8 +49,10 @@ fn open_lanes<S: Store<Global>, H: Drop, B: PartsName, N>(
     let mut given = [false; MAX_LANES];
     for lane in 0..house.lanes.len().min(MAX_LANES) {
         let sign = &house.lanes[lane];
-        let (way, user) = sign.name.get();
-        given[lane] = rounds.is_open(way, user, now) || is_stopping(house, sign);
+        if let Some(session) = sign.session() {
+            let (way, user) = sign.name.get();
+            given[lane] = rounds.is_open(way, user, now) || house.is_stopping(session);
+        }
     }
     given
 }
@@ -115,17 +107,19 @@ fn sooner(one: Due, other: Due) -> Due
     }
 }
 
-// The earliest moment of a round for the worker of a lane: at once, if its transfer is to stop. The lane's sign is a
-// hint: it may have the name of the worker's next transfer by now, and then a round is held too early or too late for
-// this one.
+// The earliest moment of a round for the worker of a lane: at once, if its transfer is to stop, and never without a
+// transfer. The lane's sign is a hint: it may have the name of the worker's next transfer by now, and then a round is
+// held too early or too late for this one.
 fn due_at<S: Store<Global>, H: Drop, B: PartsName, N>(
     house: &House<S, H, B>,
     rounds: &LentRounds<B, N>,
     sign: &LaneSign,
     now: u64,
 ) -> Due {
-    if is_stopping(house, sign) {
-        return Due::Now;
+    match sign.session() {
+        Some(session) if house.is_stopping(session) => return Due::Now,
+        Some(_) => {}
+        None => return Due::At(u64::MAX),
     }
     let (way, user) = sign.name.get();
     rounds.due_for(way, user, now)

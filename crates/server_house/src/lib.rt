@@ -12,6 +12,7 @@ mod ending;
 mod house;
 mod lane;
 mod own_address;
+mod runtime;
 mod server_hooks;
 mod terms;
 mod ticket;
@@ -22,6 +23,7 @@ pub use ending::{ServerShutdown, ShutdownStage, stages_stay_begun};
 pub use house::{House, copy_settings};
 pub use lane::LaneSign;
 pub use own_address::OwnAddress;
+pub use runtime::ServerRuntime;
 pub use server_hooks::{
     BegunTransfer, ClientSession, LaneLook, NotServed, ServerEvent, ServerHooks, ServerLook,
     SessionEvent, SessionRefusal, StoreNote, TransferKind, TransferRecord,

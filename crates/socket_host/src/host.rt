@@ -30,15 +30,14 @@ use line_rates::Limits;
 use rate_floors::Floors;
 use recorded_store::{Recorder, StoreRecord};
 use server_house::{
-    BegunTransfer, ClientSession, EndCause, HeldTerms, House, ServerHooks, SessionEvent,
-    SessionRefusal, ShutdownStage, StoreNote, TransferKind, TransferRecord, copy_settings,
+    BegunTransfer, ClientSession, EndCause, HeldTerms, House, ServerHooks, ServerRuntime,
+    SessionEvent, SessionRefusal, ShutdownStage, StoreNote, TransferKind, TransferRecord,
+    copy_settings,
 };
 use session_table::{Action, Answer, End, HookCall, Input, Job, Refusal, Settings, Text};
 use socket_side::SocketSide;
 use std::alloc::{AllocError, Global};
-use std::net::{Net, TcpListener, TcpStream};
-use std::sync::Wait;
-use std::time::{Clock, Duration};
+use std::time::Duration;
 use std::{io, thread};
 use virtual_path::VPath;
 use virtual_tree::Store;
@@ -220,7 +219,7 @@ pub struct SocketHost<'h, R, S: Store<Global>, H: Drop, B: PartsName> {
 
 impl<'h, R, S, H, B> SocketHost<'h, R, S, H, B>
 where
-    R: Wait + Clock + Net<Listener = TcpListener, Stream = TcpStream> + AllocGlobal,
+    R: ServerRuntime,
     S: Store<Global> + Recorder,
     H: ServerHooks,
     B: PartsName,
@@ -556,7 +555,7 @@ where
 
 impl<'h, R, S, H, B> Host<Global> for SocketHost<'h, R, S, H, B>
 where
-    R: Wait + Clock + Net<Listener = TcpListener, Stream = TcpStream> + AllocGlobal,
+    R: ServerRuntime,
     S: Store<Global> + Recorder,
     H: ServerHooks,
     B: PartsName,

@@ -10,14 +10,13 @@ use control_session::{Host, run_control};
 use lent_parts::PartsName;
 use recorded_store::Recorder;
 use server_house::{
-    ClientSession, House, LaneEnds, ServerHooks, SessionEnd, SessionJob, SharedTerms,
+    ClientSession, House, LaneEnds, ServerHooks, ServerRuntime, SessionEnd, SessionJob, SharedTerms,
 };
 use session_table::Settings;
 use socket_side::SocketSide;
 use std::alloc::{AllocError, Global};
-use std::net::{Net, TcpListener, TcpStream};
+use std::net::TcpStream;
 use std::sync::Wait;
-use std::time::Clock;
 use transfer_ticket::TicketOwner;
 use virtual_tree::Store;
 
@@ -44,7 +43,7 @@ pub(crate) trait SessionHost: Host<Global> {
 
 impl<'h, R, S, H, B> SessionHost for SocketHost<'h, R, S, H, B>
 where
-    R: Wait + Clock + Net<Listener = TcpListener, Stream = TcpStream> + AllocGlobal,
+    R: ServerRuntime,
     S: Store<Global> + Recorder,
     H: ServerHooks,
     B: PartsName,
@@ -115,7 +114,7 @@ fn run_at<'h, R, S, H, B>(
     needs: SessionNeeds,
 )
 where
-    R: Wait + Clock + Net<Listener = TcpListener, Stream = TcpStream> + AllocGlobal,
+    R: ServerRuntime,
     S: Store<Global> + Recorder,
     H: ServerHooks,
     B: PartsName,
@@ -132,7 +131,7 @@ where
 // left the registry.
 fn run_client<R, S, H, B>(rt: &R, house: &House<S, H, B>, stream: TcpStream, own: ClientSession)
 where
-    R: Wait + Clock + Net<Listener = TcpListener, Stream = TcpStream> + AllocGlobal,
+    R: ServerRuntime,
     S: Store<Global> + Recorder,
     H: ServerHooks,
     B: PartsName,
@@ -159,7 +158,7 @@ pub fn serve_session<R, S, H, B>(
     own: ClientSession,
 )
 where
-    R: Wait + Clock + Net<Listener = TcpListener, Stream = TcpStream> + AllocGlobal,
+    R: ServerRuntime,
     S: Store<Global> + Recorder,
     H: ServerHooks,
     B: PartsName,

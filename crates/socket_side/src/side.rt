@@ -18,14 +18,13 @@ use event_word::{has_passed, micros};
 use ftp_wire::HostPort;
 use lent_parts::PartsName;
 use passive_ports::{MOST_TRIES, open_passive};
-use server_house::{EndCause, House, LaneEnds, SessionEnd, SessionJob};
+use server_house::{EndCause, House, LaneEnds, ServerRuntime, SessionEnd, SessionJob};
 use session_core::DataEvent;
 use session_table::{End, Job};
 use std::alloc::Global;
 use std::io::ErrorKind;
-use std::net::{Net, TcpListener, TcpStream};
-use std::sync::Wait;
-use std::time::{Clock, Duration};
+use std::net::{TcpListener, TcpStream};
+use std::time::Duration;
 use std::{io, mem, thread};
 use transfer_ticket::TicketOwner;
 use virtual_tree::Store;
@@ -115,7 +114,7 @@ pub struct SocketSide<'h, R, S: Store<Global>, H: Drop, B: PartsName> {
 
 impl<'h, R, S, H, B> SocketSide<'h, R, S, H, B>
 where
-    R: Wait + Clock + Net<Listener = TcpListener, Stream = TcpStream> + AllocGlobal,
+    R: ServerRuntime,
     S: Store<Global>,
     H: Drop,
     B: PartsName,

@@ -55,7 +55,7 @@ def places_bound_threads_and_files():
 
 
 def a_stopped_process_goes_on():
-    """A process that is stopped and continued keeps its transfers: one that waits for octets, and one that waits for its reader."""
+    """A process that is stopped and continued, also several times in one call, keeps its transfers: one that waits for octets, and one that waits for its reader."""
     with Server(sessions=2, root="folder", files={"big": MUCH}) as server:
         storing, reading = Client(server), Client(server)
         upload = storing.passive()
@@ -64,7 +64,8 @@ def a_stopped_process_goes_on():
         reading.says("RETR big", "150 Opening data connection")
         octets = [download.read()]
         for number in range(8):
-            upload.socket.sendall(b"u" * 1000)
+            if number % 4 == 0:
+                upload.socket.sendall(b"u" * 4000)
             server.process.send_signal(signal.SIGSTOP)
             until(lambda: is_stopped(server.process.pid), "the stop")
             server.process.send_signal(signal.SIGCONT)

@@ -7,11 +7,13 @@ import subprocess
 import time
 
 import xferlog_reading
-from serving_kit import SERVER, Client, Server, same, until, want
+from serving_kit import SERVER, Client, Data, Server, same, until, want
 
 COUNT = re.compile(r"\[WARN \] lines dropped: (\d+)")
 # A name that is noted in some 1,200 octets, so that a pipe is full after few lines.
 LONG = "\u200b" * 150
+# The user of a note, with the octets and the seconds of a transfer.
+AMOUNTS = r': user "ann".*'
 # The most octets of a pipe that the rows make small.
 PIPE = 4096
 
@@ -107,6 +109,40 @@ def a_reader_that_is_gone():
         failed(server, 0, 30)
         server.stop()
         server.ended()
+
+
+def notes_name_their_session():
+    """Each note has the address of its own client and the number of its own connection, of whatever it is, also of who came meanwhile."""
+    words = ["--login-delay", "0", "--transfer-log", "log"]
+    with Server(sessions=3, root="folder", files={"f": b"a\nb"}, words=words) as server:
+        first, second = Client(server), Client(server, source="127.0.0.2")
+        for client, source in ((second, "127.0.0.2"), (first, "127.0.0.1")):
+            for verb in ("RETR f", "LIST"):
+                data = Data(client.passive_port(), source=source)
+                client.says(verb, "150 Opening data connection")
+                data.whole()
+                client.says(None, "226 Transfer complete")
+            client.says(f"MKD of-{source}", f'257 "/of-{source}"')
+        third = Client(server, None, source="127.0.0.3")
+        third.says(None, "220 Ready")
+        for reply in ("530 Login incorrect", "530 Login incorrect", "421 Too many login attempts"):
+            third.says("USER ann", "331 Password required")
+            third.says("PASS wrong", reply)
+        third.at_end()
+        for client in (second, first):
+            client.quit()
+        server.ended()
+        notes = server.noted().splitlines()
+        for number, address in enumerate(("127.0.0.1", "127.0.0.2")):
+            own = [it.split(" ", 5)[5] for it in notes if f" {address} #{number} " in it]
+            wanted = ["connect", 'login "ann"', 'sent "/f"', "listed", f'made directory "/of-{address}"', 'logout "ann"', "disconnect"]
+            same([re.sub(AMOUNTS, "", it) for it in own], wanted, f"the notes of {address}")
+        own = [it.split(" ", 5)[5] for it in notes if " 127.0.0.3 #2 " in it]
+        wrong = 'login failed "ann"'
+        same(own, ["connect", wrong, wrong, "refused: too many login attempts", wrong, "disconnect"], "the notes of who was refused")
+        same(len(notes), 20, "the number of notes")
+        with open(f"{server.place}/log", encoding="ascii") as log:
+            same([line.split()[6] for line in log], ["127.0.0.2", "127.0.0.1"], "the addresses in the transfer log")
 
 
 def notes_for_the_journal():
@@ -296,6 +332,7 @@ ROWS = [
     a_reader_that_stops_for_a_while,
     a_reader_that_stops_for_good,
     a_reader_that_is_gone,
+    notes_name_their_session,
     notes_for_the_journal,
     logs_that_cannot_be_had,
 ]

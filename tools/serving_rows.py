@@ -707,9 +707,9 @@ def a_rate_is_kept():
 
 
 def rates_of_two_users():
-    """Four sessions with small files on two lanes: each user's octets take as long as their own rate wants, down and up."""
+    """Four sessions with small files on two lanes: each user's octets take as long as their own rate wants, down and up. The first user of the configuration has no rate."""
     rates, size = {"ann": 200_000, "bob": 400_000}, 20_000
-    users = "".join(f'[[user]]\nname = "{name}"\npassword = "secret"\nhome = "/"\nperms = "elradfmw"\ndown_rate = {rate}\nup_rate = {rate}\n'
+    users = '[[user]]\nname = "eve"\npassword = "secret"\nhome = "/"\n' + "".join(f'[[user]]\nname = "{name}"\npassword = "secret"\nhome = "/"\nperms = "elradfmw"\ndown_rate = {rate}\nup_rate = {rate}\n'
                     for name, rate in rates.items())
     took, faults = {}, []
 

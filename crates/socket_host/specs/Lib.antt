@@ -5,3 +5,4 @@ pub mod Replied
 pub mod Standing
 pub mod Texts
 pub mod Unsaid
+pub mod Waiting

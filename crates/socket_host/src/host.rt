@@ -20,9 +20,10 @@ ghost use Rattle.socket_host.specs.Unsaid.{AnyCall};
 use crate::control::ControlSocket;
 use crate::moments::millis_since_1970;
 use crate::standing::Standing;
+use crate::waiting::{is_due, is_life, passed_limit};
 use client_patience::{TimeOut, Waits};
 use control_session::{DataEvent, Host, Leaving, Piece, Session, close_by, end_by, step_by};
-use event_word::{has_passed, micros};
+use event_word::micros;
 use ftp_terms::DataType;
 use ftp_wire::HostPort;
 use lent_parts::PartsName;
@@ -311,9 +312,7 @@ where
     fn delay(&self, seconds: u32) {
         let since = micros(self.rt);
         for _ in self.rt.forever() {
-            if self.is_ending()
-                || has_passed(since, micros(self.rt), u64::from(seconds) * 1_000_000)
-            {
+            if is_due(self.is_ending(), since, micros(self.rt), seconds) {
                 return;
             }
             thread::sleep(self.rt, Duration::from_millis(LOOK));
@@ -523,7 +522,7 @@ where
     {
         let is_busy = self.side.is_busy();
         let piece = self.socket.read(is_busy, buffer)?;
-        if is_busy || piece != Piece::Nothing {
+        if is_life(is_busy, piece) {
             self.waits.hear(micros(self.rt));
         }
         Ok(piece)
@@ -635,12 +634,10 @@ where
         if self.side.rest() {
             return Ok(Piece::Nothing);
         }
-        if !self.side.is_busy() {
-            let out = self.waits.time_out(self.house.patience, micros(self.rt));
-            if let Some(why) = out {
-                self.time_out(why);
-                return Ok(Piece::AtEnd);
-            }
+        let (is_busy, now) = (self.side.is_busy(), micros(self.rt));
+        if let Some(why) = passed_limit(&self.waits, self.house.patience, is_busy, now) {
+            self.time_out(why);
+            return Ok(Piece::AtEnd);
         }
         self.read_some(buffer)
     }

@@ -12,6 +12,7 @@ mod moments;
 mod replying;
 mod serving;
 mod standing;
+mod waiting;
 
 pub use control::ControlSocket;
 pub use host::{SessionNeeds, SocketHost};

@@ -124,6 +124,11 @@ impl Room {
         Ok(())
     }
 
+    fn add_event(&mut self, event: Event) -> Result<(), AllocError> {
+        self.events.push(event)?;
+        Ok(())
+    }
+
     fn begin(&mut self, lanes: u64, rates: [u64; 3]) -> Result<(), Fault> {
         let groups = mem::replace(&mut self.groups, Vec::new(self.alloc));
         let users = mem::replace(&mut self.users, Vec::new(self.alloc));
@@ -135,7 +140,7 @@ impl Room {
         if self.left == 0 {
             return report_reply(writer, self.world.step(event));
         }
-        self.events.push(event)?;
+        self.add_event(event)?;
         self.left -= 1;
         if self.left == 0 {
             self.run(writer)

@@ -60,10 +60,11 @@ pub(crate) fn file_transfer<'a>(
         TransferKind::Received => false,
         TransferKind::Listed => return None,
     };
+    let peer = session.peer;
     Some(FileTransfer {
         ended,
         micros: record.micros,
-        peer: session.peer,
+        peer,
         octets: record.octets,
         path: record.path.unwrap_or(""),
         is_text: record.is_text,

@@ -48,7 +48,7 @@ const USUAL: u64 = 100_000;
 /// The shortest and the longest time between two looks for one that has not come by then, in milliseconds.
 const SHORTEST_PAUSE: u64 = 20;
 
-const LONGEST_PAUSE: u64 = 200;
+const LONGEST_PAUSE: u64 = 500;
 
 // The time until the next look for a data connection, in milliseconds: a tenth of the microseconds waited so far.
 fn pause_after(waited: u64) -> u64

@@ -137,15 +137,13 @@ impl Room {
     }
 
     fn make<W: Write>(&mut self, writer: &mut W, event: Event) -> Result<(), Fault> {
-        if self.left == 0 {
-            return report_reply(writer, self.world.step(event));
-        }
-        self.add_event(event)?;
-        self.left -= 1;
-        if self.left == 0 {
-            self.run(writer)
-        } else {
-            Ok(())
+        match self.left.checked_sub(1) {
+            None => report_reply(writer, self.world.step(event)),
+            Some(left) => {
+                self.add_event(event)?;
+                self.left = left;
+                if left == 0 { self.run(writer) } else { Ok(()) }
+            }
         }
     }
 

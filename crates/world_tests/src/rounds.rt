@@ -180,6 +180,7 @@ fn a_long_run(rt: HostRuntime) {
     for reply in &replies {
         holds(&rt, reply.is_ok());
     }
+    holds(&rt, world.lanes() == 64);
     holds(&rt, world.issued() == 2_016);
     holds(&rt, world.moved(63) == 63 && world.back(63) == 0);
 }

@@ -26,8 +26,11 @@ use serving::serve_asked;
 use sheets_program::{Machine, NOBODY_READS, Noted, as_words, line_words, null_device};
 use std::io;
 use std::io::Write;
+use std::net::{Net, TcpListener, TcpStream};
 use std::process::ExitCode;
+use std::sync::Wait;
 use std::thread::Threads;
+use std::time::Clock;
 use text_io::FallibleIo;
 use watched_file::watched;
 
@@ -94,9 +97,18 @@ fn reported<W: Write>(
 }
 
 /// Runs the command of the words after the program's name, and returns the status.
+// (The bounds name the types of sockets, which `main` needs to know.)
 fn run_line<R>(rt: &R, machine: &HostRuntime) -> u8
 where
-    R: Threads + ServerRuntime + RoundClock + Copy + Send + Sync,
+    R: Threads
+        + Wait
+        + Clock
+        + RoundClock
+        + Net<Listener = TcpListener, Stream = TcpStream>
+        + AllocGlobal
+        + Copy
+        + Send
+        + Sync,
 {
     let mut output = FallibleIo(Noted::new(io::writer(machine)));
     let texts = match line_words(machine) {

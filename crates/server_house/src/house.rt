@@ -1,6 +1,6 @@
 //! The shared parts of a server.
 
-ghost use Rattle.std.specs.Prelude.{◌≡◌, IfOk, [], ◌∷◌, slice_index_or};
+ghost use Rattle.std.specs.Prelude.{◌≡◌, ◌<◌, ◌≤◌, IfOk, None, Some, [], ◌∷◌};
 ghost use Rattle.server_house.specs.Settings.{AreSettingsAt, announced};
 
 use crate::ending::ServerShutdown;
@@ -65,14 +65,20 @@ impl<S: Store<Global>, H: Drop, B: PartsName> House<S, H, B> {
     }
 
     /// The store of the session of a connection: its own, or the shared one if it has none.
-    pub fn store_of(&self, key: usize) -> &Mutex<S>
-        ensures own { result.now ≡ slice_index_or self.now.own_stores.items key self.now.store }
-    {
-        match self.own_stores.get(key) {
-            Some(own) => own,
+    pub fn store_of(&self, key: usize) -> &Mutex<S> {
+        match store_place(key, self.own_stores.len()) {
+            Some(place) => &self.own_stores[place],
             None => &self.store,
         }
     }
+}
+
+// The place of a connection's store among this many; None if it has none of its own.
+fn store_place(key: usize, own: usize) -> Option<usize>
+    ensures own { key < own → result ≡ Some key }
+    ensures shared { own ≤ key → result ≡ None }
+{
+    if key < own { Some(key) } else { None }
 }
 
 /// The address that replies to PASV have: the stated one, or that at which the client arrived if none in particular is

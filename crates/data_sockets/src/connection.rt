@@ -4,7 +4,7 @@ ghost use Rattle.std.specs.Prelude.{◌≡◌, ◌<◌, ◌↔◌, IfOk, IsTrue,
 ghost use Rattle.data_sockets.specs.Sockets.{socket_of};
 ghost use Rattle.data_sockets.specs.declared.connection.Writes.TheVariants.{Nothing, One, Prepared};
 
-use crate::retry::{read_through, write_through};
+use counted_file::CountedFile;
 use last_fault::{fault_of, fault_word};
 use std::alloc::{AllocError, Global};
 use std::io;
@@ -140,8 +140,8 @@ impl Read for DataConnection {
         if self.socket.aborted.load(Ordering::SeqCst) != 0 {
             return Ok(0);
         }
-        let mut stream: &TcpStream = &self.socket.stream;
-        let answer = read_through(&mut stream, buffer);
+        let stream: &TcpStream = &self.socket.stream;
+        let answer = CountedFile::new(stream).read(buffer);
         self.noted(answer)
     }
 }
@@ -149,8 +149,8 @@ impl Read for DataConnection {
 impl Write for DataConnection {
     fn write(&mut self, octets: &[u8]) -> io::Result<usize> {
         self.prepare(octets.len());
-        let mut stream: &TcpStream = &self.socket.stream;
-        let answer = write_through(&mut stream, octets);
+        let stream: &TcpStream = &self.socket.stream;
+        let answer = CountedFile::new(stream).write_some(octets);
         self.noted(answer)
     }
 

@@ -17,7 +17,6 @@ mod end;
 mod name;
 mod outgoing;
 mod passive;
-mod retry;
 mod served;
 
 pub use connection::DataConnection;

@@ -4,7 +4,8 @@ use Rattle.std.specs.Prelude.{◌≡◌, ◌≢◌, ℕ, ℤ, Bool, List, Option
 use Rattle.virtual_tree.specs.declared.fault.StoreFault.{StoreFault}
 use Rattle.virtual_tree.specs.declared.fault.StoreFault.TheVariants.{Device, Full}
 use Rattle.virtual_tree.specs.Calls.{Exchange, refusal}
-use Rattle.folder_store.specs.Ends.{FileWithCalls, SourceState}
+use Rattle.counted_file.specs.Calls.{FileWithCalls}
+use Rattle.folder_store.specs.Ends.{SourceState}
 use Rattle.folder_store.specs.MachineCalls.{MachineCall}
 use Rattle.folder_store.specs.Served.{Serves}
 use Rattle.folder_store.specs.Walks.{walker}

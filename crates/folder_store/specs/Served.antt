@@ -7,7 +7,8 @@ use Rattle.ftp_terms.specs.declared.entries.EntryKind.TheVariants as entry
 use Rattle.virtual_path.specs.Path.{Path}
 use Rattle.virtual_tree.specs.Calls.{Exchange}
 use Rattle.virtual_tree.specs.Calls.Exchange.{Stat, Listing, OpenRead, OpenWrite, Finish, MakeDir, RemoveDir, RemoveFile, Rename}
-use Rattle.folder_store.specs.Ends.{FileWithCalls, SourceState, no_calls}
+use Rattle.counted_file.specs.Calls.{FileWithCalls, no_calls}
+use Rattle.folder_store.specs.Ends.{SourceState}
 use Rattle.folder_store.specs.Listings.{ListsDirectory}
 use Rattle.folder_store.specs.Looks.{meta_of}
 use Rattle.folder_store.specs.MachineCalls.{MachineCall}

@@ -33,7 +33,6 @@
 
 mod changes;
 mod count;
-mod counted;
 mod fault;
 mod files;
 mod files_machine;

@@ -2,11 +2,12 @@
 
 ghost use Rattle.std.specs.Prelude.{◌≡◌, ◌-◌, ◌<◌, ◌≤◌, length, take, None, IfOk, IfErr, OnErr, OnOk};
 ghost use Rattle.std.specs.Io.KnownBytes.{Appends, Consumes, ReadConsumes};
-ghost use Rattle.folder_store.specs.Ends.{ReportsRead, ReportsWrite, least, no_calls};
+ghost use Rattle.counted_file.specs.Calls.{ReportsWrite, no_calls};
+ghost use Rattle.folder_store.specs.Ends.{ReportsRead, least};
 ghost use Rattle.virtual_tree.specs.Calls.{IsEndFault};
 
-use crate::counted::CountedFile;
 use crate::look::kept_end_fault;
+use counted_file::CountedFile;
 use last_fault::LastFault;
 use std::io::{Read, Write};
 use std::marker::Model;
@@ -52,7 +53,7 @@ pub struct DirSink<F: Write + Drop> {
 }
 
 impl<F: Write + Drop> Model for DirSink<F> {
-    ghost use Rattle.folder_store.specs.Ends.{FileWithCalls};
+    ghost use Rattle.counted_file.specs.Calls.{FileWithCalls};
 
     ghost Value = { FileWithCalls F };
 

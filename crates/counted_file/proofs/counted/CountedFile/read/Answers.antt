@@ -2,8 +2,8 @@ use Rattle.std.proofs.Common.{rules, ◌≡◌, ◌∙◌, ap, inl, refl}
 use Rattle.std.proofs.KnownBytes.{Keeps-refl, Keeps-trans}
 use Rattle.std.specs.IoError.{error_kind}
 use Rattle.std.specs.declared.io.ErrorKind.TheVariants.{Interrupted}
-use Rattle.folder_store.proofs.Counting.{raised_once}
-use Rattle.folder_store.proofs.counted.CountedFile.read.Goals as goal
+use Rattle.counted_file.proofs.Counting.{raised_once}
+use Rattle.counted_file.proofs.counted.CountedFile.read.Goals as goal
 
 pub reads-init : goal.reads-init
 reads-init g c = record { kept = Keeps-refl _; passed = refl; failed = refl; turns = inl (refl, refl) }

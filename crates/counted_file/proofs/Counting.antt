@@ -1,6 +1,6 @@
 -- Counts modulo 2^64.
 use Rattle.std.proofs.Common.{◌≡◌, ◌+◌, ◌%◌, ◌^◌, ◌⊎◌, inl, inr, ℕ, arith}
-use Rattle.folder_store.specs.Ends.{IsRaised, next}
+use Rattle.counted_file.specs.Calls.{IsRaised, next}
 
 pub raised_once : (steps old now new : ℕ) → IsRaised steps old now → new ≡ next now → IsRaised (steps + 1) old new
 unfolding next

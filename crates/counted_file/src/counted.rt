@@ -1,13 +1,13 @@
-//! Calls on an open file, with counts of those that passed, were interrupted, and failed.
+//! A file, or another end that is read or written, with counts of the calls on it.
 //!
-//! No other module can access the file, so a contract that compares these counts covers each call that was made. A call
+//! No other module can access the end, so a contract that compares these counts covers each call that was made. A call
 //! that was interrupted is made again.
 
 ghost use Rattle.std.specs.Prelude.{◌≡◌, ◌≢◌, ◌<◌, ◌≤◌, length, take, IfErr, IfOk, OnOk};
 ghost use Rattle.std.specs.Io.KnownBytes.{Appends, Keeps, ReadConsumes};
 ghost use Rattle.std.specs.IoError.{error_kind};
 ghost use Rattle.std.specs.declared.io.ErrorKind.TheVariants.{Interrupted};
-ghost use Rattle.folder_store.specs.Ends.{IsCounted, ReportsWrite, next, no_calls, with_failed, with_interrupted, with_passed};
+ghost use Rattle.counted_file.specs.Calls.{IsCounted, ReportsWrite, next, no_calls, with_failed, with_interrupted, with_passed};
 
 use std::io;
 use std::io::{ErrorKind, Read, Write};
@@ -15,7 +15,7 @@ use std::marker::Model;
 
 /// An open file with counts of the calls on it, modulo 2^64.
 #[derive(Drop)]
-pub(crate) struct CountedFile<F: Drop> {
+pub struct CountedFile<F: Drop> {
     file: F,
     passed: u64,
     interrupted: u64,
@@ -23,7 +23,7 @@ pub(crate) struct CountedFile<F: Drop> {
 }
 
 impl<F: Drop> Model for CountedFile<F> {
-    ghost use Rattle.folder_store.specs.Ends.{FileWithCalls};
+    ghost use Rattle.counted_file.specs.Calls.{FileWithCalls};
 
     ghost Value = { FileWithCalls F };
 
@@ -34,7 +34,7 @@ impl<F: Drop> Model for CountedFile<F> {
 }
 
 /// One more, modulo 2^64.
-#[tactic(auto, unfolding(crate::specs::Ends::next))]
+#[tactic(auto, unfolding(crate::specs::Calls::next))]
 fn next_count(count: u64) -> u64
     ensures { result ≡ next count }
 {
@@ -146,8 +146,9 @@ impl<F: Write + Drop> CountedFile<F> {
         answer
     }
 
-    /// Writes once, and again if the write is interrupted. `TimedOut` after 2^64 - 1 interruptions.
-    fn write_some(&mut self, octets: &[u8]) -> io::Result<usize>
+    /// Writes once, and again if the write is interrupted. One that takes no octet has failed. `TimedOut` after 2^64 - 1
+    /// interruptions.
+    pub fn write_some(&mut self, octets: &[u8]) -> io::Result<usize>
         ensures some { IfOk result (λ count. 0 < count) }
         ensures bound { IfOk result (λ count. count ≤ length octets.now) }
         ensures octets { IfOk result (λ count. Appends (F.contents self.old.file)

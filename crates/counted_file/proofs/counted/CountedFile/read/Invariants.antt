@@ -1,7 +1,7 @@
 use Rattle.std.proofs.Common.{◌≡◌}
 use Rattle.std.specs.Io.KnownBytes.{Keeps}
-use Rattle.folder_store.specs.Ends.{IsRaised}
-use Rattle.folder_store.proofs.counted.CountedFile.read.Given as goal
+use Rattle.counted_file.specs.Calls.{IsRaised}
+use Rattle.counted_file.proofs.counted.CountedFile.read.Given as goal
 
 abbrev pub invariant-reads : goal.invariant-reads
 invariant-reads g l = record {

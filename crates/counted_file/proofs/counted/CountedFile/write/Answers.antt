@@ -1,8 +1,8 @@
 use Rattle.std.proofs.Common.{ℕ, List, take, subst, arith, ◌∙◌}
 use Rattle.std.proofs.lemmas.List.{take_rest}
 use Rattle.std.specs.Io.KnownBytes.{Appends}
-use Rattle.folder_store.proofs.Writing.{appends_more, take_both}
-use Rattle.folder_store.proofs.counted.CountedFile.write.Goals as goal
+use Rattle.counted_file.proofs.Writing.{appends_more, take_both}
+use Rattle.counted_file.proofs.counted.CountedFile.write.Goals as goal
 
 pub loop-done-preserved : goal.loop-done-preserved
 loop-done-preserved g c = record {

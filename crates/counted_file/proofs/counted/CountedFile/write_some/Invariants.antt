@@ -1,7 +1,7 @@
 use Rattle.std.proofs.Common.{◌≡◌}
 use Rattle.std.specs.Io.KnownBytes.{Keeps}
-use Rattle.folder_store.specs.Ends.{IsRaised}
-use Rattle.folder_store.proofs.counted.CountedFile.write_some.Given as goal
+use Rattle.counted_file.specs.Calls.{IsRaised}
+use Rattle.counted_file.proofs.counted.CountedFile.write_some.Given as goal
 
 abbrev pub invariant-writes : goal.invariant-writes
 invariant-writes g l = record {

@@ -1,5 +1,0 @@
-use Rattle.std.proofs.KnownBytes.{Keeps-refl}
-use Rattle.data_sockets.proofs.retry.read_through.Goals as goal
-
-pub reads-init : goal.reads-init
-reads-init g c = Keeps-refl _

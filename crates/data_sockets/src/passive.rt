@@ -56,8 +56,8 @@ fn is_wanted(from: SocketAddr, peer: Option<[u8; 4]>) -> bool
     }
 }
 
-/// Accepts a connection from this peer, or from anybody if no peer is given, and closes those of others. `None` if no
-/// other has come yet.
+/// Accepts a connection from this peer, or from anybody if no peer is given, and closes those of others. `None` if none
+/// has come yet, if the machine reports an error, or after `MOST_STRANGERS` others: the next call goes on.
 pub fn accept_from(listener: &TcpListener, peer: Option<[u8; 4]>) -> Option<TcpStream> {
     for _ in 0..MOST_STRANGERS {
         match listener.accept() {

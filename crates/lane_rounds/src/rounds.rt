@@ -38,8 +38,8 @@ fn wake_lanes(lanes: &[LaneSign], answered: u64, is_refused: bool) {
     }
 }
 
-// The lanes that a round is of: those of transfers whose rows are open, or that are to stop: their asks are to be
-// answered, so that their lanes can leave them. A lane without a transfer is not tried. The signs are hints, as for
+// The lanes that a round is of: those with a transfer whose rows are open, or which is to stop. The ask of one that is to
+// stop is answered too, so that its lane can leave it. A lane without a transfer is not tried. The signs are hints, as for
 // `due_by`: a lane whose sign is stale is left out, or asked too early, in one round.
 fn open_lanes<S: Store<Global>, H: Drop, B: PartsName, N>(
     house: &House<S, H, B>,

@@ -94,7 +94,7 @@ past_of directory = (directory ++ [] ∷ []) ++ [] ∷ []
 abbrev is_between : Path → Path → Bool
 is_between directory key = range_contains path_cmp (Included (first_of directory)) (Excluded (past_of directory)) key
 
--- the entries of a directory are those between these two spots
+-- the entries of a directory are those between these two path keys
 pub in_directory : (directory : Path) (key : PathKey) → is_between directory key ≡ is_in directory key
 in_directory directory [] = ap (λ b. b && not (is_le (path_cmp (past_of directory) []))) (not_the_root directory [])
 in_directory directory (name ∷ names) =
@@ -141,7 +141,7 @@ pub range_forward : (directory : Path) (start end : PathKey) → start ≡ first
 range_forward directory start end is past =
     ap (λ (p : PathKey). is_gt (path_cmp p end)) is ∙ ap (λ (p : PathKey). is_gt (path_cmp (first_of directory) p)) past ∙ bounds_forward directory
 
--- a range between these spots has the children of the directory
+-- a range between these path keys has the children of the directory
 pub range_has_children : (directory : Path) (start end : PathKey) (tree : Tree) (es found : List (PathKey × Node)) → start ≡ first_of directory → end ≡ past_of directory → IsStrictlySortedBy path_cmp (keys_of es) → from_entries {R = path_cmp} es ≡ tree
     → found ≡ entries_between path_cmp (Included start) (Excluded end) es → found ≡ children_in tree directory
 range_has_children directory start end tree es found is past sorted view range =
@@ -198,7 +198,7 @@ child_path directory (name ∷ names) here =
     ends_in_last name names
     ∙ ap (λ (d : Path). d ++ last_of (name ∷ names) ∷ []) (sym (exact_names directory (parent_of (name ∷ names)) (only_equal (names_cmp directory (parent_of (name ∷ names))) here)))
 
--- in one directory the names are in the order of the spots
+-- in one directory the names are in the order of the path keys
 name_below : (directory : Path) (p q : PathKey) → is_in directory p ≡ true → is_in directory q ≡ true → T (is_lt (path_cmp p q)) → text_cmp (last_of p) (last_of q) ≡ Less
 name_below directory p q here there less =
     let one : path_cmp p q ≡ text_cmp (last_of p) (last_of q) =

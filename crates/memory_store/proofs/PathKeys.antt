@@ -168,7 +168,7 @@ joined_text front rest text is are e =
 pub joined_plain : (front rest : List ℕ) → IsPlain (names_in front ++ names_in rest)
 joined_plain front rest = each-append HasNoSlash (names_in front) (names_in rest) (plain_names front) (plain_names rest)
 
--- ---- what is kept of a spot
+-- ---- what is kept of a path key
 
 pub key_text : (directory name : List ℕ) (kept_directory kept_name : List ℕ) → slashed (names_in directory) ≡ directory → HasNoSlash name → kept_directory ≡ directory → kept_name ≡ name → IsPathKeyText kept_directory kept_name
 key_text directory name kept_directory kept_name is plain same_directory same_name = record {

@@ -1,4 +1,4 @@
--- Finite maps from spots, and the octets that they hold.
+-- Finite maps from path keys, and the octets that they hold.
 use Rattle.std.proofs.Common.{◌≡◌, ℕ, ◌+◌, ◌-◌, ◌≤◌, Bool, true, false, cond, T, List, [], ◌∷◌, length, map, refl, sym, ap, subst, ◌∙◌, arith, Some, None, sum_by, ◌&&◌, add-zero}
 use Rattle.std.proofs.lemmas.List.Sums.{sum_by-cons}
 use Rattle.std.specs.Cmp.{eq_by_cmp_equiv}
@@ -33,11 +33,11 @@ find_key : (es : List (PathKey × Node)) (q : PathKey) → find path_cmp q es �
 find_key [] q = refl
 find_key (e ∷ es) q = ap (cond (is_at (path_cmp q) e.0) (Some e.1)) (find_key es q)
 
--- what the tree of these entries has at a spot
+-- what the tree of these entries has at a path key
 pub get_key : (es : List (PathKey × Node)) (q : PathKey) → get (from_entries {R = path_cmp} es) q ≡ lookup (is_at (path_cmp q)) es
 get_key es q = get-from_entries paths_total es q ∙ find_key es q
 
--- entries that differ at one spot make trees that differ there
+-- entries that differ at one path key make trees that differ there
 pub one_put : (es fs : List (PathKey × Node)) (p : PathKey) (node : Node) → ((q : PathKey) → lookup (is_at (path_cmp q)) fs ≡ cond (is_at (path_cmp p) q) (Some node) (lookup (is_at (path_cmp q)) es)) → from_entries {R = path_cmp} fs ≡ insert (from_entries es) p node
 one_put es fs p node h = same_map paths_total exact_paths _ _ (λ q.
     get_key fs q ∙ h q ∙ ap (λ b. cond b (Some node) (lookup (is_at (path_cmp q)) es)) ((eq_by_cmp_equiv paths_total).symm p q)
@@ -169,7 +169,7 @@ put_count tree p node stored freed more is at size =
     (ap (λ n. total (insert tree p node) + n) at ∙ total-insert tree p node ∙ ap (λ n. total tree + n) (sym size))
     is (size_within tree p stored freed is at)
 
--- ---- an entry at another spot
+-- ---- an entry at another path key
 
 still_there : (tree : Tree) (from to : PathKey) (node : Node) → get tree from ≡ Some node → get (insert tree to node) from ≡ Some node
 still_there tree from to node is = get-insert paths_total tree to node from ∙ either (eq_by_cmp path_cmp from to)

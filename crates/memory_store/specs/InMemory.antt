@@ -19,7 +19,7 @@ pub record Memory : Type 0 where
   pub tree : Tree
   pub capacity : ℕ
 
--- an upload: the spot of its file, the number of the file's octets that are kept before the new
+-- an upload: the key of its file, the number of the file's octets that are kept before the new
 -- ones, the most octets that its sink holds in memory, and all those received
 pub record Upload : Type 0 where
   pub key : PathKey
@@ -50,7 +50,7 @@ octets_from offset (Some octets) =
 
 -- ---- calls that change the tree: the decision, and then the tree afterwards
 
--- the kind of the node at a spot, or at a path
+-- the kind of the node at a path key, or at a path
 abbrev pub kind_in : Tree → PathKey → Option EntryKind
 kind_in tree key = option_map kind_of (get tree key)
 
@@ -62,8 +62,8 @@ listing_reported tree path None = Err fault.NotFound
 listing_reported tree path (Some kind.File) = Err fault.NotDir
 listing_reported tree path (Some kind.Directory) = Ok (listing tree path)
 
--- the spot, if an entry may be created there, given the kinds of its directory and of an entry at
--- the spot
+-- the key, if an entry may be created there, given the kinds of its directory and of an entry at
+-- the path key
 abbrev pub vacancy : PathKey → Option EntryKind → Option EntryKind → Result PathKey StoreFault
 vacancy key None here = Err fault.NotFound
 vacancy key (Some kind.File) here = Err fault.NotDir
@@ -73,7 +73,7 @@ vacancy key (Some kind.Directory) None = Ok key
 abbrev pub vacant : Tree → Path → PathKey → Result PathKey StoreFault
 vacant tree path key = vacancy key (kind_at tree (parent_of path)) (kind_in tree key)
 
--- the spot for a new directory
+-- the path key for a new directory
 abbrev pub key_to_make : Tree → Path → Option PathKey → Result PathKey StoreFault
 key_to_make tree path None = Err fault.Exists
 key_to_make tree path (Some key) = vacant tree path key
@@ -87,7 +87,7 @@ bare_only is_bare key (Some kind.Directory) = cond is_bare (Ok key) (Err fault.N
 abbrev pub is_bare : Tree → Path → Bool
 is_bare tree path = nat_eq (length (children_in tree path)) 0
 
--- the spot of an empty directory
+-- the path key of an empty directory
 abbrev pub key_of_bare : Tree → Path → Option PathKey → Result PathKey StoreFault
 key_of_bare tree path None = Err fault.NotEmpty
 key_of_bare tree path (Some key) = bare_only (is_bare tree path) key (kind_in tree key)
@@ -97,12 +97,12 @@ file_only key None = Err fault.NotFound
 file_only key (Some kind.Directory) = Err fault.IsDir
 file_only key (Some kind.File) = Ok key
 
--- the spot of a file
+-- the path key of a file
 abbrev pub key_of_file : Tree → Option PathKey → Result PathKey StoreFault
 key_of_file tree None = Err fault.IsDir
 key_of_file tree (Some key) = file_only key (kind_in tree key)
 
--- the entry to be renamed, and its spots before and afterwards
+-- the entry to be renamed, and its path keys before and afterwards
 pub record Move : Type 0 where
   pub node : Node
   pub before : PathKey
@@ -137,7 +137,7 @@ moved_tree tree move = moved_by_kind tree move (kind_of move.node)
 
 -- ---- files that are written
 
--- a file opened for writing: the tree afterwards, the file's spot, and how many of its octets are
+-- a file opened for writing: the tree afterwards, the file's key, and how many of its octets are
 -- kept
 pub record Opening : Type 0 where
   pub tree : Tree
@@ -188,13 +188,13 @@ abbrev pub opened : Tree → Path → WriteMode → ℕ → Option PathKey → R
 opened tree path mode moment None = Err fault.IsDir
 opened tree path mode moment (Some key) = open_node tree path key moment mode (get tree key)
 
--- the tree after the file at the upload's spot was set to its first octets, followed by those
+-- the tree after the file at the upload's key was set to its first octets, followed by those
 -- received
 abbrev pub filled : Tree → Upload → ℕ → List ℕ → Tree
 filled tree upload moment octets =
     insert tree upload.key (File (take upload.kept octets ++ upload.octets) moment)
 
--- given the octets of the file at the spot; None is a directory
+-- given the octets of the file at the path key; None is a directory
 abbrev pub finish_octets : Memory → Upload → ℕ → Option (List ℕ) → Result Tree StoreFault
 finish_octets memory upload moment None = Err fault.IsDir
 finish_octets memory upload moment (Some octets) =
@@ -261,7 +261,7 @@ InMemory old (Rename from to answer) new =
     Changes old answer new (move_of old.tree from to (key_of from) (key_of to)) unit_of
     (moved_tree old.tree)
 
--- the octets at a spot; none if there is no file
+-- the octets at a path key; none if there is no file
 abbrev pub octets_at : Tree → PathKey → List ℕ
 octets_at tree key = unwrap_or (option_and_then octets_of (get tree key)) []
 

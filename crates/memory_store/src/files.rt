@@ -114,7 +114,7 @@ impl<A: Allocator + Clone> Files<A> {
         self.listed_between(alloc, &first, &end)
     }
 
-    /// The same, between the spots before and after all entries of the directory.
+    /// The same, between the path keys before and after all entries of the directory.
     fn listed_between(
         &self,
         alloc: &A,
@@ -168,7 +168,7 @@ impl<A: Allocator + Clone> Files<A> {
         Ok(())
     }
 
-    /// All entries after a rename of one path to another, given as spots.
+    /// All entries after a rename of one path to another, given as path keys.
     pub fn renamed<B: Allocator>(
         &self,
         alloc: &A,

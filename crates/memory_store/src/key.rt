@@ -14,7 +14,7 @@ use virtual_tree::ListedEntry;
 
 /// Any path but the root: the text of its directory, with `/` before each name, and its last name.
 ///
-/// Spots are ordered so that a directory's entries are adjacent and sorted by name.
+/// Path keys are ordered so that a directory's entries are adjacent and sorted by name.
 #[derive(Drop)]
 pub(crate) struct PathKey<A: Allocator> {
     directory: String<A>,
@@ -101,7 +101,7 @@ impl<A: Allocator + Clone> PathKey<A> {
     ghost use Rattle.virtual_tree.specs.Calls.{entry_of};
     ghost use Rattle.memory_store.specs.Tree.{last_of, key_of, reported_of, moved};
 
-    /// The spot with this text, which has `/` before each name; none if the text is empty, as the root's
+    /// The key with this text, which has `/` before each name; none if the text is empty, as the root's
     /// is.
     fn split(alloc: &A, text: &str) -> Result<Option<PathKey<A>>, AllocError>
         requires { slashed (names_in text.now) ≡ text.now }
@@ -116,14 +116,14 @@ impl<A: Allocator + Clone> PathKey<A> {
         }
     }
 
-    /// The spot of a path; none for the root.
+    /// The path key of a path; none for the root.
     pub fn of<B: Allocator>(alloc: &A, path: &VPath<B>) -> Result<Option<PathKey<A>>, AllocError>
         ensures { IfOk result (λ found. found ≡ key_of path.now) }
     {
         PathKey::split(alloc, directory_text(path))
     }
 
-    /// The spot of the directory above a path; none if that is the root.
+    /// The path key of the directory above a path; none if that is the root.
     pub fn above<B: Allocator>(alloc: &A, path: &VPath<B>) -> Result<Option<PathKey<A>>, AllocError>
         ensures { IfOk result (λ found. found ≡ key_of (parent_of path.now)) }
     {
@@ -133,7 +133,7 @@ impl<A: Allocator + Clone> PathKey<A> {
         }
     }
 
-    /// A copy of the spot.
+    /// A copy of the path key.
     pub fn copy(&self, alloc: &A) -> Result<PathKey<A>, AllocError>
         ensures { IfOk result (λ key. key ≡ self.now) }
     {
@@ -143,7 +143,7 @@ impl<A: Allocator + Clone> PathKey<A> {
         })
     }
 
-    /// A spot before all entries of a directory.
+    /// A path key before all entries of a directory.
     pub(crate) fn first_in<B: Allocator>(
         alloc: &A,
         path: &VPath<B>,
@@ -156,7 +156,7 @@ impl<A: Allocator + Clone> PathKey<A> {
         })
     }
 
-    /// A spot after all entries of a directory: its own directory, one with an empty name in the given one, is the next
+    /// A key after all entries of a directory: its own directory, one with an empty name in the given one, is the next
     /// in the order of directories.
     pub(crate) fn past<B: Allocator>(alloc: &A, path: &VPath<B>) -> Result<PathKey<A>, AllocError>
         ensures { IfOk result (λ key. key ≡ (path.now ++ [] ∷ []) ++ [] ∷ []) }
@@ -169,7 +169,7 @@ impl<A: Allocator + Clone> PathKey<A> {
         })
     }
 
-    /// The entry at this spot as listed; none if no path can name it.
+    /// The entry at this path key as listed; none if no path can name it.
     pub(crate) fn listed(
         &self,
         alloc: &A,
@@ -189,7 +189,7 @@ impl<A: Allocator + Clone> PathKey<A> {
         }))
     }
 
-    /// The spot of this entry after a rename of one path to another, given as spots.
+    /// The key of this entry after a rename of one path to another, given as path keys.
     pub(crate) fn moved<B: Allocator>(
         &self,
         alloc: &A,

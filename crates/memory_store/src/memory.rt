@@ -62,7 +62,7 @@ impl<A: Allocator + Clone> MemStore<A> {
         self.capacity
     }
 
-    /// Another handle to the entry at a spot.
+    /// Another handle to the entry at a path key.
     pub(crate) fn share(&self, key: &PathKey<A>) -> Result<Option<Entry<A>>, AllocError>
         ensures { IfOk result (λ found. found ≡ map.get self.now.tree key.now) }
     {

@@ -14,7 +14,7 @@ use std::alloc::Allocator;
 use virtual_path::VPath;
 use virtual_tree::StoreFault;
 
-/// An entry to be renamed, and its two spots.
+/// An entry to be renamed, and its two path keys.
 #[derive(Drop)]
 pub(crate) struct Moving<A: Allocator> {
     pub(crate) entry: Entry<A>,
@@ -23,7 +23,7 @@ pub(crate) struct Moving<A: Allocator> {
 }
 
 impl<A: Allocator + Clone> MemStore<A> {
-    /// The entry to be renamed, and its spots before and afterwards.
+    /// The entry to be renamed, and its path keys before and afterwards.
     pub(crate) fn moving(&self, from: &VPath<A>, to: &VPath<A>) -> Result<Moving<A>, StoreFault>
         ensures decided { MatchResult result
             (λ moving. move_between self.now.tree from.now to.now

@@ -13,7 +13,7 @@ use virtual_path::VPath;
 use virtual_tree::StoreFault;
 
 impl<A: Allocator + Clone> MemStore<A> {
-    /// The kind of the entry at a spot.
+    /// The kind of the entry at a path key.
     pub(crate) fn kind_in(&self, key: &PathKey<A>) -> Option<EntryKind>
         ensures { result ≡ kind_in self.now.tree key.now }
     {
@@ -43,7 +43,7 @@ impl<A: Allocator + Clone> MemStore<A> {
         }
     }
 
-    /// The spot, if an entry may be created there.
+    /// The path key, if an entry may be created there.
     pub(crate) fn vacant(&self, path: &VPath<A>, key: PathKey<A>) -> Result<PathKey<A>, StoreFault>
         ensures { result ≢ Err StoreFault.Memory → result ≡ vacant self.now.tree path.now key }
     {

@@ -182,7 +182,7 @@ impl<A: Allocator + Clone> MemStore<A> {
         self.open_empty(key, moment)
     }
 
-    /// A spot without an entry, opened for writing.
+    /// A path key without an entry, opened for writing.
     pub(crate) fn open_absent(
         &mut self,
         path: &VPath<A>,

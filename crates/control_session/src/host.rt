@@ -35,9 +35,10 @@ pub enum Piece {
 /// `Does` is the effect of each call. Each host defines its own. All calls go to one host, one after another, so the
 /// proofs about a session include their order. A session is lent the users, the store and the floors for one step, so
 /// other sessions may change the store and the floors in between, and the host may take newer users. A host by whose
-/// `Does` it takes them only for a step before which nobody is logged in (`Session::is_logged_in`) serves whoever is
-/// logged in by the users of that login (`run_control`, clause `logins`). No call has to wait: a host that waits, in a read or for the end of a transfer,
-/// has all that it needs for that. Values that own memory of the session are passed in an `Option`, to be taken out.
+/// `Does` it takes them only for a step before which nobody is logged in serves whoever is logged in by the users of that
+/// login (`run_control`, clause `logins`). No call has to wait: a host that waits, in a read or for the end of a
+/// transfer, has all that it needs for that. Values that own memory of the session are passed in an `Option`, to be
+/// taken out.
 pub trait Host<A: Allocator + Clone> {
     /// The store.
     type Store;

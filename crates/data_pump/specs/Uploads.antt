@@ -11,6 +11,7 @@ use Rattle.data_pump.specs.declared.pumped.PumpEnd.{PumpEnd}
 use Rattle.data_pump.specs.declared.pumped.PumpEnd.TheVariants.{Ended, More, ReadFault, WriteFault, Memory}
 use Rattle.data_pump.specs.declared.pumped.Pumped.{Pumped}
 use Rattle.virtual_tree.specs.Calls.{Target}
+use Rattle.data_pump.specs.declared.inflow.TheConstants.{MAX_READ}
 
 -- the flow in: the connection and the sink, each with the counts of its calls, and the octets held
 -- back
@@ -33,7 +34,7 @@ HasTextRoom Ascii octets text = octets < length text
 HasTextRoom Image octets text = Unit {0}
 
 pub record IsRoom (data_type : DataType) (octets text : List ℕ) : Type 0 where
-  pub octets_room : length octets ≡ 65536
+  pub octets_room : length octets ≡ MAX_READ
   pub text_room : HasTextRoom data_type (length octets) text
 
 -- an end for a fault of the sink, or of its memory
@@ -60,7 +61,7 @@ pub record IsEnd {K X : Type 0} (remaining : K → Option (List ℕ)) (collected
 pub record MovesIn {K X : Type 0} (remaining : K → Option (List ℕ))
     (collected : X → Option (List ℕ)) (target : X → Option Target) (octets : ℕ)
     (old new : InFlow K X) (pumped : Pumped) : Type 0 where
-  pub most : pumped.moved ≤ min octets 65536
+  pub most : pumped.moved ≤ min octets MAX_READ
   -- they are what the connection's read returned
   pub read : List ℕ
   pub count : length read ≡ pumped.moved

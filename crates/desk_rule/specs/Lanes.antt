@@ -6,6 +6,7 @@ use lib.ListN.{get_elem?}
 use Rattle.atomic_table.specs.Table.{State, Me, Step, rest}
 use Rattle.line_rates.specs.declared.ask.Ask.{Ask}
 use Rattle.grant_ledger.specs.Books.{GrantView}
+use Rattle.grant_ledger.specs.declared.ledger.TheConstants.{MAX_ISSUED}
 use Rattle.desk_rule.specs.declared.view.LaneSlot.{LaneSlot}
 use Rattle.desk_rule.specs.declared.view.LaneSlot.TheVariants.{Blank, WithAsk, WithGrant}
 use Rattle.desk_rule.specs.declared.view.SeatState.{SeatState}
@@ -34,8 +35,9 @@ abbrev pub posted_in : List TraceView → ℕ
 posted_in [] = 0
 posted_in (t ∷ ts) = sum t.posted + posted_in ts
 
+-- the most that all amounts posted add up to: what a book issues
 abbrev pub most : ℕ
-most = 4611686018427387904
+most = MAX_ISSUED
 
 module _ (k : ℕ) (lane : ℕ → LaneView) (trace : ℕ → TraceView) (owner : ℕ → ℕ) (desk dealt : ℕ)
     (j : ℕ) where

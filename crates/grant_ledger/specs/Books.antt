@@ -1,5 +1,6 @@
 -- Books, grants, purses and tallies as contracts see them.
 use Rattle.std.specs.Prelude.{◌≢◌, ◌+◌, ◌<◌, ℕ, List, [], ◌∷◌, replicate, slice_set, min, Option, Some, None}
+use Rattle.grant_ledger.specs.declared.ledger.TheConstants.{MAX_LANES}
 
 -- the octets issued, the tick of the last entry, for each lane the amount not yet drawn, and the
 -- tick of the entry that these amounts are from
@@ -24,7 +25,7 @@ pub record TallyView : Type 0 where
 
 -- nothing is left to draw
 abbrev pub nothing_undrawn : List (Option ℕ)
-nothing_undrawn = replicate 64 None
+nothing_undrawn = replicate MAX_LANES None
 
 -- the amounts of an entry, each at its lane
 abbrev pub by_lane : List ℕ → List ℕ → List (Option ℕ)
@@ -37,10 +38,10 @@ abbrev pub NamesNot : ℕ → List ℕ → Type 0
 NamesNot lane [] = Unit {0}
 NamesNot lane (other ∷ lanes) = (lane ≢ other) × NamesNot lane lanes
 
--- the lanes are below 64, and none occurs twice
+-- the lanes are below `MAX_LANES`, and none occurs twice
 abbrev pub AreLanes : List ℕ → Type 0
 AreLanes [] = Unit {0}
-AreLanes (lane ∷ lanes) = (lane < 64) × NamesNot lane lanes × AreLanes lanes
+AreLanes (lane ∷ lanes) = (lane < MAX_LANES) × NamesNot lane lanes × AreLanes lanes
 
 -- a sum that saturates at the greatest u64
 abbrev pub capped : ℕ → ℕ → ℕ

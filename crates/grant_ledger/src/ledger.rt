@@ -34,7 +34,7 @@ pub struct Book<N = Plain> {
 }
 
 impl<N> Model for Book<N> {
-    ghost use Rattle.std.specs.Prelude.{◌≡◌, ◌≤◌, ◌^◌, IfNone};
+    ghost use Rattle.std.specs.Prelude.{◌≡◌, ◌≤◌, IfNone};
     ghost use Rattle.grant_ledger.specs.Books.{BookView, nothing_undrawn};
 
     ghost Value = { BookView };
@@ -47,7 +47,7 @@ impl<N> Model for Book<N> {
     } };
 
     ghost invariant = { λ b.
-        (b.issued ≤ 2 ^ 62) × IfNone b.entry_tick (b.undrawn ≡ nothing_undrawn) };
+        (b.issued ≤ MAX_ISSUED) × IfNone b.entry_tick (b.undrawn ≡ nothing_undrawn) };
 }
 
 /// Permission to move octets on one lane, from the entry of one tick. It must be spent.

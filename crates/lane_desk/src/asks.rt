@@ -23,7 +23,7 @@ impl Model for Asks {
 
     ghost view = { λ a. record { asks = take a.count a.asks; answered = a.answered } };
 
-    ghost invariant = { λ a. a.count ≤ 64 };
+    ghost invariant = { λ a. a.count ≤ MAX_LANES };
 }
 
 impl Asks {

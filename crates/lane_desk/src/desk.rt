@@ -4,6 +4,7 @@ ghost use Rattle.std.specs.Prelude.{◌≡◌, ◌<◌, ◌≤◌};
 
 use atomic_table::{Shared, Table};
 use desk_rule::{DeskRule, DeskView, LaneSlot};
+use grant_ledger::MAX_LANES;
 use std::alloc::{Allocator, Global};
 
 /// The words and slots of the lanes, which workers and the round share. Its type has the name of its book, `N`. Grants
@@ -12,7 +13,7 @@ pub struct Desk<N, A: Allocator = Global> {
     table: Table<LaneSlot<N>, DeskView, u64, DeskRule, A>,
     lanes: usize,
     ghost sized: { (table.shared.table_id.slots ≡ lanes) × (lanes ≤ table.shared.table_id.words)
-        × (0 < table.shared.table_id.words) × (lanes ≤ 64) },
+        × (0 < table.shared.table_id.words) × (lanes ≤ MAX_LANES) },
 }
 
 impl<N, A: Allocator> Desk<N, A> {
@@ -20,7 +21,7 @@ impl<N, A: Allocator> Desk<N, A> {
     pub fn new(table: Table<LaneSlot<N>, DeskView, u64, DeskRule, A>, lanes: usize) -> Desk<N, A>
         requires slots { table.shared.table_id.slots ≡ lanes }
         requires words { (lanes ≤ table.shared.table_id.words) × (0 < table.shared.table_id.words) }
-        requires few { lanes ≤ 64 }
+        requires few { lanes ≤ MAX_LANES }
         ensures desk { (result.table ≡ table) × (result.lanes ≡ lanes) }
     {
         Desk { table, lanes }
@@ -29,7 +30,7 @@ impl<N, A: Allocator> Desk<N, A> {
     /// Number of lanes, which are numbered from 0.
     pub fn lanes(&self) -> usize
         ensures lanes { result ≡ self.now.lanes }
-        ensures few { result ≤ 64 }
+        ensures few { result ≤ MAX_LANES }
     {
         self.lanes
     }

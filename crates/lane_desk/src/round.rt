@@ -18,7 +18,7 @@ pub struct RoundDesk<N> {
     lanes: usize,
     // The lanes whose slots it has: their asks are collected and not answered.
     held: [bool; MAX_LANES],
-    ghost few: { lanes ≤ 64 },
+    ghost few: { lanes ≤ MAX_LANES },
     ghost knows: { KnowsDesk seat.me lanes held },
 }
 
@@ -30,7 +30,7 @@ fn rotate_down<N>(
     from: usize,
     to: usize,
 )
-    requires { (to ≤ from) × (from ≤ lanes) × (lanes ≤ 64)
+    requires { (to ≤ from) × (from ≤ lanes) × (lanes ≤ MAX_LANES)
         × (seat.old.me.1 ≡ stack held.now from (lanes - from)) }
     ensures { (seat.new.table_id ≡ seat.old.table_id) × (seat.new.id ≡ seat.old.id)
         × (seat.new.me ≡ (seat.old.me.0, stack held.now to (lanes - to))) }
@@ -51,7 +51,7 @@ impl<N> RoundDesk<N> {
 
     /// The round of a desk on which nothing has been done, after each lane's seat was split off.
     pub fn new(seat: Seat<LaneSlot<N>, DeskView>, lanes: usize) -> RoundDesk<N>
-        requires { (seat.me ≡ (Round (dealt_round lanes lanes), [])) × (lanes ≤ 64) }
+        requires { (seat.me ≡ (Round (dealt_round lanes lanes), [])) × (lanes ≤ MAX_LANES) }
         ensures { (result.seat ≡ seat) × (result.lanes ≡ lanes) }
     {
         RoundDesk {
@@ -77,7 +77,7 @@ impl<N> RoundDesk<N> {
     pub fn lanes(&self) -> usize
         ensures lanes { result ≡ self.now.lanes }
         ensures traces { result ≡ length (traces self.now) }
-        ensures few { result ≤ 64 }
+        ensures few { result ≤ MAX_LANES }
     {
         self.lanes
     }

@@ -9,7 +9,7 @@ use round_tally::{RoundGrant, Tallies};
 
 // The lane of a leaf. There are at most MAX_LANES lanes.
 fn lane_of(lanes: &[u8], leaf: usize) -> usize
-    ensures few { result < 64 }
+    ensures few { result < MAX_LANES }
 {
     match lanes.get(leaf) {
         Some(lane) => usize::from(*lane) % MAX_LANES,

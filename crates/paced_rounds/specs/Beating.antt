@@ -13,6 +13,7 @@ use Rattle.round_pace.specs.Rows.{rows_of}
 use Rattle.round_pace.specs.Spent.{due_for_in}
 use Rattle.round_cadence.specs.Cadences.{Beats, opens_of, add_to, settle_of}
 use Rattle.paced_rounds.specs.History.{leaves}
+use Rattle.round_pace.specs.declared.credit.TheConstants.{TICK_MICROS}
 
 -- the grants of a round are added, each to the rows of its ask
 abbrev pub add_all : Paced → List Granted → Beats → Beats
@@ -46,5 +47,5 @@ is_open way user p c now = nat_le (opens_in way user p c) (tick_of now)
 abbrev pub due_open : Way → ℕ → Paced → Beats → ℕ → Due
 due_open way user p c now =
     if nat_lt (tick_of now) (opens_in way user p c)
-    then At (min (opens_in way user p c * 2000) (2 ^ 64 - 1))
+    then At (min (opens_in way user p c * TICK_MICROS) (2 ^ 64 - 1))
     else due_for_in way user p now

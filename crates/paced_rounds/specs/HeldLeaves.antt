@@ -5,9 +5,10 @@ use Rattle.line_rates.specs.declared.ask.Ask.{Ask}
 use Rattle.line_rates.specs.declared.ask.Name.{Name}
 use Rattle.line_rates.specs.Rates.{Rates}
 use Rattle.held_names.specs.Held.{IsHeldBy}
+use Rattle.grant_ledger.specs.declared.ledger.TheConstants.{MAX_LANES}
 
 -- one name for each leaf, in their order
 abbrev pub AreHeld : Rates → ℕ → List Ask → LimitTree → List ℕ → List (Option Name) → Type 0
 AreHeld rates tick asks t g names =
-    (i : ℕ) → i < length asks → i < 64
+    (i : ℕ) → i < length asks → i < MAX_LANES
     → IsHeldBy rates tick asks t g i (slice_index_or names i None)

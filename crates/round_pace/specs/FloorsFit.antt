@@ -2,10 +2,11 @@
 use Rattle.std.specs.Prelude.{ℕ, ◌+◌, ◌%◌, ◌-◌, ◌≤◌, min, List, map, sum}
 use Rattle.line_rates.specs.declared.rate.TheConstants.{MAX_RATE}
 use Rattle.round_pace.specs.Earned.{share, begun_in, refilled}
+use Rattle.round_pace.specs.declared.credit.TheConstants.{TICKS}
 
 -- number of ticks that a round's guarantees are for: those since the ticks begun before, at most 50
 abbrev pub ticks_due : ℕ → ℕ → ℕ
-ticks_due begun tick = min (tick % 500 + 1 - begun_in begun tick) 50
+ticks_due begun tick = min (tick % TICKS + 1 - begun_in begun tick) 50
 
 -- the guarantee in the first round of a tick, in whole octets
 abbrev pub floor_in : ℕ → ℕ → ℕ → ℕ

@@ -15,6 +15,7 @@ use Rattle.round_pace.specs.Credits.{refill_row, is_dry}
 use Rattle.round_pace.specs.Earned.{tick_of, as_rate}
 use Rattle.round_pace.specs.FloorsFit.{floor_in}
 use Rattle.round_pace.specs.Paced.{Paced, group_key, pace_number, AreTheGroups, AreTheUsers}
+use Rattle.round_pace.specs.declared.credit.TheConstants.{TICK_MICROS}
 
 abbrev pub refill_group : ℕ → ℕ → GroupPace → GroupPace
 refill_group begun tick g =
@@ -113,5 +114,5 @@ abbrev pub due_in : Paced → ℕ → Due
 due_in p now =
     if nat_le p.begun (tick_of now) then Now
     else if is_dry p.server || (is_dry p.down && is_dry p.up)
-    then At (min (p.begun * 2000) (2 ^ 64 - 1))
+    then At (min (p.begun * TICK_MICROS) (2 ^ 64 - 1))
     else Now

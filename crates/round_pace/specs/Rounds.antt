@@ -2,6 +2,7 @@
 use Rattle.std.specs.Prelude.{◌≡◌, ℕ, ◌+◌, ◌-◌, ◌*◌, ◌/◌, ◌<◌, ◌≤◌, Bool, ◌&&◌, nat_eq, nat_le, nat_lt, if◌then◌else◌, List, [], ◌∷◌, map, sum_by}
 use Rattle.line_rates.specs.declared.rate.TheConstants.{MAX_RATE}
 use Rattle.round_pace.specs.Earned.{tick_of, offered, uncut, most_kept, share}
+use Rattle.round_pace.specs.declared.credit.TheConstants.{TICKS}
 
 -- a round: its real moment in microseconds, and its grants under the rate in octets
 pub record Round : Type 0 where
@@ -73,10 +74,10 @@ granted_of r = r.granted
 
 -- The grants of a second's rounds plus what is left are what was earned in the second.
 abbrev pub LosesNothing : Type 0
-LosesNothing = (rate left begun second : ℕ) (r : Round) (rs : List Round) → begun ≤ 500 * second
+LosesNothing = (rate left begun second : ℕ) (r : Round) (rs : List Round) → begun ≤ TICKS * second
     → AreRounds rate left begun (r ∷ rs) → AreIn second (r ∷ rs) → AreUncut rate left begun (r ∷ rs)
     → sum_by granted_of (r ∷ rs) + left_last rate left begun (r ∷ rs)
-    ≡ share rate (begun_last begun (r ∷ rs) - 500 * second)
+    ≡ share rate (begun_last begun (r ∷ rs) - TICKS * second)
 
 -- when a tick begins, nothing is left of the tick before it, and nothing is left at the end
 abbrev pub AreDrained : ℕ → ℕ → ℕ → List Round → Type 0
@@ -95,10 +96,10 @@ ArePrompt begun (r ∷ rs) = (tick_of r.now < begun + 49) × ArePrompt (begun_af
 abbrev pub ReachesRates : Type 0
 ReachesRates =
     (rate left begun second : ℕ) (r : Round) (rs : List Round) → rate ≤ MAX_RATE
-    → begun ≤ 500 * second
+    → begun ≤ TICKS * second
     → AreRounds rate left begun (r ∷ rs) → AreIn second (r ∷ rs)
     → AreDrained rate (left_after rate left begun r) (begun_after r) rs
-    → ArePrompt (500 * second) (r ∷ rs) → begun_last begun (r ∷ rs) ≡ 500 * second + 500
+    → ArePrompt (TICKS * second) (r ∷ rs) → begun_last begun (r ∷ rs) ≡ TICKS * second + TICKS
     → sum_by granted_of (r ∷ rs) ≡ rate
 
 -- a round under a session's rate: its real moment, its grants to the session, and its grants to all

@@ -14,6 +14,7 @@ use Rattle.round_pace.specs.Credits.{is_dry}
 use Rattle.round_pace.specs.Earned.{tick_of}
 use Rattle.round_pace.specs.Paced.{Paced, group_key, pace_number}
 use Rattle.round_pace.specs.Taken.{group_of}
+use Rattle.round_pace.specs.declared.credit.TheConstants.{TICK_MICROS}
 
 -- the credit of a way
 abbrev pub credit_of : Way → Credit → Credit → Credit
@@ -52,5 +53,5 @@ due_for_in way user p now =
     if nat_le p.begun (tick_of now) then Now
     else if is_dry p.server || is_dry (credit_of way p.down p.up) || is_user_spent way p.users user
     || is_group_spent way p.groups (group_of p.users user)
-    then At (min (p.begun * 2000) (2 ^ 64 - 1))
+    then At (min (p.begun * TICK_MICROS) (2 ^ 64 - 1))
     else Now

@@ -29,7 +29,7 @@ pub struct Credit {
 /// Earnings of a rate after `ticks` ticks of a second have begun, in whole octets.
 pub(crate) fn share(rate: u64, ticks: u64) -> u64
     requires rate { rate ≤ MAX_RATE }
-    requires ticks { ticks ≤ 500 }
+    requires ticks { ticks ≤ TICKS }
     ensures share { result ≡ share rate ticks }
 {
     ticks * rate / TICKS

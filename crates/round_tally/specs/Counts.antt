@@ -6,6 +6,7 @@ use Rattle.round_tally.specs.declared.held.HeldTally.{HeldTally}
 use Rattle.round_tally.specs.declared.tallies.LaneTally.{LaneTally}
 use Rattle.round_tally.specs.declared.tallies.RoundGrant.{RoundGrant}
 use Rattle.round_tally.specs.declared.tallies.Tallies.{Tallies}
+use Rattle.grant_ledger.specs.declared.ledger.TheConstants.{MAX_LANES}
 
 -- a sum that stays at the greatest number
 abbrev pub bounded : ℕ → ℕ → ℕ
@@ -90,7 +91,7 @@ lane_after transfer g t = tally_more g (lane_begun transfer t)
 -- each lane has the tally of the transfer at its place
 abbrev pub AreBegun : List ℕ → List LaneTally → List LaneTally → Type 0
 AreBegun transfers old new =
-    (i : ℕ) → i < 64 → slice_index_or new i (no_tally 0)
+    (i : ℕ) → i < MAX_LANES → slice_index_or new i (no_tally 0)
     ≡ lane_begun (slice_index transfers i) (slice_index_or old i (no_tally 0))
 
 -- the tally of ended transfers after that, given the lane's tally before

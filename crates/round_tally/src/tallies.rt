@@ -136,7 +136,7 @@ impl Tallies {
 
     /// A transfer of this number runs on a lane: without a grant yet, if the lane's last tally is of another.
     pub fn begin(&mut self, lane: usize, transfer: u64)
-        requires lane { lane < 64 }
+        requires lane { lane < MAX_LANES }
         requires fits { tallied self.old < 2 ^ 64 }
         ensures lanes { self.new.lanes ≡ slice_set self.old.lanes lane
             (lane_begun transfer (slice_index_or self.old.lanes lane (no_tally 0))) }
@@ -168,7 +168,7 @@ impl Tallies {
     /// Within a window, which has the length of the longest interval between two fillings, a limit is shared in bursts: who
     /// has taken all that an inner limit had is held back by that, and not by the outer ones in between.
     pub fn count(&mut self, lane: usize, transfer: u64, grant: RoundGrant)
-        requires lane { lane < 64 }
+        requires lane { lane < MAX_LANES }
         requires fits { tallied self.old + grant.octets < 2 ^ 64 }
         ensures lanes { self.new.lanes ≡ slice_set self.old.lanes lane
             (lane_after transfer grant (slice_index_or self.old.lanes lane (no_tally 0))) }
@@ -183,7 +183,7 @@ impl Tallies {
 
     /// The tally of the last transfer of a lane.
     pub fn lane(&self, lane: usize) -> LaneTally
-        requires lane { lane < 64 }
+        requires lane { lane < MAX_LANES }
         ensures tally { result ≡ slice_index_or self.now.lanes lane (no_tally 0) }
     {
         self.lanes[lane]

@@ -9,7 +9,6 @@
 //! let line = Input::Line(LineItem::Command(Command::Pwd));
 //! let reported = session.step(users, floors, store, line, 0); // at the moment 0
 //! says(rt, reported, "530 Log in first\r\n");
-//! holds(rt, !session.is_logged_in());
 //! holds(rt, !session.held_due()); // otherwise the next input is Input::Held
 //! ```
 #![tactic(auto)]

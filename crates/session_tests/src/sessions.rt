@@ -3,7 +3,7 @@
 use crate::expect::{holds, same};
 use crate::room::{PEER, Room, make_room, says, settings};
 use authorizer::Authorizer;
-use ftp_wire::{Command, LineItem, LineReader};
+use ftp_wire::{Command, LineItem};
 use memory_store::MemStore;
 use rate_floors::Floors;
 use script_session::{ControlFault, serve_config, serve_text};
@@ -45,7 +45,6 @@ fn session_core(
     let line = Input::Line(LineItem::Command(Command::Pwd));
     let reported = session.step(users, floors, store, line, 0); // at the moment 0
     says(rt, reported, "530 Log in first\r\n");
-    holds(rt, !session.is_logged_in());
     holds(rt, !session.held_due()); // otherwise the next input is Input::Held
     Ok(())
 }
@@ -85,28 +84,6 @@ fn in_room(rt: &(impl Abort + AllocGlobal), room: &mut Room) {
 fn whole_sessions(rt: HostRuntime) {
     let mut room = make_room(&rt);
     in_room(&rt, &mut room);
-}
-
-/// Returns whether somebody is logged in after these lines.
-fn is_inside(rt: &(impl Abort + AllocGlobal), room: &mut Room, text: &[u8]) -> bool {
-    let mut session = Session::new(rt.alloc(), settings(), PEER).expect(rt, "memory");
-    let mut reader = LineReader::new(rt.alloc());
-    for item in reader.feed(text).expect(rt, "memory") {
-        let (floors, store) = (&mut room.floors, &mut room.store);
-        let reported = session.step(&room.users, floors, store, Input::Line(item), 0);
-        holds(rt, reported.is_ok());
-    }
-    session.is_logged_in()
-}
-
-#[test]
-fn who_is_logged_in(rt: HostRuntime) {
-    let mut room = make_room(&rt);
-    holds(&rt, !is_inside(&rt, &mut room, b"USER ann\r\n"));
-    let login = b"USER ann\r\nPASS secret\r\nPWD\r\n";
-    holds(&rt, is_inside(&rt, &mut room, login));
-    let again = b"USER ann\r\nPASS secret\r\nREIN\r\n";
-    holds(&rt, !is_inside(&rt, &mut room, again));
 }
 
 /// A client that takes a few octets of a reply at a time.

@@ -14,6 +14,7 @@ use Rattle.transfer_worker.specs.declared.job.LaneJob.{LaneJob}
 use Rattle.transfer_worker.specs.declared.job.LaneJob.TheVariants.{Send, Take}
 use Rattle.transfer_worker.specs.declared.running.Running.{Running}
 use Rattle.transfer_worker.specs.declared.running.Running.TheVariants.{Out, In}
+use Rattle.data_pump.specs.declared.inflow.TheConstants.{MAX_READ}
 
 -- a transfer in progress
 pub data Flow (R K C : Type 0) : Type 0 where
@@ -57,7 +58,7 @@ module _ {R K C : Type 0} where
   -- can return
   abbrev pub waiting_in : Flow R K C → ℕ
   waiting_in (Sending out) = length out.flow.waiting
-  waiting_in (Receiving upload) = 65536
+  waiting_in (Receiving upload) = MAX_READ
 
   abbrev pub user_of : LaneJob R K C → ℕ
   user_of (Send user session source connection data_type) = user

@@ -20,7 +20,7 @@ const STANDSTILL: u64 = 20_000;
 
 /// Most octets of a first write that needs no options: the machine admits a first buffer of that size whatever its limits
 /// are, so the write does not wait, and nothing was sent before that it could be held back for.
-const FEW: usize = 4_096;
+pub const FIRST_WRITE: usize = 4_096;
 
 /// A socket, the last error of a call on it, and whether it was aborted.
 #[derive(Drop)]
@@ -56,10 +56,10 @@ enum Writes {
 fn needs_options(writes: Writes, count: usize) -> bool
     ensures prepared { writes ≡ Prepared → result ≡ false }
     ensures later { writes ≡ One → IsTrue result }
-    ensures first { writes ≡ Nothing → IsTrue result ↔ FEW < count }
+    ensures first { writes ≡ Nothing → IsTrue result ↔ FIRST_WRITE < count }
 {
     match writes {
-        Writes::Nothing => count > FEW,
+        Writes::Nothing => count > FIRST_WRITE,
         Writes::One => true,
         Writes::Prepared => false,
     }

@@ -19,7 +19,7 @@ mod outgoing;
 mod passive;
 mod served;
 
-pub use connection::DataConnection;
+pub use connection::{DataConnection, FIRST_WRITE};
 pub use end::TransferEnd;
 pub use name::TransferName;
 pub use outgoing::{Outgoing, Progress};

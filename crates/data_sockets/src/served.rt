@@ -53,6 +53,10 @@ impl<A: Allocator> Source for Listing<A> {
         self.at += count;
         Ok(count)
     }
+
+    fn expected(&self) -> Option<u64> {
+        Some((self.octets.as_slice().len() - self.at) as u64)
+    }
 }
 
 /// The source of a download, with a store's sources `R`.
@@ -71,6 +75,13 @@ impl<A: Allocator, R: Source> Source for Served<A, R> {
         match self {
             Served::Listing(listing) => listing.read(buffer),
             Served::File(source) => source.read(buffer),
+        }
+    }
+
+    fn expected(&self) -> Option<u64> {
+        match self {
+            Served::Listing(listing) => listing.expected(),
+            Served::File(source) => source.expected(),
         }
     }
 }

@@ -1,6 +1,6 @@
 //! Open files of the machine.
 
-ghost use Rattle.std.specs.Prelude.{◌≡◌, ◌-◌, ◌<◌, ◌≤◌, length, take, None, IfOk, IfErr, OnErr, OnOk};
+ghost use Rattle.std.specs.Prelude.{◌≡◌, ◌-◌, ◌<◌, ◌≤◌, length, take, None, Some, IfOk, IfErr, OnErr, OnOk};
 ghost use Rattle.std.specs.Io.KnownBytes.{Appends, Consumes, ReadConsumes};
 ghost use Rattle.counted_file.specs.Calls.{ReportsWrite, no_calls};
 ghost use Rattle.folder_store.specs.Ends.{ReportsRead, least};
@@ -78,6 +78,15 @@ impl<F: Read + Drop> Source for DirSource<F> {
         match self.rest {
             Rest::AtLeast(left) => self.read_more(left, buffer),
             Rest::Ended => Ok(0),
+        }
+    }
+
+    fn expected(&self) -> Option<u64>
+        ensures left { result ≡ Some self.now.left }
+    {
+        match self.rest {
+            Rest::AtLeast(left) => Some(left),
+            Rest::Ended => Some(0),
         }
     }
 }

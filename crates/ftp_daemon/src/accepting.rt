@@ -10,7 +10,8 @@ use lent_parts::PartsName;
 use passive_ports::AdmitFault;
 use recorded_store::Recorder;
 use server_house::{
-    ClientSession, House, NotServed, ServerEvent, ServerHooks, ServerRuntime, ShutdownStage,
+    ClientSession, House, NotServed, OwnRuns, ServerEvent, ServerHooks, ServerRuntime,
+    ShutdownStage,
 };
 use socket_host::serve_session;
 use std::alloc::Global;
@@ -215,15 +216,16 @@ where
 }
 
 // Serves a client to the end.
-fn serve_client<R, S, H, B>(rt: &R, house: &House<S, H, B>, session: ClientSession)
+fn serve_client<R, S, H, B, T>(rt: &R, house: &House<S, H, B>, runs: &T, session: ClientSession)
 where
     R: ServerRuntime,
     S: Store<Global> + Recorder,
     H: ServerHooks,
     B: PartsName,
+    T: OwnRuns,
 {
     if let Some(stream) = take_arrival(rt, house, session) {
-        serve_session(rt, house, stream, session);
+        serve_session(rt, house, runs, stream, session);
     }
 }
 
@@ -243,7 +245,12 @@ where
 
 /// Accepts control connections until the wanted number of sessions has begun, or the sessions are to end; then stops
 /// listening. Returns once all sessions have ended.
-pub(crate) fn accept_all<R, S, H, B>(rt: &R, house: &House<S, H, B>, listener: TcpListener)
+pub(crate) fn accept_all<R, S, H, B, T>(
+    rt: &R,
+    house: &House<S, H, B>,
+    runs: &T,
+    listener: TcpListener,
+)
 where
     R: Threads + ServerRuntime + Copy + Send + Sync,
     S: Store<Global> + Recorder + Send + Drop,
@@ -251,13 +258,14 @@ where
     S::Sink: Send,
     H: ServerHooks + Send,
     B: PartsName + Send + Sync + 'static,
+    T: OwnRuns + Sync,
 {
     thread::scope(
         thread::scope_env(),
         rt,
         |scope|
             requires { IsSync R.row × IsSend R.row × IsSend S.row × IsSend S.Source.row
-                × IsSend S.Sink.row × IsSend H.row }
+                × IsSend S.Sink.row × IsSend H.row × IsSync T.row }
         {
             let mut admitted = 0u64;
             let mut reported = None;
@@ -271,7 +279,7 @@ where
                     Some(session) => {
                         let started = Builder::new()
                             .stack_size(STACK)
-                            .spawn_scoped(scope, move || serve_client(rt, house, session));
+                            .spawn_scoped(scope, move || serve_client(rt, house, runs, session));
                         match started {
                             Ok(_) => admitted = admitted.saturating_add(1),
                             Err(_) => turn_away(rt, house, session),

@@ -2,9 +2,9 @@
 
 use crate::watching::{OwnerSigns, watch};
 use crate::works::Works;
-use lane_rounds::{RoundClock, keep_rounds, work_lane};
+use lane_rounds::{RoundClock, keep_rounds, run_here, work_lane};
 use lent_parts::PartsName;
-use server_house::{ServerHooks, ServerRuntime, ShutdownStage};
+use server_house::{OwnRuns, ServerHooks, ServerRuntime, ShutdownStage};
 use std::alloc::Global;
 use virtual_tree::Store;
 
@@ -47,12 +47,12 @@ where
     fn work(&self, lane: usize) {
         let pass = self.passes.lock(&self.rt).pop();
         match (self.lent.workers.get(lane), pass) {
-            (Some(worker), Some(pass)) => work_lane(
+            (Some(seat), Some(pass)) => work_lane(
                 &self.rt,
                 &self.house,
                 &self.lent.desk,
                 &self.lent.paced,
-                &mut *worker.lock(&self.rt),
+                seat,
                 pass,
             ),
             _ => {}
@@ -70,5 +70,21 @@ where
         self.house.ending.begin(ShutdownStage::Lanes);
         self.house.jobs.signal_all();
         self.house.waker.signal();
+    }
+}
+
+impl<R, S, H, B, P> OwnRuns for Works<R, S, H, B, P>
+where
+    R: ServerRuntime + RoundClock,
+    S: Store<Global>,
+    H: Drop,
+    B: PartsName,
+    P: OwnerSigns,
+{
+    fn run_here(&self, number: u32, user: u32) -> bool {
+        let lent = &self.lent;
+        let (desk, paced) = (&lent.desk, &lent.paced);
+        let seats = &lent.workers;
+        run_here(&self.rt, &self.house, desk, paced, seats, number, user)
     }
 }

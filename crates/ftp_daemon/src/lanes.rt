@@ -7,7 +7,7 @@ use crate::crew::Crew;
 use ftpd_program::ServeFault;
 use lent_parts::PartsName;
 use recorded_store::Recorder;
-use server_house::{House, ServerHooks, ServerRuntime};
+use server_house::{House, OwnRuns, ServerHooks, ServerRuntime};
 use std::alloc::Global;
 use std::net::TcpListener;
 use std::sync::Wait;
@@ -23,9 +23,10 @@ const STACK: usize = 262_144;
 const READY: &[u8] = b"ready\n";
 
 /// Writes `ready`, and serves clients. Returns once all sessions have ended.
-pub(crate) fn serve_clients<R, S, H, B, W>(
+pub(crate) fn serve_clients<R, S, H, B, T, W>(
     rt: &R,
     house: &House<S, H, B>,
+    runs: &T,
     listener: TcpListener,
     writer: &mut W,
 ) -> Result<(), ServeFault>
@@ -36,12 +37,13 @@ where
     S::Sink: Send,
     H: ServerHooks + Send,
     B: PartsName + Send + Sync + 'static,
+    T: OwnRuns + Sync,
     W: TextWriter,
 {
     if writer.write_text(READY).is_err() {
         return Err(ServeFault::WriteFault);
     }
-    accept_all(rt, house, listener);
+    accept_all(rt, house, runs, listener);
     Ok(())
 }
 

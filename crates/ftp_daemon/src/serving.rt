@@ -108,14 +108,14 @@ where
 {
     let rt = works.rt;
     let house = &works.house;
-    let own = &rt;
+    let (own, crew) = (&rt, &works);
     let served = run_threads(
         own,
-        &works,
+        crew,
         || -> Result<(), ServeFault>
             requires { IsSync R.row × IsSend R.row × IsSend S.row × IsSend S.Source.row
-                × IsSend S.Sink.row × IsSend H.row }
-        { serve_clients(own, house, listener, writer) },
+                × IsSend S.Sink.row × IsSend H.row × IsSync P.row × IsSend P.row }
+        { serve_clients(own, house, crew, listener, writer) },
     );
     let Works {
         rt: _,

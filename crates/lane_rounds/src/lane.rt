@@ -48,8 +48,8 @@ fn sign<R: Source, K: Sink, C: Read + Write + Drop>(sign: &LaneSign, job: &LaneJ
     sign.set_session(Some(session));
 }
 
-// Runs the transfer that waits on a ticket to its end, and reports that; nothing if it was taken back.
-fn run_transfer<'h, R, S, H, B, N>(
+/// Runs the transfer that waits on a ticket to its end, and reports that; nothing if it was taken back.
+pub(crate) fn run_transfer<'h, R, S, H, B, N>(
     rt: &R,
     house: &'h House<S, H, B>,
     desk: &LentDesk<B, N>,
@@ -83,15 +83,47 @@ where
     }
 }
 
-/// Takes transfers from the tickets whose numbers are on the board, and runs each to its end, until the lanes are to end:
-/// no session is left then. A transfer that its session wants to end is stopped before its next ask, and the lane takes
-/// the next one. The moments of the clock pass the test of the name.
-pub fn work_lane<R, S, H, B, N>(
+// Runs the transfer of the next ticket whose number is on the board. Returns whether there was a number.
+fn run_next<R, S, H, B, N>(
     rt: &R,
     house: &House<S, H, B>,
     desk: &LentDesk<B, N>,
     paced: &Mutex<TalliedRounds<B, N>>,
     worker: &mut LentWorker<B, N>,
+    pass: &mut LentPass<B, u32>,
+) -> bool
+where
+    R: Wait + Clock + RoundClock + AllocGlobal,
+    S: Store<Global>,
+    H: Drop,
+    B: PartsName,
+    requires clock { IsTestOf R.when B.when }
+    requires free { (seat_view worker.old.seat).state ≡ Free }
+{
+    match house.board.pop(rt, pass) {
+        Some(number) => {
+            match (&*house).tickets.get(number as usize) {
+                Some(ticket) => run_transfer(rt, &*house, desk, paced, worker, ticket),
+                None => {}
+            }
+            true
+        }
+        None => false,
+    }
+}
+
+/// Takes transfers from the tickets whose numbers are on the board, and runs each to its end, until the lanes are to end:
+/// no session is left then. A transfer that its session wants to end is stopped before its next ask, and the lane takes
+/// the next one. The lock of the lane's seat is free between two transfers, so that a session may use it ([`run_here`]).
+/// The moments of the clock pass the test of the name.
+///
+/// [`run_here`]: crate::run_here
+pub fn work_lane<R, S, H, B, N>(
+    rt: &R,
+    house: &House<S, H, B>,
+    desk: &LentDesk<B, N>,
+    paced: &Mutex<TalliedRounds<B, N>>,
+    seat: &Mutex<LentWorker<B, N>>,
     mut pass: LentPass<B, u32>,
 )
 where
@@ -102,21 +134,18 @@ where
     requires clock { IsTestOf R.when B.when }
 {
     for _ in rt.forever() {
+        let seen = house.jobs.seen();
+        let mut worker = seat.lock(rt);
         if !worker.is_free() {
             return;
         }
-        let seen = house.jobs.seen();
-        match house.board.pop(rt, &mut pass) {
-            Some(number) => match (&*house).tickets.get(number as usize) {
-                Some(ticket) => run_transfer(rt, &*house, desk, paced, worker, ticket),
-                None => {}
-            },
-            None => {
-                if house.ending.has_begun(ShutdownStage::Lanes) {
-                    return;
-                }
-                house.jobs.wait(rt, seen, Duration::from_millis(IDLE));
+        let has_run = run_next(rt, house, desk, paced, &mut *worker, &mut pass);
+        drop(worker);
+        if !has_run {
+            if house.ending.has_begun(ShutdownStage::Lanes) {
+                return;
             }
+            house.jobs.wait(rt, seen, Duration::from_millis(IDLE));
         }
     }
     unreachable!()

@@ -4,6 +4,7 @@
 //! tries the lock of the [`TalliedRounds`] and holds a round itself, for all lanes that have asked and whose transfers'
 //! rows are open; nobody waits for that lock. If another thread has the lock, that thread looks at the `waker` after it
 //! has released the lock, and the lane looks again a tick later, so no ask is missed.
+//! A session may run a short download itself, at the seat of a lane that runs none ([`run_here`]).
 //! [`keep_rounds`] is the fallback: it holds a round when no lane does. The pace says when a round may be held and what
 //! it may grant. The moments of rounds are read from a [`RoundClock`]. The rounds tally what they grant to each transfer,
 //! and what holds it back in them, for a [`look`].
@@ -16,6 +17,7 @@ mod gate;
 mod keeper;
 mod lane;
 mod looking;
+mod own_run;
 mod paced;
 mod rounds;
 
@@ -23,4 +25,5 @@ pub use clock::RoundClock;
 pub use keeper::keep_rounds;
 pub use lane::work_lane;
 pub use looking::{RoundLook, look};
+pub use own_run::run_here;
 pub use paced::TalliedRounds;

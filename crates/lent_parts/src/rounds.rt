@@ -13,7 +13,7 @@ ghost use Rattle.round_pace.specs.Histories.{rates_of, after};
 ghost use Rattle.round_pace.specs.Offered.{offer_round};
 ghost use Rattle.paced_rounds.specs.History.{round_at, history, ended_in, stretch_under};
 ghost use Rattle.paced_rounds.specs.HeldLeaves.{AreHeld};
-ghost use Rattle.paced_rounds.specs.Beating.{is_open, due_open};
+ghost use Rattle.paced_rounds.specs.Beating.{has_plenty, is_open, due_open};
 ghost use Rattle.paced_rounds.specs.Seconds.{AreAt, AreAllowed, HasKept};
 
 use crate::desk::LentDesk;
@@ -62,6 +62,15 @@ impl<B: PartsName, N> LentRounds<B, N> {
         ensures open { result ≡ is_open way user self.now.rounds.pace self.now.rounds.cadence now }
     {
         self.rounds.is_open(way, user, now)
+    }
+
+    /// Returns whether a transfer of a user would be granted all that it asks for in a round at a moment in microseconds,
+    /// as `PacedRounds::has_plenty`.
+    pub fn has_plenty(&self, way: Way, user: u32, now: u64) -> bool
+        ensures plenty { result
+            ≡ has_plenty way user self.now.rounds.pace self.now.rounds.cadence now }
+    {
+        self.rounds.has_plenty(way, user, now)
     }
 
     /// The earliest moment of the next round for a transfer of a user.

@@ -96,6 +96,10 @@ impl<A: Allocator> Source for MemSource<A> {
         self.at += count;
         Ok(count)
     }
+
+    fn expected(&self) -> Option<u64> {
+        Some((self.octets.as_slice().len() - self.at) as u64)
+    }
 }
 
 impl<A: Allocator> Sink for MemSink<A> {

@@ -1,5 +1,5 @@
 -- The beats of rows after rounds, and the moments of rounds by them.
-use Rattle.std.specs.Prelude.{ℕ, ◌*◌, ◌-◌, ◌^◌, min, Bool, nat_lt, nat_le, if◌then◌else◌, List, [], ◌∷◌, Result, Ok, Err}
+use Rattle.std.specs.Prelude.{ℕ, ◌*◌, ◌-◌, ◌^◌, min, Bool, ◌&&◌, nat_lt, nat_le, if◌then◌else◌, List, [], ◌∷◌, Result, Ok, Err}
 use Rattle.line_rates.specs.declared.ask.Ask.{Ask}
 use Rattle.line_rates.specs.declared.ask.Way.{Way}
 use Rattle.line_rates.specs.Granted.{Granted}
@@ -9,11 +9,12 @@ use Rattle.round_pace.specs.declared.due.Due.{Due}
 use Rattle.round_pace.specs.declared.due.Due.TheVariants.{At}
 use Rattle.round_pace.specs.Earned.{tick_of}
 use Rattle.round_pace.specs.Paced.{Paced}
-use Rattle.round_pace.specs.Rows.{rows_of}
+use Rattle.round_pace.specs.Rows.{have_left, rows_of}
 use Rattle.round_pace.specs.Spent.{due_for_in}
 use Rattle.round_cadence.specs.Cadences.{Beats, opens_of, add_to, settle_of}
 use Rattle.paced_rounds.specs.History.{leaves}
 use Rattle.round_pace.specs.declared.credit.TheConstants.{TICK_MICROS}
+use Rattle.paced_rounds.specs.declared.rounds.TheConstants.{MOST_ASKED}
 
 -- the grants of a round are added, each to the rows of its ask
 abbrev pub add_all : Paced → List Granted → Beats → Beats
@@ -41,6 +42,11 @@ opens_in way user p c = opens_of way user (rows_of way user p) c
 -- all rows that a user's transfer is within are open at a moment
 abbrev pub is_open : Way → ℕ → Paced → Beats → ℕ → Bool
 is_open way user p c now = nat_le (opens_in way user p c) (tick_of now)
+
+-- they are, and each has enough left for all that a round can be asked for
+abbrev pub has_plenty : Way → ℕ → Paced → Beats → ℕ → Bool
+has_plenty way user p c now =
+    is_open way user p c now && have_left (rows_of way user p) MOST_ASKED
 
 -- The earliest moment of the next round for a user's transfer: that at which its rows open; if they
 -- are open, that of the pace.

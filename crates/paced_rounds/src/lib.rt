@@ -18,4 +18,4 @@ mod rounds;
 
 pub use held::HeldNames;
 pub use laws::seconds_are_kept;
-pub use rounds::PacedRounds;
+pub use rounds::{MOST_ASKED, PacedRounds};

@@ -15,7 +15,7 @@ ghost use Rattle.round_pace.specs.Histories.{rates_of, after};
 ghost use Rattle.round_pace.specs.Stretches.{StretchesKeep};
 ghost use Rattle.paced_rounds.specs.History.{round_at, history, ended_in, stretch_under, stretches, octets_in, IsRun};
 ghost use Rattle.paced_rounds.specs.HeldLeaves.{AreHeld};
-ghost use Rattle.paced_rounds.specs.Beating.{beats_after, is_open, due_open};
+ghost use Rattle.paced_rounds.specs.Beating.{beats_after, has_plenty, is_open, due_open};
 
 use crate::beats::beat;
 use crate::charge::charge;
@@ -27,6 +27,9 @@ use proof_log::ProofLog;
 use round_cadence::Cadence;
 use round_pace::{Due, Pace, TICK_MICROS, histories_keep_rates, stretches_keep_rates};
 use std::alloc::{AllocError, Allocator, Global};
+
+/// Most octets that the asks of a round want together: each of 64 lanes at most a buffer of 65,536.
+pub const MOST_ASKED: u64 = 4_194_304;
 
 /// The rounds of a desk with their pace. The log has the moment of each round since the last change of rates, and the
 /// asks that it answered with their grants; the other log has each stretch before, between two changes. They cannot be
@@ -87,6 +90,15 @@ impl<N, A: Allocator> PacedRounds<N, A> {
     {
         let rows = self.pace.rows_of(way, user);
         self.cadence.opens(way, user, &rows) <= now / TICK_MICROS
+    }
+
+    /// Returns whether a transfer of a user would be granted all that it asks for in a round at a moment in microseconds,
+    /// whatever others ask for: its rows are open, and each has [`MOST_ASKED`] octets left.
+    pub fn has_plenty(&self, way: Way, user: u32, now: u64) -> bool
+        ensures plenty { result ≡ has_plenty way user self.now.pace self.now.cadence now }
+    {
+        let rows = self.pace.rows_of(way, user);
+        self.cadence.opens(way, user, &rows) <= now / TICK_MICROS && rows.have_left(MOST_ASKED)
     }
 
     /// The earliest moment of the next round for a transfer of a user: that at which its rows open; if they are open,

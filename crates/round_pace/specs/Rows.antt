@@ -1,5 +1,5 @@
 -- The rows of a transfer: the credits of the rates that it is within.
-use Rattle.std.specs.Prelude.{ℕ, Bool, false, ◌||◌, not, nat_eq, List, Option, Some, None}
+use Rattle.std.specs.Prelude.{ℕ, Bool, false, ◌&&◌, ◌||◌, not, nat_eq, nat_le, List, Option, Some, None}
 use Rattle.std.specs.FinMap as finite
 use Rattle.line_rates.specs.declared.ask.Way.{Way}
 use Rattle.line_rates.specs.declared.ask.Way.TheVariants.{Down, Up}
@@ -65,3 +65,13 @@ rows_of way user p = record {
   group_number = group_of p.users user;
   is_timed = is_timed way p.users user;
 }
+
+-- a rate has at least this number of octets left; 0 is no limit
+abbrev pub has_left : Credit → ℕ → Bool
+has_left c octets = nat_eq c.rate 0 || nat_le octets c.left
+
+-- each rate has, and none is that of a session
+abbrev pub have_left : TransferRows → ℕ → Bool
+have_left r octets =
+    not r.is_timed && has_left r.server octets && has_left r.way octets
+    && has_left r.group octets && has_left r.user octets

@@ -3,7 +3,7 @@
 ghost use Rattle.std.specs.Prelude.{◌≡◌};
 ghost use Rattle.line_rates.specs.Stated.{IsRising};
 ghost use Rattle.round_pace.specs.Paced.{group_key, pace_number, no_credit};
-ghost use Rattle.round_pace.specs.Rows.{floor_of, user_credit, session_credit, group_credit, is_timed};
+ghost use Rattle.round_pace.specs.Rows.{floor_of, user_credit, session_credit, group_credit, has_left, have_left, is_timed};
 
 use crate::credit::Credit;
 use crate::paced::{GroupPace, UserPace, credit_of, find_group, find_user, session_of};
@@ -26,6 +26,27 @@ pub struct TransferRows {
     /// True if each session of the user has a rate or a guarantee of this direction: sessions have their rate's credit in
     /// common, and a guarantee is earned from one round to the next and not kept.
     pub is_timed: bool,
+}
+
+// Returns whether a rate has at least this number of octets left; 0 is no limit.
+fn has_left(credit: Credit, octets: u64) -> bool
+    ensures left { result ≡ has_left credit octets }
+{
+    credit.rate == 0 || octets <= credit.left
+}
+
+impl TransferRows {
+    /// Returns whether each of the rates has at least this number of octets left, and no rate or guarantee is that of a
+    /// session: if all asks of a round want no more than that together, the transfer is granted all that it asks for.
+    pub fn have_left(&self, octets: u64) -> bool
+        ensures left { result ≡ have_left self.now octets }
+    {
+        !self.is_timed
+            && has_left(self.server, octets)
+            && has_left(self.way, octets)
+            && has_left(self.group, octets)
+            && has_left(self.user, octets)
+    }
 }
 
 // The credit of a name without a rate.

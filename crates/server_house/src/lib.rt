@@ -12,6 +12,7 @@ mod ending;
 mod house;
 mod lane;
 mod own_address;
+mod own_runs;
 mod runtime;
 mod server_hooks;
 mod terms;
@@ -23,6 +24,7 @@ pub use ending::{ServerShutdown, ShutdownStage, stages_stay_begun};
 pub use house::{House, copy_settings};
 pub use lane::LaneSign;
 pub use own_address::OwnAddress;
+pub use own_runs::OwnRuns;
 pub use runtime::ServerRuntime;
 pub use server_hooks::{
     BegunTransfer, ClientSession, LaneLook, NotServed, ServerEvent, ServerHooks, ServerLook,

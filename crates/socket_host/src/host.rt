@@ -31,7 +31,7 @@ use line_rates::Limits;
 use rate_floors::Floors;
 use recorded_store::{Recorder, StoreRecord};
 use server_house::{
-    BegunTransfer, ClientSession, EndCause, HeldTerms, House, ServerHooks, ServerRuntime,
+    BegunTransfer, ClientSession, EndCause, HeldTerms, House, OwnRuns, ServerHooks, ServerRuntime,
     SessionEvent, SessionRefusal, ShutdownStage, StoreNote, TransferKind, TransferRecord,
     copy_settings,
 };
@@ -198,13 +198,13 @@ pub struct SessionNeeds {
 }
 
 /// The host of the session of one control connection. It cannot be dropped: its data side leaves its ticket.
-pub struct SocketHost<'h, R, S: Store<Global>, H: Drop, B: PartsName> {
+pub struct SocketHost<'h, R, S: Store<Global>, H: Drop, B: PartsName, T> {
     rt: &'h R,
     house: &'h House<S, H, B>,
     // the user, and the terms whose users are lent to each step
     standing: Standing,
     socket: ControlSocket,
-    side: SocketSide<'h, R, S, H, B>,
+    side: SocketSide<'h, R, S, H, B, T>,
     // the session, as the owner's handler knows it
     own: ClientSession,
     waits: Waits,
@@ -218,12 +218,13 @@ pub struct SocketHost<'h, R, S: Store<Global>, H: Drop, B: PartsName> {
     no_floors: Floors,
 }
 
-impl<'h, R, S, H, B> SocketHost<'h, R, S, H, B>
+impl<'h, R, S, H, B, T> SocketHost<'h, R, S, H, B, T>
 where
     R: ServerRuntime,
     S: Store<Global> + Recorder,
     H: ServerHooks,
     B: PartsName,
+    T: OwnRuns,
 {
     /// The host of this session, over its connection and with this data side, which holds these terms. The floors are
     /// those of nobody.
@@ -231,7 +232,7 @@ where
         rt: &'h R,
         house: &'h House<S, H, B>,
         socket: ControlSocket,
-        side: SocketSide<'h, R, S, H, B>,
+        side: SocketSide<'h, R, S, H, B, T>,
         own: ClientSession,
         needs: SessionNeeds,
     ) -> Self
@@ -552,12 +553,13 @@ where
     }
 }
 
-impl<'h, R, S, H, B> Host<Global> for SocketHost<'h, R, S, H, B>
+impl<'h, R, S, H, B, T> Host<Global> for SocketHost<'h, R, S, H, B, T>
 where
     R: ServerRuntime,
     S: Store<Global> + Recorder,
     H: ServerHooks,
     B: PartsName,
+    T: OwnRuns,
 {
     type Store = S;
 

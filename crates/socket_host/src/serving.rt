@@ -10,7 +10,8 @@ use control_session::{Host, run_control};
 use lent_parts::PartsName;
 use recorded_store::Recorder;
 use server_house::{
-    ClientSession, House, LaneEnds, ServerHooks, ServerRuntime, SessionEnd, SessionJob, SharedTerms,
+    ClientSession, House, LaneEnds, OwnRuns, ServerHooks, ServerRuntime, SessionEnd, SessionJob,
+    SharedTerms,
 };
 use session_table::Settings;
 use socket_side::SocketSide;
@@ -41,12 +42,13 @@ pub(crate) trait SessionHost: Host<Global> {
     fn leave_client(self, buffer: &mut [u8]);
 }
 
-impl<'h, R, S, H, B> SessionHost for SocketHost<'h, R, S, H, B>
+impl<'h, R, S, H, B, T> SessionHost for SocketHost<'h, R, S, H, B, T>
 where
     R: ServerRuntime,
     S: Store<Global> + Recorder,
     H: ServerHooks,
     B: PartsName,
+    T: OwnRuns,
 {
     fn settings(&self) -> Result<Settings, AllocError> {
         self.copy_settings()
@@ -105,9 +107,10 @@ fn needs_of<R: Wait + AllocGlobal>(rt: &R, terms: &SharedTerms) -> Option<Sessio
 }
 
 // Runs a session at its ticket, closes its connection, and leaves the ticket.
-fn run_at<'h, R, S, H, B>(
+fn run_at<'h, R, S, H, B, T>(
     rt: &'h R,
     house: &'h House<S, H, B>,
+    runs: &'h T,
     stream: TcpStream,
     own: ClientSession,
     owner: TicketOwner<'h, SessionJob<S>, SessionEnd<S>, LaneEnds>,
@@ -118,10 +121,11 @@ where
     S: Store<Global> + Recorder,
     H: ServerHooks,
     B: PartsName,
+    T: OwnRuns,
     requires idle { owner_view owner ≡ Idle }
 {
     let wanted = wanted_peer(&needs.held.terms().settings, own.peer);
-    let side = SocketSide::new(rt, house, wanted, session_number(own.number), owner);
+    let side = SocketSide::new(rt, house, runs, wanted, session_number(own.number), owner);
     let socket = ControlSocket::new(stream);
     let host = SocketHost::new(rt, house, socket, side, own, needs);
     run_whole(&rt.alloc(), host, own.peer);
@@ -129,19 +133,26 @@ where
 
 // Runs a session and closes its connection. Nobody else sits at its ticket, since the session before left it before it
 // left the registry.
-fn run_client<R, S, H, B>(rt: &R, house: &House<S, H, B>, stream: TcpStream, own: ClientSession)
+fn run_client<R, S, H, B, T>(
+    rt: &R,
+    house: &House<S, H, B>,
+    runs: &T,
+    stream: TcpStream,
+    own: ClientSession,
+)
 where
     R: ServerRuntime,
     S: Store<Global> + Recorder,
     H: ServerHooks,
     B: PartsName,
+    T: OwnRuns,
 {
     let Some(needs) = needs_of(rt, &house.terms) else {
         return;
     };
     match house.tickets.get(own.number) {
         Some(ticket) => match TicketOwner::sit(ticket) {
-            Ok(owner) => run_at(rt, house, stream, own, owner, needs),
+            Ok(owner) => run_at(rt, house, runs, stream, own, owner, needs),
             Err(_) => {}
         },
         None => {}
@@ -151,9 +162,10 @@ where
 /// Serves a session from the greeting to the end of its control connection, whose number is its key in the registry.
 /// However the session ends, its transfers have ended and its floor is released. The connection leaves the registry
 /// last, once its socket is closed, so that the registry bounds threads and sockets.
-pub fn serve_session<R, S, H, B>(
+pub fn serve_session<R, S, H, B, T>(
     rt: &R,
     house: &House<S, H, B>,
+    runs: &T,
     stream: TcpStream,
     own: ClientSession,
 )
@@ -162,7 +174,8 @@ where
     S: Store<Global> + Recorder,
     H: ServerHooks,
     B: PartsName,
+    T: OwnRuns,
 {
-    run_client(rt, house, stream, own);
+    run_client(rt, house, runs, stream, own);
     house.registry.lock(rt).leave(own.number);
 }

@@ -1,10 +1,12 @@
 -- The job of a transfer, as its lane has it.
-use Rattle.std.specs.Prelude.{ℕ, Bool, true, false, Option, Some, None}
+use Rattle.std.specs.Prelude.{◌≡◌, ℕ, ◌/◌, Bool, true, false, nat_le, List, length, Option, Some, None}
 use Rattle.std.specs.declared.alloc.Global.{Global}
 use Rattle.data_sockets.specs.declared.connection.DataConnection.{DataConnection}
+use Rattle.data_sockets.specs.declared.connection.TheConstants.{FIRST_WRITE}
 use Rattle.data_sockets.specs.declared.served.Served.{Served}
 use Rattle.data_sockets.specs.declared.served.Served.TheVariants.{Listing, File}
-use Rattle.ftp_terms.specs.declared.data_type.DataType.TheVariants.{Image}
+use Rattle.ftp_terms.specs.declared.data_type.DataType.{DataType}
+use Rattle.ftp_terms.specs.declared.data_type.DataType.TheVariants.{Ascii, Image}
 use Rattle.session_table.specs.declared.actions.Job.{Job}
 use Rattle.session_table.specs.declared.actions.Job.TheVariants.{Text, SendFile, TakeFile}
 use Rattle.transfer_worker.specs.declared.job.LaneJob.{LaneJob}
@@ -15,6 +17,20 @@ abbrev pub is_upload : {R K : Type 0} → Job Global R K → Bool
 is_upload (Text octets) = false
 is_upload (SendFile source data_type) = false
 is_upload (TakeFile sink data_type) = true
+
+-- the octets that are expected are written with the first write; under TYPE A each may be two
+abbrev pub fits_first_write : Option ℕ → DataType → Bool
+fits_first_write None data_type = false
+fits_first_write (Some count) Image = nat_le count FIRST_WRITE
+fits_first_write (Some count) Ascii = nat_le count (FIRST_WRITE / 2)
+
+-- whether a download is brief: a listing by its length, and a file only if what is known of it fits
+abbrev pub IsBrief : {R K : Type 0} → (R → Option (List ℕ)) → Job Global R K → Bool → Type 0
+IsBrief remaining (Text octets) brief = brief ≡ nat_le (length octets) FIRST_WRITE
+IsBrief remaining (SendFile source data_type) brief =
+    (octets : List ℕ) → brief ≡ true → remaining source ≡ Some octets
+    → fits_first_write (Some (length octets)) data_type ≡ true
+IsBrief remaining (TakeFile sink data_type) brief = brief ≡ false
 
 -- the sink of an upload, which the session gets back
 abbrev pub sink_in : {R K : Type 0} → Job Global R K → Option K

@@ -1,10 +1,10 @@
 //! Prepared and running transfers.
 
 ghost use Rattle.std.specs.Prelude.{◌≡◌};
-ghost use Rattle.socket_side.specs.Jobs.{is_upload, lane_job, sink_of};
+ghost use Rattle.socket_side.specs.Jobs.{IsBrief, fits_first_write, is_upload, lane_job, sink_of};
 ghost use Rattle.socket_side.specs.Running.{over, taken_back};
 
-use data_sockets::{DataConnection, Listing, Outgoing, Served, TransferEnd};
+use data_sockets::{DataConnection, FIRST_WRITE, Listing, Outgoing, Served, TransferEnd};
 use ftp_terms::DataType;
 use ftp_wire::HostPort;
 use session_table::{End, Job};
@@ -67,6 +67,28 @@ pub(crate) fn is_upload<R, K>(job: &Job<Global, R, K>) -> bool
     ensures upload { result ≡ is_upload job.now }
 {
     matches!(job, Job::TakeFile(_, _))
+}
+
+// Returns whether the octets that are expected are written with the first write. Under TYPE A each may be two.
+fn fits_first_write(expected: Option<u64>, data_type: DataType) -> bool
+    ensures fits { result ≡ fits_first_write expected data_type }
+{
+    match (expected, data_type) {
+        (None, _) => false,
+        (Some(count), DataType::Image) => count <= FIRST_WRITE as u64,
+        (Some(count), DataType::Ascii) => count <= FIRST_WRITE as u64 / 2,
+    }
+}
+
+/// Returns whether a download is brief: it is expected to be over with its first write, for which nobody waits.
+pub(crate) fn is_brief<R: Source, K>(job: &Job<Global, R, K>) -> bool
+    ensures brief { IsBrief R.remaining job.now result }
+{
+    match job {
+        Job::Text(octets) => octets.as_slice().len() <= FIRST_WRITE,
+        Job::SendFile(source, data_type) => fits_first_write(source.expected(), *data_type),
+        Job::TakeFile(_, _) => false,
+    }
 }
 
 /// The job for a lane. A listing is sent as it is.

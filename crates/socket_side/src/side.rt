@@ -12,13 +12,13 @@ ghost use Rattle.transfer_ticket.specs.declared.view.TicketView.TheVariants.{Idl
 
 use crate::ports::SharedPorts;
 use crate::run::{SessionRun, Taken};
-use crate::running::{Prepared, Running, is_upload, lane_job, over};
+use crate::running::{Prepared, Running, is_brief, is_upload, lane_job, over};
 use data_sockets::{DataConnection, Outgoing, Progress, TransferEnd, accept_from, socket_address};
 use event_word::{has_passed, micros};
 use ftp_wire::HostPort;
 use lent_parts::PartsName;
 use passive_ports::{MOST_TRIES, open_passive};
-use server_house::{EndCause, House, LaneEnds, ServerRuntime, SessionEnd, SessionJob};
+use server_house::{EndCause, House, LaneEnds, OwnRuns, ServerRuntime, SessionEnd, SessionJob};
 use session_core::DataEvent;
 use session_table::{End, Job};
 use std::alloc::Global;
@@ -93,9 +93,11 @@ fn event_of<K: Drop>(end: Option<TransferEnd<K>>) -> Option<DataEvent<K>>
 }
 
 /// The data side of the session of one control connection. It cannot be dropped: it leaves its ticket.
-pub struct SocketSide<'h, R, S: Store<Global>, H: Drop, B: PartsName> {
+pub struct SocketSide<'h, R, S: Store<Global>, H: Drop, B: PartsName, T> {
     rt: &'h R,
     house: &'h House<S, H, B>,
+    // runs brief downloads here
+    runs: &'h T,
     // the peer whose data connections are accepted; none for any
     wanted: Option<[u8; 4]>,
     // the number of its ticket, and its right to that
@@ -112,18 +114,20 @@ pub struct SocketSide<'h, R, S: Store<Global>, H: Drop, B: PartsName> {
     port_fault: Option<io::Error>,
 }
 
-impl<'h, R, S, H, B> SocketSide<'h, R, S, H, B>
+impl<'h, R, S, H, B, T> SocketSide<'h, R, S, H, B, T>
 where
     R: ServerRuntime,
     S: Store<Global>,
     H: Drop,
     B: PartsName,
+    T: OwnRuns,
 {
     /// The data side of the session with this number, at its ticket, with nothing prepared and nothing running. It accepts
     /// connections of the wanted peer, or of any if none is given.
     pub fn new(
         rt: &'h R,
         house: &'h House<S, H, B>,
+        runs: &'h T,
         wanted: Option<[u8; 4]>,
         session: u32,
         owner: TicketOwner<'h, SessionJob<S>, SessionEnd<S>, LaneEnds>,
@@ -136,6 +140,7 @@ where
         SocketSide {
             rt,
             house,
+            runs,
             wanted,
             session,
             run: SessionRun::new(owner),
@@ -263,7 +268,7 @@ where
         self.run.running = over(End::NoMemory, job);
     }
 
-    // Puts a transfer on the ticket.
+    // Puts a transfer on the ticket. A brief download is run here, if it can be; the lanes run any other.
     fn put(
         &mut self,
         own: DataConnection,
@@ -277,8 +282,12 @@ where
         ensures ready { self.new.ready ≡ self.old.ready }
         ensures cause { self.new.cause ≡ self.old.cause }
     {
+        let is_brief = is_brief(&job);
         let job = lane_job(job, theirs, user, self.session);
         if self.run.put(own, job) {
+            if is_brief && self.runs.run_here(self.session, user) {
+                return;
+            }
             self.list();
         }
         self.house.jobs.signal_one();
@@ -587,6 +596,7 @@ where
         let SocketSide {
             rt: _,
             house: _,
+            runs: _,
             wanted: _,
             session: _,
             run,

@@ -1,6 +1,6 @@
 //! The trait of all stores.
 
-ghost use Rattle.std.specs.Prelude.{◌≡◌, ◌≢◌, ◌<◌, ◌≤◌, ◌^◌, length, ℕ, List, Option, Some, Result, IfOk, IfErr, OnOk, OnErr};
+ghost use Rattle.std.specs.Prelude.{◌≡◌, ◌≢◌, ◌<◌, ◌≤◌, ◌^◌, length, ℕ, List, Option, Some, Result, IfOk, IfErr, IfSome, OnOk, OnErr};
 ghost use Rattle.std.specs.Cmp.Lexicographic.{slice_cmp};
 ghost use Rattle.std.specs.Io.KnownBytes.{ReadConsumes, Appends};
 ghost use Rattle.std.specs.List.Sorted.{IsStrictlySortedBy};
@@ -30,6 +30,15 @@ pub trait Source: Drop {
         ensures bound { IfOk result (λ count. count ≤ length buffer.new) }
         ensures octets { ReadConsumes (remaining self.old) (remaining self.new) result buffer.new }
         ensures refusal { IfErr result (IsEndFault (remaining self.old)) };
+
+    /// Number of octets that are expected: of a file, those that it had when it was opened and that are still to be read.
+    /// `None` if nothing is known of it. A file may have more or fewer by now.
+    fn expected(&self) -> Option<u64>
+        ensures known { IfSome (remaining self.now)
+            (λ octets. IfSome result (λ count. count ≡ length octets)) }
+    {
+        None
+    }
 }
 
 /// Writes a file. A store's `finish` takes it.

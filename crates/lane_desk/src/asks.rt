@@ -18,6 +18,7 @@ pub(crate) struct Asks {
 impl Model for Asks {
     ghost use Rattle.std.specs.Prelude.{◌≤◌, take};
     ghost use Rattle.lane_desk.specs.Collected.{AsksView};
+    ghost use Rattle.grant_ledger.specs.declared.ledger.TheConstants.{MAX_LANES};
 
     ghost Value = { AsksView };
 

@@ -1,6 +1,7 @@
 //! The desk: a word and a slot for each lane.
 
 ghost use Rattle.std.specs.Prelude.{◌≡◌, ◌<◌, ◌≤◌};
+ghost use Rattle.grant_ledger.specs.declared.ledger.TheConstants.{MAX_LANES};
 
 use atomic_table::{Shared, Table};
 use desk_rule::{DeskRule, DeskView, LaneSlot};

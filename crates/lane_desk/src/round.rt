@@ -1,6 +1,7 @@
 //! The round's seat: collect and post.
 
 ghost use Rattle.std.specs.Prelude.{◌≡◌, ◌+◌, ◌-◌, ◌<◌, ◌≤◌, [], true, length, slice_set, slice_index_or, IfSome, IfNone};
+ghost use Rattle.grant_ledger.specs.declared.ledger.TheConstants.{MAX_LANES};
 ghost use Rattle.desk_rule.specs.Lanes.{untraced, has_missed, has_collected, has_posted, posted_in, most};
 ghost use Rattle.lane_desk.specs.Held.{stack, KnowsDesk, is_due};
 

@@ -464,7 +464,7 @@ where
     }
 
     // Reports the refusals among the actions of a step.
-    fn report_refusals<T, K>(&mut self, actions: &[Action<Global, T, K>]) {
+    fn report_refusals<F, K>(&mut self, actions: &[Action<Global, F, K>]) {
         for action in actions {
             if let Some(why) = refusal_of(action) {
                 self.report(SessionEvent::Refused(why));

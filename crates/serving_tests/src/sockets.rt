@@ -77,7 +77,9 @@ where
     let mut buffer = [0u8; 8];
     holds(rt, near.read(&mut buffer).ok() == Some(3));
     holds(rt, near.write(b"late").ok() == Some(4));
+    holds(rt, other.peek(&mut buffer) == 4 && other.peek(&mut buffer[..3]) == 3); // they stay to be read
     other.abort();
+    holds(rt, other.peek(&mut buffer) == 0);
     // octets that came before and were not read are not read any more
     holds(rt, connection.read(&mut buffer).ok() == Some(0));
     holds(rt, other.fault().is_none());

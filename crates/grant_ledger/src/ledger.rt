@@ -36,6 +36,7 @@ pub struct Book<N = Plain> {
 impl<N> Model for Book<N> {
     ghost use Rattle.std.specs.Prelude.{◌≡◌, ◌≤◌, IfNone};
     ghost use Rattle.grant_ledger.specs.Books.{BookView, nothing_undrawn};
+    ghost use Rattle.grant_ledger.specs.declared.ledger.TheConstants.{MAX_ISSUED};
 
     ghost Value = { BookView };
 

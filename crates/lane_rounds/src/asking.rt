@@ -1,8 +1,8 @@
-//! What an upload asks a round for.
+//! The octets that an upload asks a round for.
 //!
-//! What a transfer is granted and does not move is lost to the others under its rates until the next earnings. So an
-//! upload looks how much has come before it asks, and asks for that. One whose last read was of all that a read can
-//! return does not look: more is likely there, and a look costs a copy of the octets.
+//! A transfer that is granted octets and does not move them takes them from the others under its rates, until these have
+//! earned them again. So an upload looks how much has come before it asks, and asks for that. One whose last read was of
+//! all that a read can return does not look: more is likely there, and a look costs a copy of the octets.
 
 ghost use Rattle.std.specs.Prelude.{◌≡◌, Some};
 ghost use Rattle.lane_rounds.specs.Gates.{is_to_look, left_after, want_of};
@@ -48,7 +48,8 @@ fn is_to_look(come: Option<u64>) -> bool
     }
 }
 
-/// What an upload asks for, if these octets are known to be there: at least one, by which the end of the stream is read.
+/// The number of octets that an upload asks for, if this many are known to be there: at least one, by which the end of the
+/// stream is read.
 pub(crate) fn want_of(come: Option<u64>) -> u64
     ensures want { result ≡ want_of come }
     ensures bounds { IsUploadWant result }
@@ -93,8 +94,8 @@ impl UploadLooks {
         true
     }
 
-    /// What the upload asks for. If it looks, this waits until octets have come, or for the end of the stream. Without
-    /// memory for a look it asks for as many octets as one read can return.
+    /// The number of octets that the upload asks for. If it looks, this waits until octets have come, or for the end of the
+    /// stream. Without memory for a look it asks for as many as one read can return.
     pub(crate) fn want(&mut self, alloc: Global) -> u64
         ensures bounds { IsUploadWant result }
     {

@@ -78,7 +78,7 @@ pub(crate) struct LaneGate<
     dribbles: u8,
     // the looks of an upload, if there is memory for them
     upload: Option<UploadLooks>,
-    // what an upload asks for
+    // the number of octets that an upload asks for
     want: u64,
     ghost wants: { IsUploadWant want },
     ghost clock: { IsTestOf R.when B.when },

@@ -107,9 +107,9 @@ module _ {R K C : Type 0} where
   WantsAt may_want (BeforeAsk laters) flow = Unit {0}
   WantsAt may_want (AfterAsk before ask between laters) flow = MayWant may_want flow ask.want
 
-  -- In a turn, the worker asks for the octets that wait, or for what the gate chooses for an upload,
-  -- and those taken are pumped. If there is more, those that wait then are topped up for the next
-  -- ask.
+  -- In a turn, the worker asks for the octets that wait, or for what the gate chooses for an
+  -- upload, and those taken are pumped. If there is more, those that wait then are topped up for
+  -- the next ask.
   pub record IsTurn (k : Known R K C) (may_want : ℕ → Type 0) (flow : Flow R K C) (t : Turn)
       (next : Flow R K C) : Type 0 where
     pub more : last_in flow ≡ More

@@ -1,4 +1,5 @@
 """How a rate is divided over time: rows of `tools/serving`, each with servers of its own."""
+import os
 import select
 import socket
 import time
@@ -10,6 +11,9 @@ SEGMENTS_IN = 152
 MUCH = 24_000_000
 # No machine takes so long for what has no rate.
 SOON = 15
+LINE = 1_000_000
+# The octets that an upload sends at a time, and the seconds between two times: 100,000 a second.
+PIECE, PAUSE = 1_400, 0.014
 
 
 def started(server, count):
@@ -71,6 +75,64 @@ def segments_are_whole():
             it.close()
 
 
+def stored(server):
+    """The octets of all uploads so far."""
+    return sum(os.path.getsize(f"{server.folder}/{name}") for name in os.listdir(server.folder) if name.startswith("up"))
+
+
+def sent_until(uploads, data, seconds):
+    """Reads a download for so many seconds, while each upload sends 1,400 octets each 14 ms. Returns how many octets came, and the seconds."""
+    begun, sent, had = time.monotonic(), 0, 0
+    while (took := time.monotonic() - begun) < seconds:
+        if sent * PAUSE <= took:
+            for it in uploads:
+                it.socket.send(bytes(PIECE))
+            sent += 1
+        if select.select([data.socket], [], [], PAUSE / 4)[0]:
+            had += len(data.recv(65_536))
+    return had, took
+
+
+def uploads_that_dribble_take_what_they_send():
+    """A download beside five uploads of 100,000 octets a second each, under a million: what they do not send is the download's."""
+    with Server(sessions=6, root="folder", files={"big": MUCH}, server=f"rate = {LINE}\nlanes = 6", passive=16) as server:
+        clients = [Client(server) for _ in range(6)]
+        data, *uploads = [client.passive() for client in clients]
+        clients[0].says("RETR big", "150 Opening data connection")
+        for number, client in enumerate(clients[1:]):
+            client.says(f"STOR up{number}", "150 Opening data connection")
+        sent_until(uploads, data, 1)
+        parts = []
+        # (a machine that is busy with other things holds some rounds late)
+        while len(parts) < 6 and not any(it > 0.9 for it in parts):
+            before = stored(server)
+            had, took = sent_until(uploads, data, 1.5)
+            parts.append(had / (LINE * took - stored(server) + before))
+        want(parts[-1] > 0.9, f"parts of what five uploads leave of a rate: {parts}")
+        for it in [data, *uploads, *clients]:
+            it.close()
+
+
+def an_upload_under_a_rate_loses_nothing():
+    """A lone upload under four million octets a second, whose client sends as fast as it can."""
+    with Server(root="folder", server=f"rate = {4 * LINE}\nlanes = 2") as server:
+        client = Client(server)
+        data = client.passive()
+        client.says("STOR up", "150 Opening data connection")
+        parts, had, last = [], 0, time.monotonic()
+        # (the first second has what was earned before)
+        while len(parts) < 7 and not any(it > 0.97 for it in parts[1:]):
+            data.socket.send(bytes(65_536))
+            took = time.monotonic() - last
+            if took > 1:
+                now = stored(server)
+                parts.append((now - had) / (4 * LINE * took))
+                had, last = now, last + took
+        want(parts[-1] > 0.97, f"parts of the rate, second by second: {parts}")
+        for it in (data, client):
+            it.close()
+
+
 def an_upload_at_a_low_rate_is_aborted():
     """ABOR, and the server's stop, end an upload although much has come that its rate has not let it read."""
     with Server(sessions=2, root="folder", server="rate = 1000\nlanes = 2", stop=True) as server:
@@ -119,6 +181,8 @@ ROWS = [
     three_transfers_under_a_hundred,
     a_low_rate_is_divided_evenly,
     segments_are_whole,
+    uploads_that_dribble_take_what_they_send,
+    an_upload_under_a_rate_loses_nothing,
     an_upload_at_a_low_rate_is_aborted,
     an_abort_at_a_rate_that_is_used_up,
 ]

@@ -1,6 +1,6 @@
 //! A data connection that a lane moves octets on, and that its session may shut down.
 
-ghost use Rattle.std.specs.Prelude.{◌≡◌, ◌<◌, ◌↔◌, IfOk, IsTrue, false};
+ghost use Rattle.std.specs.Prelude.{◌≡◌, ◌<◌, ◌≤◌, ◌↔◌, IfOk, IsTrue, OnErr, false, length};
 ghost use Rattle.data_sockets.specs.Sockets.{socket_of};
 ghost use Rattle.data_sockets.specs.declared.connection.Writes.TheVariants.{Nothing, One, Prepared};
 
@@ -8,7 +8,7 @@ use counted_file::CountedFile;
 use last_fault::{fault_of, fault_word};
 use std::alloc::{AllocError, Global};
 use std::io;
-use std::io::{Read, Write};
+use std::io::{ErrorKind, Read, Write};
 use std::net::{Shutdown, TcpStream};
 use std::sync::Arc;
 use std::sync::atomic::{AtomicU64, Ordering};
@@ -65,6 +65,17 @@ fn needs_options(writes: Writes, count: usize) -> bool
     }
 }
 
+// The number of octets that a look found; none if it failed.
+fn found(answer: io::Result<usize>) -> usize
+    ensures count { IfOk answer (λ count. result ≡ count) }
+    ensures none { OnErr answer (result ≡ 0) }
+{
+    match answer {
+        Ok(count) => count,
+        Err(_) => 0,
+    }
+}
+
 impl DataConnection {
     /// The first handle of a socket.
     pub fn new(alloc: Global, stream: TcpStream) -> Result<DataConnection, AllocError>
@@ -93,7 +104,7 @@ impl DataConnection {
         })
     }
 
-    /// The last error of a read or write by any handle, if there was one.
+    /// The last error of a read, a write or a look by any handle, if there was one.
     pub fn fault(&self) -> Option<io::Error> {
         fault_of(self.socket.fault.load(Ordering::SeqCst))
     }
@@ -126,6 +137,36 @@ impl DataConnection {
         }
     }
 
+    // Returns whether it was aborted.
+    fn is_aborted(&self) -> bool {
+        self.socket.aborted.load(Ordering::SeqCst) != 0
+    }
+
+    // One look at what has come.
+    fn peek_once(&self, buffer: &mut [u8]) -> io::Result<usize>
+        ensures most { IfOk result (λ count. count ≤ length buffer.new) }
+    {
+        self.socket.stream.peek(buffer)
+    }
+
+    /// Waits until octets have come that are not read yet, and returns how many, at most as many as there is room for
+    /// in the buffer. They stay to be read. 0 at the end, after an abort, or after an error, which the next read returns:
+    /// the machine reports an error once, to whichever call comes first. A look that was interrupted is made again.
+    pub fn peek(&self, buffer: &mut [u8]) -> usize
+        ensures most { result ≤ length buffer.new }
+    {
+        for _ in 0..u64::MAX {
+            if self.is_aborted() {
+                return 0;
+            }
+            match self.peek_once(buffer) {
+                Err(error) if error.kind() == ErrorKind::Interrupted => {}
+                answer => return found(self.noted(answer)),
+            }
+        }
+        0
+    }
+
     /// Shuts the socket down in both directions; calls that wait on it return, and nothing is read from it any more: a
     /// shutdown leaves what the machine has received and nobody has read (shutdown(2)), and an upload at a low rate would
     /// read that for minutes.
@@ -137,8 +178,11 @@ impl DataConnection {
 
 impl Read for DataConnection {
     fn read(&mut self, buffer: &mut [u8]) -> io::Result<usize> {
-        if self.socket.aborted.load(Ordering::SeqCst) != 0 {
+        if self.is_aborted() {
             return Ok(0);
+        }
+        if let Some(error) = self.fault() {
+            return Err(error); // that of a look: nothing more is read after an error
         }
         let stream: &TcpStream = &self.socket.stream;
         let answer = CountedFile::new(stream).read(buffer);

@@ -1,5 +1,7 @@
 -- A lane's gate: its answers, and the knowledge of the lane that runs a transfer.
-use Rattle.std.specs.Prelude.{ℕ, ◌+◌, min, nat_le, nat_lt, Bool, true, false, ◌&&◌, ◌||◌, not, if◌then◌else◌}
+use Rattle.std.specs.Prelude.{ℕ, ◌+◌, ◌-◌, max, min, nat_le, nat_lt, Bool, true, false, ◌&&◌, ◌||◌, not, if◌then◌else◌, Option, None, Some}
+use Rattle.data_pump.specs.declared.inflow.TheConstants.{MAX_READ}
+use Rattle.lane_rounds.specs.declared.asking.TheConstants.{FEW}
 use Rattle.line_rates.specs.declared.ask.Way.{Way}
 use Rattle.line_rates.specs.declared.ask.Way.TheVariants.{Down, Up}
 use Rattle.round_cadence.specs.declared.intervals.TheConstants.{WORTH, WORTH_UP}
@@ -24,6 +26,23 @@ dribbles_after dribbles is_free octets =
     if not is_free || nat_le WORTH octets then 0
     else if nat_lt octets WORTH_UP then min (dribbles + 1) 255
     else dribbles
+
+-- The octets of an upload that are known to be there, after a read of this many. After a read of as
+-- many as one can return they are not counted: more is likely there.
+abbrev pub left_after : Option ℕ → ℕ → Option ℕ
+left_after None octets = if nat_le MAX_READ octets then None else Some 0
+left_after (Some come) octets = if nat_le MAX_READ octets then None else Some (come - octets)
+
+-- it looks before it asks, if they are few
+abbrev pub is_to_look : Option ℕ → Bool
+is_to_look None = false
+is_to_look (Some come) = nat_lt come FEW
+
+-- It asks for them, and for an octet at least; if they are not counted, for as many as one read can
+-- return.
+abbrev pub want_of : Option ℕ → ℕ
+want_of None = MAX_READ
+want_of (Some come) = max (min come MAX_READ) 1
 
 module _ {R K C : Type 0} where
   -- the direction, the user and the session of a transfer

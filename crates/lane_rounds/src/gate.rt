@@ -5,7 +5,9 @@ ghost use Rattle.lane_rounds.specs.Clocks.{IsTestOf};
 ghost use Rattle.lane_rounds.specs.Gates.{answer, dribbles_after, has_seen, runs_upload};
 ghost use Rattle.transfer_ticket.specs.Tickets.{is_runner};
 ghost use Rattle.transfer_ticket.specs.Views.{run_view};
+ghost use Rattle.transfer_worker.specs.Transfers.{IsUploadWant};
 
+use crate::asking::{UploadLooks, want_of};
 use crate::clock::RoundClock;
 use crate::ends::{report_of, reported_of};
 use crate::paced::TalliedRounds;
@@ -74,6 +76,11 @@ pub(crate) struct LaneGate<
     asked_at: Option<u64>,
     // the number of small reads since the last of `WORTH` octets
     dribbles: u8,
+    // the looks of an upload, if there is memory for them
+    upload: Option<UploadLooks>,
+    // the number of octets that an upload asks for
+    want: u64,
+    ghost wants: { IsUploadWant want },
     ghost clock: { IsTestOf R.when B.when },
     ghost runs: { is_runner (run_view run) ≡ true },
     ghost way: { runs_upload (run_view run) ≡ is_upload },
@@ -116,7 +123,14 @@ where
             seen: 0,
             asked_at: None,
             dribbles: 0,
+            upload: None,
+            want: want_of(None),
         }
+    }
+
+    /// Lets an upload look before it asks.
+    pub(crate) fn set_looks(&mut self, looks: Option<UploadLooks>) {
+        self.upload = looks;
     }
 
     // Returns whether the session wants the transfer to end.
@@ -137,6 +151,13 @@ where
         }
     }
 
+    // The answer at this moment.
+    fn answer_now(&mut self, is_before_ask: bool) -> Go {
+        let is_to_stop = self.looks();
+        let is_starved = self.is_starved();
+        answer(is_before_ask, is_to_stop, is_starved)
+    }
+
     /// Reports the end of the transfer, which has moved this many octets. A gate that was told of no end reports that it
     /// was not begun.
     pub(crate) fn report(self, moved: u64) {
@@ -155,7 +176,10 @@ where
             seen: _,
             asked_at: _,
             dribbles: _,
+            upload,
+            want: _,
         } = self;
+        drop(upload); // the connection is closed first
         let (end, sink) = match ended {
             Some(ended) => ended,
             None => (End::NoMemory, None),
@@ -163,14 +187,24 @@ where
         run.report(report_of(end, sink, is_upload, has_stopped, moved));
     }
 
+    // Takes account of a read of this many octets, after a grant that was all that was asked for or not.
+    fn account(&mut self, is_whole: bool, octets: u64)
+        ensures last { self.new.last ≡ self.old.last }
+    {
+        self.dribbles = dribbles_after(self.dribbles, self.is_upload && is_whole, octets);
+        if let Some(upload) = &mut self.upload {
+            upload.account(octets);
+        }
+    }
+
     // Before an ask. If the last one was granted nothing, the rates have nothing left, and this waits a moment; and so
-    // for an upload whose client sends little, though no rate holds it back.
+    // for an upload whose client sends little, though no rate holds it back. Then an upload looks how much has come, which
+    // waits for the client.
     fn begin(&mut self, sign: &LaneSign, moved: u64) {
         self.seen = sign.answered.seen();
         sign.set_moved(moved);
         if let Some(before) = self.asked_at {
-            let is_free = self.is_upload && sign.is_whole();
-            self.dribbles = dribbles_after(self.dribbles, is_free, moved.saturating_sub(before));
+            self.account(sign.is_whole(), moved.saturating_sub(before));
         }
         if self.asked_at == Some(moved) {
             thread::sleep(self.rt, Duration::from_micros(PAUSE));
@@ -178,6 +212,9 @@ where
             thread::sleep(self.rt, Duration::from_micros(GATHER));
         }
         self.asked_at = Some(moved);
+        if let Some(upload) = &mut self.upload {
+            self.want = upload.want(self.rt.alloc());
+        }
     }
 
     // Waits until a round has answered the ask, or holds one. It may return before.
@@ -258,15 +295,20 @@ where
 
     ghost passed = { λ _. None };
 
+    ghost may_want = { IsUploadWant };
+
     fn pass(&mut self, _session: u32, moved: u64) -> Go {
         let is_before_ask = mem::replace(&mut self.is_before_ask, false);
-        let is_to_stop = self.looks();
-        let is_starved = self.is_starved();
-        self.last = answer(is_before_ask, is_to_stop, is_starved);
+        self.last = self.answer_now(is_before_ask);
         if self.last == Go::On {
             self.wait(is_before_ask, moved);
+            self.last = self.answer_now(is_before_ask);
         }
         self.last
+    }
+
+    fn upload_want(&self) -> u64 {
+        self.want
     }
 
     fn ask_is_next(&mut self) {

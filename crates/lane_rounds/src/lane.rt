@@ -7,9 +7,11 @@ ghost use Rattle.lane_rounds.specs.Clocks.{IsTestOf};
 ghost use Rattle.lane_rounds.specs.Gates.{signed};
 ghost use Rattle.server_house.specs.Tickets.{is_upload};
 
+use crate::asking::UploadLooks;
 use crate::clock::RoundClock;
 use crate::gate::LaneGate;
 use crate::paced::TalliedRounds;
+use data_sockets::DataConnection;
 use lent_parts::{LentDesk, LentPass, LentWorker, PartsName};
 use line_rates::Way;
 use server_house::{House, LaneSign, SessionTicket, ShutdownStage};
@@ -29,6 +31,17 @@ fn is_upload<R: Source, K: Sink, C: Read + Write + Drop>(job: &LaneJob<R, K, C>)
     ensures upload { result ≡ is_upload job.now }
 {
     matches!(job, LaneJob::Take { .. })
+}
+
+// The looks of an upload, if there is memory for them.
+fn looks_of<R: Source, K: Sink>(
+    alloc: Global,
+    job: &LaneJob<R, K, DataConnection>,
+) -> Option<UploadLooks> {
+    match job {
+        LaneJob::Send { .. } => None,
+        LaneJob::Take { connection, .. } => UploadLooks::new(alloc, connection),
+    }
 }
 
 // The direction, the user and the session of a transfer.
@@ -74,6 +87,7 @@ where
         None => {}
     }
     let mut gate = LaneGate::new(rt, house, desk, paced, lane, run, is_upload(&job));
+    gate.set_looks(looks_of(rt.alloc(), &job));
     let before = worker.moved();
     worker.work(rt, rt.alloc(), desk, job, &mut gate);
     gate.report(worker.moved().saturating_sub(before));

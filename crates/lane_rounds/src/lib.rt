@@ -10,6 +10,7 @@
 //! and what holds it back in them, for a [`look`].
 #![tactic(auto)]
 
+mod asking;
 mod clock;
 mod counting;
 mod ends;

@@ -85,8 +85,8 @@ impl<B: PartsName, N> LentWorker<B, N> {
         requires state { (seat_view self.old.seat).state ≡ Free }
         ensures same { IsSameSeat self.old.seat self.new.seat }
         ensures free { result ≡ false → (seat_view self.new.seat).state ≡ Free }
-        ensures run { RunsJob (known R.remaining K.collected K.target C.remaining C.contents) job
-            result
+        ensures run { RunsJob (known R.remaining K.collected K.target C.remaining C.contents)
+            G.may_want job result
             (worker (seat_view self.old.seat) self.old.tally (G.heard gate.old) (G.passed gate.old))
             (worker (seat_view self.new.seat) self.new.tally (G.heard gate.new)
             (G.passed gate.new)) }

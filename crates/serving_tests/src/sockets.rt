@@ -77,7 +77,12 @@ where
     let mut buffer = [0u8; 8];
     holds(rt, near.read(&mut buffer).ok() == Some(3));
     holds(rt, near.write(b"late").ok() == Some(4));
+    holds(
+        rt,
+        other.peek(&mut buffer) == 4 && other.peek(&mut buffer[..3]) == 3,
+    ); // they stay to be read
     other.abort();
+    holds(rt, other.peek(&mut buffer) == 0);
     // octets that came before and were not read are not read any more
     holds(rt, connection.read(&mut buffer).ok() == Some(0));
     holds(rt, other.fault().is_none());
@@ -85,10 +90,26 @@ where
     holds(rt, other.fault().is_some()); // each handle has the error
 }
 
+// A peer that closes its end with octets unread resets the connection. A look meets the error, and the read returns it.
+fn look_at_a_reset<R>(rt: &R, listener: &TcpListener)
+where
+    R: Abort + AllocGlobal + Net<Listener = TcpListener, Stream = TcpStream>,
+{
+    let (near, far) = connected(rt, listener).expect(rt, "a connection");
+    let mut connection = DataConnection::new(rt.alloc(), far).expect(rt, "memory");
+    holds(rt, connection.write(b"abc").ok() == Some(3));
+    drop(near);
+    let mut buffer = [0u8; 8];
+    let other = connection.another().expect(rt, "memory");
+    holds(rt, other.peek(&mut buffer) == 0);
+    holds(rt, connection.read(&mut buffer).is_err());
+}
+
 #[test]
 fn octets_go_over_the_loopback(rt: HostRuntime) {
     let listener = listen(&rt, socket_address(LOOPBACK, 0)).expect(&rt, "a port");
     talk(&rt, &listener);
+    look_at_a_reset(&rt, &listener);
     let at = socket_address(LOOPBACK, 21);
     holds(&rt, at.port() == 21 && address_octets(at) == LOOPBACK);
 }

@@ -33,10 +33,10 @@ module _ {R K C : Type 0} where
   flat_one : {A : Type 0} (f : (Work R K C) → List A) (ws : List (Work R K C)) (w : (Work R K C)) → flat_map f (ws ++ w ∷ []) ≡ flat_map f ws ++ f w
   flat_one {A = A} f ws w = flat_map-append f ws (w ∷ []) ∙ ap (λ (l : List A). flat_map f ws ++ l) (append-nil (f w))
 
-  module _ (k : Known R K C) where
-    pub none_done : (h : Hand (LaneJob R K C)) (v : WorkerView) → Did k [] h h v v
+  module _ (k : Known R K C) (may_want : ℕ → Type 0) where
+    pub none_done : (h : Hand (LaneJob R K C)) (v : WorkerView) → Did k may_want [] h h v v
     none_done h v = record {
-      each = All-nil (IsWork k);
+      each = All-nil (IsWork k may_want);
       popped = sym (append-nil h.popped);
       pushed = refl;
       sittings_are = sym (append-nil v.lane.sittings);
@@ -45,10 +45,10 @@ module _ {R K C : Type 0} where
     }
 
     -- one job more
-    pub more_done : (works : List (Work R K C)) (job : (Work R K C)) (h g g' : Hand (LaneJob R K C)) (v u w : WorkerView) → Did k works h g v u → g' ≡ hand g.pushed (g.popped ++ job.job ∷ []) → Does k job u w
-        → Did k (works ++ job ∷ []) h g' v w
+    pub more_done : (works : List (Work R K C)) (job : (Work R K C)) (h g g' : Hand (LaneJob R K C)) (v u w : WorkerView) → Did k may_want works h g v u → g' ≡ hand g.pushed (g.popped ++ job.job ∷ []) → Does k may_want job u w
+        → Did k may_want (works ++ job ∷ []) h g' v w
     more_done works job h g g' v u w d pop does = record {
-      each = All-push (IsWork k) works job d.each does.is_work;
+      each = All-push (IsWork k may_want) works job d.each does.is_work;
       popped = ap (λ (q : Hand (LaneJob R K C)). q.popped) pop ∙ ap (λ (l : List (LaneJob R K C)). l ++ job.job ∷ []) d.popped ∙ append_assoc h.popped (map (λ (j : (Work R K C)). j.job) works) (job.job ∷ [])
           ∙ ap (λ (l : List (LaneJob R K C)). h.popped ++ l) (sym (map-append (λ (j : (Work R K C)). j.job) works (job ∷ [])));
       pushed = ap (λ (q : Hand (LaneJob R K C)). q.pushed) pop ∙ d.pushed;
@@ -71,7 +71,7 @@ module _ {R K C : Type 0} where
     }
 
     -- a job that was opened
-    pub opened : (job : LaneJob R K C) (flow : Flow R K C) (stop : Bool) (v w : WorkerView) → way_in flow ≡ way_of job → Opens k job flow → RunsTransfer k (user_of job) (session_of job) flow stop v w → RunsJob k job stop v w
+    pub opened : (job : LaneJob R K C) (flow : Flow R K C) (stop : Bool) (v w : WorkerView) → way_in flow ≡ way_of job → Opens k job flow → RunsTransfer k may_want (user_of job) (session_of job) flow stop v w → RunsJob k may_want job stop v w
     opened job flow stop v w way opens r = (
       record { job = job; opening = Some flow; turns = r.turns; halt = r.halt; end = r.end },
       refl,
@@ -88,7 +88,7 @@ module _ {R K C : Type 0} where
     )
 
     -- a job that was not
-    pub unopened : (job : LaneJob R K C) (end : JobEnd) (v w : WorkerView) → (end ≡ ReadFault) ⊎ (end ≡ Memory) → w.lane ≡ v.lane → w.tally ≡ v.tally → w.passed ≡ v.passed → Reports v.heard w.heard (session_of job) end → RunsJob k job false v w
+    pub unopened : (job : LaneJob R K C) (end : JobEnd) (v w : WorkerView) → (end ≡ ReadFault) ⊎ (end ≡ Memory) → w.lane ≡ v.lane → w.tally ≡ v.tally → w.passed ≡ v.passed → Reports v.heard w.heard (session_of job) end → RunsJob k may_want job false v w
     unopened job end v w fault lane tally passed reports = (
       record { job = job; opening = None; turns = []; halt = None; end = end },
       refl,

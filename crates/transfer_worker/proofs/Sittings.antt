@@ -78,14 +78,15 @@ module _ {R K C : Type 0} (k : Known R K C) where
   topped_last (Receiving old) (Sending new) p = absurd p
   topped_last (Receiving old) (Receiving new) p = ap (λ (u : InView C K). u.last) p
 
-  turn_way : (flow next : Flow R K C) (t : Turn) → IsTurn k flow t next → way_in next ≡ way_in flow
-  turn_way flow next t turn = go t.pumped.end refl ∙ pumps_way t.octets flow turn.pumped t.pumped turn.pumps
+module _ {R K C : Type 0} (k : Known R K C) (may_want : ℕ → Type 0) where
+  turn_way : (flow next : Flow R K C) (t : Turn) → IsTurn k may_want flow t next → way_in next ≡ way_in flow
+  turn_way flow next t turn = go t.pumped.end refl ∙ pumps_way k t.octets flow turn.pumped t.pumped turn.pumps
     where
       over : t.pumped.end ≢ pump.More → way_in next ≡ way_in turn.pumped
       over not = ap way_in (turn.ends not)
 
       go : (end : PumpEnd) → t.pumped.end ≡ end → way_in next ≡ way_in turn.pumped
-      go pump.More e = topped_way turn.pumped next (turn.tops e)
+      go pump.More e = topped_way k turn.pumped next (turn.tops e)
       go pump.Ended e = over (λ f. absurd (clash (sym e ∙ f)))
         where
           clash : pump.Ended ≡ pump.More → ⊥
@@ -103,14 +104,14 @@ module _ {R K C : Type 0} (k : Known R K C) where
           clash : pump.Memory ≡ pump.More → ⊥
           clash f = cc
 
-  turns_push : (start flow next : Flow R K C) (turns : List Turn) (t : Turn) → AreTurns k start turns flow → IsTurn k flow t next → AreTurns k start (turns ++ t ∷ []) next
-  turns_push start flow next [] t are turn = (next, subst (λ (f : Flow R K C). IsTurn k f t next) are turn, refl)
+  turns_push : (start flow next : Flow R K C) (turns : List Turn) (t : Turn) → AreTurns k may_want start turns flow → IsTurn k may_want flow t next → AreTurns k may_want start (turns ++ t ∷ []) next
+  turns_push start flow next [] t are turn = (next, subst (λ (f : Flow R K C). IsTurn k may_want f t next) are turn, refl)
   turns_push start flow next (u ∷ turns) t are turn = (are.0, are.1, turns_push are.0 flow next turns t are.2 turn)
 
   -- a sitting so far: its turns lead from the transfer as it was opened to what it is now
   pub record Sits (user session : ℕ) (start : Flow R K C) (v : WorkerView) (now : Flow R K C) (moved : ℕ) (w : WorkerView) : Type 0 where
     pub turns : List Turn
-    pub are_turns : AreTurns k start turns now
+    pub are_turns : AreTurns k may_want start turns now
     pub way_is : way_in now ≡ way_in start
     pub bear : All (Bears user session (way_in start)) (map (λ t. t.ask) turns)
     pub moved_is : moved ≡ counted 0 (moves_of turns)
@@ -129,7 +130,7 @@ module _ {R K C : Type 0} (k : Known R K C) where
   }
 
   module _ (user session : ℕ) (start : Flow R K C) (v : WorkerView) where
-    pub turn_more : (now next : Flow R K C) (moved : ℕ) (w z : WorkerView) (t : Turn) → Sits user session start v now moved w → IsTurn k now t next → Bears user session (way_in now) t.ask
+    pub turn_more : (now next : Flow R K C) (moved : ℕ) (w z : WorkerView) (t : Turn) → Sits user session start v now moved w → IsTurn k may_want now t next → Bears user session (way_in now) t.ask
         → z.lane.sittings ≡ w.lane.sittings → Adds (t.ask ∷ []) (t.octets ∷ []) (length t.between) (t.pumped.moved ∷ []) (calls_in session moved t) w z
         → Sits user session start v next (capped moved t.pumped.moved) z
     turn_more now next moved w z t s turn bears sittings adds =
@@ -158,7 +159,7 @@ module _ {R K C : Type 0} (k : Known R K C) where
     pub ended : (now : Flow R K C) (moved : ℕ) (w z : WorkerView) (end : JobEnd) → Sits user session start v now moved w → end_of (last_in now) ≡ Some end
         → z.lane.sittings ≡ w.lane.sittings → z.lane.asks ≡ w.lane.asks → z.lane.taken ≡ w.lane.taken → z.lane.looks ≡ w.lane.looks → z.tally.moved ≡ w.tally.moved → z.passed ≡ w.passed
         → Reports v.heard z.heard session end
-        → RunsTransfer k user session start false v z
+        → RunsTransfer k may_want user session start false v z
     ended now moved w z end s is sittings asks taken looks tally passed reports = record {
       end = end;
       turns = s.turns;
@@ -179,12 +180,12 @@ module _ {R K C : Type 0} (k : Known R K C) where
     }
 
     -- a sitting that was stopped between two pumps
-    pub stopped : (now : Flow R K C) (moved : ℕ) (w z : WorkerView) (halt : Halt) → Sits user session start v now moved w → EndsAt now (Some halt) Stopped
+    pub stopped : (now : Flow R K C) (moved : ℕ) (w z : WorkerView) (halt : Halt) → Sits user session start v now moved w → EndsAt may_want now (Some halt) Stopped
         → All (Bears user session (way_in now)) (asks_at (Some halt))
         → z.lane.sittings ≡ w.lane.sittings
         → Adds (asks_at (Some halt)) [] (looks_at (Some halt)) [] (calls_at session moved (Some halt)) w z
         → Reports v.heard z.heard session Stopped
-        → RunsTransfer k user session start true v z
+        → RunsTransfer k may_want user session start true v z
     stopped now moved w z halt s ends bears sittings adds reports = record {
       end = Stopped;
       turns = s.turns;

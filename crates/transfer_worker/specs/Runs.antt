@@ -12,7 +12,7 @@ use Rattle.transfer_worker.specs.declared.end.JobEnd.TheVariants.{Stopped}
 use Rattle.transfer_worker.specs.declared.gate.Go.TheVariants.{On, Stop}
 use Rattle.transfer_worker.specs.Ends.{end_of}
 use Rattle.transfer_worker.specs.Passes.{PassCall, Passes, calls_until, leaves}
-use Rattle.transfer_worker.specs.Transfers.{Flow, Known, last_in, waiting_in, Pumps, ToppedUp}
+use Rattle.transfer_worker.specs.Transfers.{Flow, Known, last_in, MayWant, Pumps, ToppedUp}
 
 -- a worker as contracts see it: its lane, its tally, and the records of its gate
 pub record WorkerView : Type 0 where
@@ -101,31 +101,32 @@ pub record Adds (asks : List Ask) (taken : List ℕ) (looks : ℕ) (moves : List
 abbrev pub Bears : ℕ → ℕ → Way → Ask → Type 0
 Bears user session way ask = (ask.user ≡ user) × (ask.session ≡ session) × (ask.way ≡ way)
 
--- the open ask wants all octets that wait
-abbrev pub WantsAt : Halt → ℕ → Type 0
-WantsAt (BeforeAsk laters) waiting = Unit {0}
-WantsAt (AfterAsk before ask between laters) waiting = ask.want ≡ waiting
-
 module _ {R K C : Type 0} where
-  -- In a turn, the worker asks for the octets that wait, and those taken are pumped. If there is
-  -- more, those that wait then are topped up for the next ask.
-  pub record IsTurn (k : Known R K C) (flow : Flow R K C) (t : Turn)
+  -- the open ask is for what the transfer may ask for
+  abbrev pub WantsAt : (ℕ → Type 0) → Halt → Flow R K C → Type 0
+  WantsAt may_want (BeforeAsk laters) flow = Unit {0}
+  WantsAt may_want (AfterAsk before ask between laters) flow = MayWant may_want flow ask.want
+
+  -- In a turn, the worker asks for the octets that wait, or for what the gate chooses for an
+  -- upload, and those taken are pumped. If there is more, those that wait then are topped up for
+  -- the next ask.
+  pub record IsTurn (k : Known R K C) (may_want : ℕ → Type 0) (flow : Flow R K C) (t : Turn)
       (next : Flow R K C) : Type 0 where
     pub more : last_in flow ≡ More
-    pub want : t.ask.want ≡ waiting_in flow
+    pub want : MayWant may_want flow t.ask.want
     pub pumped : Flow R K C
     pub pumps : Pumps k t.octets flow pumped t.pumped
     pub tops : t.pumped.end ≡ More → ToppedUp k pumped next
     pub ends : t.pumped.end ≢ More → next ≡ pumped
 
   -- the turns lead from one state of the transfer to the other
-  abbrev pub AreTurns : Known R K C → Flow R K C → List Turn → Flow R K C → Type 0
-  AreTurns k flow [] end = end ≡ flow
-  AreTurns k flow (t ∷ turns) end =
-      (next : Flow R K C) × IsTurn k flow t next × AreTurns k next turns end
+  abbrev pub AreTurns : Known R K C → (ℕ → Type 0) → Flow R K C → List Turn → Flow R K C → Type 0
+  AreTurns k may_want flow [] end = end ≡ flow
+  AreTurns k may_want flow (t ∷ turns) end =
+      (next : Flow R K C) × IsTurn k may_want flow t next × AreTurns k may_want next turns end
 
   -- a transfer ends with its last pump, or is stopped between two pumps
-  abbrev pub EndsAt : Flow R K C → Option Halt → JobEnd → Type 0
-  EndsAt flow None end = end_of (last_in flow) ≡ Some end
-  EndsAt flow (Some halt) end =
-      (end ≡ Stopped) × (last_in flow ≡ More) × WantsAt halt (waiting_in flow)
+  abbrev pub EndsAt : (ℕ → Type 0) → Flow R K C → Option Halt → JobEnd → Type 0
+  EndsAt may_want flow None end = end_of (last_in flow) ≡ Some end
+  EndsAt may_want flow (Some halt) end =
+      (end ≡ Stopped) × (last_in flow ≡ More) × WantsAt may_want halt flow

@@ -1,5 +1,5 @@
 -- Jobs, and transfers in progress, as contracts see them.
-use Rattle.std.specs.Prelude.{◌≡◌, ◌⊎◌, ◌<◌, ℕ, List, [], length, Option, Some}
+use Rattle.std.specs.Prelude.{◌≡◌, ◌⊎◌, ◌<◌, ◌≤◌, ℕ, List, [], length, Option, Some}
 use Rattle.ftp_terms.specs.declared.data_type.DataType.{DataType}
 use Rattle.line_rates.specs.declared.ask.Way.{Way}
 use Rattle.line_rates.specs.declared.ask.Way.TheVariants.{Down, Up}
@@ -15,6 +15,10 @@ use Rattle.transfer_worker.specs.declared.job.LaneJob.TheVariants.{Send, Take}
 use Rattle.transfer_worker.specs.declared.running.Running.{Running}
 use Rattle.transfer_worker.specs.declared.running.Running.TheVariants.{Out, In}
 use Rattle.data_pump.specs.declared.inflow.TheConstants.{MAX_READ}
+
+-- an upload asks for an octet at least, and for at most as many as one read can return
+abbrev pub IsUploadWant : ℕ → Type 0
+IsUploadWant want = (0 < want) × (want ≤ MAX_READ)
 
 -- a transfer in progress
 pub data Flow (R K C : Type 0) : Type 0 where
@@ -54,11 +58,11 @@ module _ {R K C : Type 0} where
   last_in (Sending out) = out.last
   last_in (Receiving upload) = upload.last
 
-  -- the octets that wait: those of a download to be written; for an upload, the most that one read
-  -- can return
-  abbrev pub waiting_in : Flow R K C → ℕ
-  waiting_in (Sending out) = length out.flow.waiting
-  waiting_in (Receiving upload) = MAX_READ
+  -- the transfer may ask for this many octets: a download for all that wait to be written, an
+  -- upload for what its gate may choose
+  abbrev pub MayWant : (ℕ → Type 0) → Flow R K C → ℕ → Type 0
+  MayWant may_want (Sending out) want = want ≡ length out.flow.waiting
+  MayWant may_want (Receiving upload) want = IsUploadWant want × may_want want
 
   abbrev pub user_of : LaneJob R K C → ℕ
   user_of (Send user session source connection data_type) = user

@@ -42,15 +42,15 @@ IsStop true end = end ≡ Stopped
 IsStop false end = end ≢ Stopped
 
 -- A transfer was run in one sitting, and its end was reported once.
-pub record RunsTransfer {R K C : Type 0} (k : Known R K C) (user session : ℕ) (flow : Flow R K C)
-    (stop : Bool) (v w : WorkerView) : Type 0 where
+pub record RunsTransfer {R K C : Type 0} (k : Known R K C) (may_want : ℕ → Type 0)
+    (user session : ℕ) (flow : Flow R K C) (stop : Bool) (v w : WorkerView) : Type 0 where
   pub end : JobEnd
   pub turns : List Turn
   pub halt : Option Halt
   pub final : Flow R K C
   pub stops : IsStop stop end
-  pub are_turns : AreTurns k flow turns final
-  pub ends : EndsAt final halt end
+  pub are_turns : AreTurns k may_want flow turns final
+  pub ends : EndsAt may_want final halt end
   pub bear : All (Bears user session (way_in flow)) (map (λ t. t.ask) turns ++ asks_at halt)
   pub sittings_are : w.lane.sittings ≡ v.lane.sittings ++ length v.lane.asks ∷ []
   pub adds : Adds (map (λ t. t.ask) turns ++ asks_at halt) (map (λ t. t.octets) turns)
@@ -89,16 +89,18 @@ module _ {R K C : Type 0} where
 
   -- A job that was not opened has no turns, and its end is that of the opening. Any other runs from
   -- its opening through its turns to its end.
-  abbrev pub Runs : Known R K C → Option (Flow R K C) → Work R K C → Type 0
-  Runs k None w = (w.turns ≡ []) × (w.halt ≡ None) × ((w.end ≡ ReadFault) ⊎ (w.end ≡ Memory))
-  Runs k (Some flow) w =
+  abbrev pub Runs : Known R K C → (ℕ → Type 0) → Option (Flow R K C) → Work R K C → Type 0
+  Runs k may_want None w =
+      (w.turns ≡ []) × (w.halt ≡ None) × ((w.end ≡ ReadFault) ⊎ (w.end ≡ Memory))
+  Runs k may_want (Some flow) w =
       Opens k w.job flow
-      × ((final : Flow R K C) × AreTurns k flow w.turns final × EndsAt final w.halt w.end)
+      × ((final : Flow R K C) × AreTurns k may_want flow w.turns final
+      × EndsAt may_want final w.halt w.end)
 
   -- its asks have the user, session and way of the job
-  pub record IsWork (k : Known R K C) (w : Work R K C) : Type 0 where
+  pub record IsWork (k : Known R K C) (may_want : ℕ → Type 0) (w : Work R K C) : Type 0 where
     pub bear : All (Bears (user_of w.job) (session_of w.job) (way_of w.job)) (asks_in w)
-    pub runs : Runs k w.opening w
+    pub runs : Runs k may_want w.opening w
 
   -- the sittings of a job: one if it was opened, with the number of asks that the seat had made
   -- before
@@ -115,17 +117,19 @@ module _ {R K C : Type 0} where
   abbrev pub reported_of : Work R K C → ℕ × JobEnd
   reported_of w = (session_of w.job, w.end)
 
-  pub record Does (k : Known R K C) (job : Work R K C) (v w : WorkerView) : Type 0 where
-    pub is_work : IsWork k job
+  pub record Does (k : Known R K C) (may_want : ℕ → Type 0) (job : Work R K C)
+      (v w : WorkerView) : Type 0 where
+    pub is_work : IsWork k may_want job
     pub sittings_are : w.lane.sittings
         ≡ v.lane.sittings ++ sitting_of (length v.lane.asks) job.opening
     pub adds : Adds (asks_in job) (taken_in job) (looks_in job) (moves_in job) (passes_in job) v w
     pub reports : Reports v.heard w.heard (session_of job.job) job.end
 
   -- a job was run
-  abbrev pub RunsJob : Known R K C → LaneJob R K C → Bool → WorkerView → WorkerView → Type 0
-  RunsJob k job stop v w =
-      (done : Work R K C) × (done.job ≡ job) × IsStop stop done.end × Does k done v w
+  abbrev pub RunsJob : Known R K C → (ℕ → Type 0) → LaneJob R K C → Bool → WorkerView
+      → WorkerView → Type 0
+  RunsJob k may_want job stop v w =
+      (done : Work R K C) × (done.job ≡ job) × IsStop stop done.end × Does k may_want done v w
 
   abbrev pub NotStopped : Work R K C → Type 0
   NotStopped w = w.end ≢ Stopped
@@ -140,9 +144,9 @@ module _ {R K C : Type 0} where
   -- The operations of a worker, job by job: it popped these, in this order; its sittings are those
   -- of the jobs that were opened, each with the asks of its job; it took and moved these amounts;
   -- and its gate was called in this way, and told of each job once, in order.
-  pub record Did (k : Known R K C) (works : List (Work R K C)) (h h' : Hand (LaneJob R K C))
-      (v w : WorkerView) : Type 0 where
-    pub each : All (IsWork k) works
+  pub record Did (k : Known R K C) (may_want : ℕ → Type 0) (works : List (Work R K C))
+      (h h' : Hand (LaneJob R K C)) (v w : WorkerView) : Type 0 where
+    pub each : All (IsWork k may_want) works
     pub popped : h'.popped ≡ h.popped ++ map (λ job. job.job) works
     pub pushed : h'.pushed ≡ h.pushed
     pub sittings_are : w.lane.sittings ≡ v.lane.sittings ++ starts (length v.lane.asks) works
@@ -151,6 +155,7 @@ module _ {R K C : Type 0} where
     pub reports : (before : List (ℕ × JobEnd)) → v.heard ≡ Some before
         → w.heard ≡ Some (before ++ map reported_of works)
 
-  abbrev pub Works : Known R K C → LoopEnd → Hand (LaneJob R K C) → Hand (LaneJob R K C)
-      → WorkerView → WorkerView → Type 0
-  Works k end h h' v w = (works : List (Work R K C)) × EndsSo end works × Did k works h h' v w
+  abbrev pub Works : Known R K C → (ℕ → Type 0) → LoopEnd → Hand (LaneJob R K C)
+      → Hand (LaneJob R K C) → WorkerView → WorkerView → Type 0
+  Works k may_want end h h' v w =
+      (works : List (Work R K C)) × EndsSo end works × Did k may_want works h h' v w

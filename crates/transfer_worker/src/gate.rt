@@ -5,6 +5,7 @@ ghost use Rattle.transfer_worker.specs.declared.end.JobEnd.{JobEnd};
 ghost use Rattle.transfer_worker.specs.declared.gate.Go.{Go};
 ghost use Rattle.transfer_worker.specs.Ends.{Reports};
 ghost use Rattle.transfer_worker.specs.Passes.{PassCall, pass_call, Passes};
+ghost use Rattle.transfer_worker.specs.Transfers.{IsUploadWant};
 
 use crate::end::JobEnd;
 
@@ -35,6 +36,9 @@ pub trait Gate<Q: Remnant> {
     /// The calls of `pass` with their answers, if it records them.
     ghost passed: { Self → Option (List PassCall) };
 
+    /// The numbers of octets that an upload may ask for.
+    ghost may_want: { ℕ → Type 0 };
+
     /// Returns whether the session's job, which has moved `moved` octets, may continue. It may wait.
     fn pass(&mut self, session: u32, moved: u64) -> Go
         ensures last { last_go self.new ≡ result }
@@ -50,6 +54,12 @@ pub trait Gate<Q: Remnant> {
         ensures heard { heard self.new ≡ heard self.old }
         ensures passed { passed self.new ≡ passed self.old }
     {}
+
+    /// The number of octets that an upload asks for now: at most as many as one read can return. It is called once
+    /// before each ask of an upload, after the `pass` that lets it ask.
+    fn upload_want(&self) -> u64
+        ensures bounds { IsUploadWant result }
+        ensures may { may_want result };
 
     /// The answer of the last `pass`; `On` before the first.
     fn last(&self) -> Go

@@ -11,6 +11,7 @@ ghost use Rattle.transfer_worker.specs.Ends.{EndsAs, MayReport};
 ghost use Rattle.transfer_worker.specs.Turns.{IsReported};
 
 use crate::end::JobEnd;
+use crate::gate::Gate;
 use crate::job::Ran;
 use crate::turns::{turn_in, turn_out};
 use data_pump::{DataIn, DataOut, PumpEnd, Pumped};
@@ -29,18 +30,22 @@ pub(crate) enum Running<R: Source, K: Sink, C: Read + Write + Drop, A: Allocator
 }
 
 impl<R: Source, K: Sink, C: Read + Write + Drop, A: Allocator> Running<R, K, C, A> {
-    ghost use Rattle.transfer_worker.specs.Transfers.{known, flow_of, way_in, last_in, waiting_in, Pumps, ToppedUp};
+    ghost use Rattle.transfer_worker.specs.Transfers.{known, flow_of, way_in, last_in, MayWant, Pumps, ToppedUp};
 
-    // The ask for a round.
-    fn ask(&self, user: u32, session: u32) -> Ask
+    // The ask for a round: for the octets that wait, or for what the gate chooses for an upload.
+    fn ask<G: Gate<Ran<R, K, C, A>>>(&self, gate: &G, user: u32, session: u32) -> Ask
         ensures user { result.user ≡ user }
         ensures session { result.session ≡ session }
         ensures way { result.way ≡ way_in (flow_of self.now) }
-        ensures want { result.want ≡ waiting_in (flow_of self.now) }
+        ensures want { MayWant G.may_want (flow_of self.now) result.want }
     {
         match self {
             Running::Out(out) => out.ask(user, session),
-            Running::In(upload) => upload.ask(user, session),
+            Running::In(upload) => {
+                let mut ask = upload.ask(user, session);
+                ask.want = gate.upload_want();
+                ask
+            }
         }
     }
 
@@ -104,16 +109,16 @@ pub(crate) struct Transfer<R: Source, K: Sink, C: Read + Write + Drop, A: Alloca
 }
 
 impl<R: Source, K: Sink, C: Read + Write + Drop, A: Allocator> Transfer<R, K, C, A> {
-    ghost use Rattle.transfer_worker.specs.Transfers.{known, flow_of, way_in, last_in, waiting_in, Pumps, ToppedUp};
+    ghost use Rattle.transfer_worker.specs.Transfers.{known, flow_of, way_in, last_in, MayWant, Pumps, ToppedUp};
 
     /// The ask for a round.
-    pub(crate) fn ask(&self) -> Ask
+    pub(crate) fn ask<G: Gate<Ran<R, K, C, A>>>(&self, gate: &G) -> Ask
         ensures user { result.user ≡ self.now.user }
         ensures session { result.session ≡ self.now.session }
         ensures way { result.way ≡ way_in (flow_of self.now.running) }
-        ensures want { result.want ≡ waiting_in (flow_of self.now.running) }
+        ensures want { MayWant G.may_want (flow_of self.now.running) result.want }
     {
-        self.running.ask(self.user, self.session)
+        self.running.ask(gate, self.user, self.session)
     }
 
     /// Takes the grant that answers the ask, pumps it, and spends it. Returns `None` if there is none

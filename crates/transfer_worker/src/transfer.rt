@@ -49,7 +49,7 @@ where
     ensures reported { IsReported tally.new (seat_view seat.new) }
     ensures free { result ≡ false → (seat_view seat.new).state ≡ Free }
     ensures run { RunsTransfer (known R.remaining K.collected K.target C.remaining C.contents)
-        transfer.user transfer.session (flow_of transfer.running) result
+        G.may_want transfer.user transfer.session (flow_of transfer.running) result
         (worker (seat_view seat.old) tally.old (G.heard gate.old) (G.passed gate.old))
         (worker (seat_view seat.new) tally.new (G.heard gate.new) (G.passed gate.new)) }
 {
@@ -62,7 +62,7 @@ where
             gate.done(session, JobEnd::Stopped, transfer.into_ran());
             return true;
         }
-        seat.ask(desk, transfer.ask());
+        seat.ask(desk, transfer.ask(&*gate));
         match pump_next(rt, desk, seat, tally, &mut transfer, gate) {
             None => {
                 gate.done(session, JobEnd::Stopped, transfer.into_ran());
@@ -107,7 +107,8 @@ where
     ensures same { IsSameSeat seat.old seat.new }
     ensures reported { IsReported tally.new (seat_view seat.new) }
     ensures free { result ≡ false → (seat_view seat.new).state ≡ Free }
-    ensures run { RunsJob (known R.remaining K.collected K.target C.remaining C.contents) job result
+    ensures run { RunsJob (known R.remaining K.collected K.target C.remaining C.contents)
+        G.may_want job result
         (worker (seat_view seat.old) tally.old (G.heard gate.old) (G.passed gate.old))
         (worker (seat_view seat.new) tally.new (G.heard gate.new) (G.passed gate.new)) }
 {

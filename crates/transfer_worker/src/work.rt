@@ -50,8 +50,8 @@ where
     ensures board { IsSameBoard pass.old pass.new }
     ensures idle { result.1 ≡ Idle → ((seat_view result.0.seat).state ≡ Free)
         × ShowsHeld 0 (done_by pass.new) }
-    ensures works { Works (known R.remaining K.collected K.target C.remaining C.contents) result.1
-        (done_by pass.old) (done_by pass.new)
+    ensures works { Works (known R.remaining K.collected K.target C.remaining C.contents) G.may_want
+        result.1 (done_by pass.old) (done_by pass.new)
         (worker (seat_view worked.seat) worked.tally (G.heard gate.old) (G.passed gate.old))
         (worker (seat_view result.0.seat) result.0.tally (G.heard gate.new)
         (G.passed gate.new)) }

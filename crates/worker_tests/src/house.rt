@@ -4,6 +4,7 @@ ghost use Rattle.std.specs.Prelude.{◌≡◌, ◌<◌, ℕ, true};
 
 use super::counted::End;
 use super::expect::OfTest;
+use data_pump::MAX_READ;
 use grant_ledger::MAX_LANES;
 use lent_parts::{LentDesk, LentRounds, PartsName};
 use paced_rounds::HeldNames;
@@ -139,7 +140,8 @@ impl<'h, B: PartsName> Keeper<'h, B> {
 }
 
 impl<'h, B: PartsName> Gate<Ran<End, End, End>> for Keeper<'h, B> {
-    ghost use Rattle.std.specs.Prelude.{None};
+    ghost use Rattle.std.specs.Prelude.{◌≡◌, None};
+    ghost use Rattle.data_pump.specs.declared.inflow.TheConstants.{MAX_READ};
 
     ghost last_go = { λ keeper. keeper.last };
 
@@ -147,9 +149,15 @@ impl<'h, B: PartsName> Gate<Ran<End, End, End>> for Keeper<'h, B> {
 
     ghost passed = { λ _. None };
 
+    ghost may_want = { λ want. want ≡ MAX_READ };
+
     fn pass(&mut self, session: u32, moved: u64) -> Go {
         self.last = self.answer(session, moved);
         self.last
+    }
+
+    fn upload_want(&self) -> u64 {
+        MAX_READ as u64
     }
 
     fn last(&self) -> Go {

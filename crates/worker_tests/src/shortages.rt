@@ -5,6 +5,7 @@ ghost use Rattle.transfer_worker.specs.Boards.{IsOfBoard, IsSameBoard};
 use super::counted::End;
 use super::expect::{OfTest, holds};
 use super::house::{House, Job};
+use data_pump::MAX_READ;
 use ftp_terms::DataType;
 use lent_parts::{LentWorker, PartsName};
 use line_rates::Way;
@@ -55,7 +56,8 @@ struct Shut {
 }
 
 impl<Q: Remnant> Gate<Q> for Shut {
-    ghost use Rattle.std.specs.Prelude.{None};
+    ghost use Rattle.std.specs.Prelude.{◌≡◌, None};
+    ghost use Rattle.data_pump.specs.declared.inflow.TheConstants.{MAX_READ};
 
     ghost last_go = { λ shut. shut.last };
 
@@ -63,9 +65,15 @@ impl<Q: Remnant> Gate<Q> for Shut {
 
     ghost passed = { λ _. None };
 
+    ghost may_want = { λ want. want ≡ MAX_READ };
+
     fn pass(&mut self, _session: u32, _moved: u64) -> Go {
         self.last = Go::Stop;
         Go::Stop
+    }
+
+    fn upload_want(&self) -> u64 {
+        MAX_READ as u64
     }
 
     fn last(&self) -> Go {
@@ -176,13 +184,16 @@ struct Relief<'h, B: PartsName> {
 }
 
 impl<'h, B: PartsName, Q: Remnant> Gate<Q> for Relief<'h, B> {
-    ghost use Rattle.std.specs.Prelude.{None};
+    ghost use Rattle.std.specs.Prelude.{◌≡◌, None};
+    ghost use Rattle.data_pump.specs.declared.inflow.TheConstants.{MAX_READ};
 
     ghost last_go = { λ relief. relief.last };
 
     ghost heard = { λ _. None };
 
     ghost passed = { λ _. None };
+
+    ghost may_want = { λ want. want ≡ MAX_READ };
 
     fn pass(&mut self, _session: u32, _moved: u64) -> Go {
         if self.poor > 0 {
@@ -193,6 +204,10 @@ impl<'h, B: PartsName, Q: Remnant> Gate<Q> for Relief<'h, B> {
         }
         self.last = Go::On;
         Go::On
+    }
+
+    fn upload_want(&self) -> u64 {
+        MAX_READ as u64
     }
 
     fn last(&self) -> Go {

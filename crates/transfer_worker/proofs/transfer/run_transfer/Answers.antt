@@ -27,7 +27,7 @@ loop-init g c =
       c.requires.reported ∙ sym (ap (λ v. sum v.taken) c.sit.ensures.view),
       refl,
       ap (λ v. v.state) c.sit.ensures.view,
-      begins k c.args.transfer.user c.args.transfer.session (flow_of c.args.transfer.running) x y c.args.tally.now (g.G.Gate.heard c.args.gate.now) (g.G.Gate.passed c.args.gate.now) c.args.transfer.moved c.sit.ensures.view c.requires.begun,
+      begins k g.G.Gate.may_want c.args.transfer.user c.args.transfer.session (flow_of c.args.transfer.running) x y c.args.tally.now (g.G.Gate.heard c.args.gate.now) (g.G.Gate.passed c.args.gate.now) c.args.transfer.moved c.sit.ensures.view c.requires.begun,
     )
 
 pub done-requires : goal.done-requires
@@ -50,7 +50,7 @@ returns-then-not-may_ask-clause-run g c =
     let u = worker x c.loop.tally (g.G.Gate.heard c.may_ask.new.gate) r in
     let z = worker (seat_view c.rise.new.self) c.loop.tally (g.G.Gate.heard c.done.new.self) (g.G.Gate.passed c.done.new.self) in
     let p = passes_are q r (calls_until c.loop.transfer.session moved Stop m.0) (calls_until session moved Stop m.0) (ap (λ (n : ℕ). calls_until n moved Stop m.0) i.4) m.1 in
-    stopped k user session start v now moved w z (BeforeAsk m.0) i.9 (refl, i.5, tt) (All-nil (Bears user session (way_in now))) (ap (λ l. l.sittings) e)
+    stopped k g.G.Gate.may_want user session start v now moved w z (BeforeAsk m.0) i.9 (refl, i.5, tt) (All-nil (Bears user session (way_in now))) (ap (λ l. l.sittings) e)
     (adds_still [] [] 0 [] (calls_until session moved Stop m.0) w u z (adds_stop session moved m.0 x c.loop.tally w.heard u.heard q r p) (ap (λ l. l.asks) e) (ap (λ l. l.taken) e) (ap (λ l. l.looks) e) refl c.done.ensures.passed)
     (λ before f. c.done.ensures.heard before (c.may_ask.ensures.heard ∙ i.7 ∙ f))
 
@@ -79,7 +79,7 @@ returns-in-None-pump_next-clause-run g c =
     let z = worker (seat_view c.pump_next.new.seat) c.pump_next.new.tally (g.G.Gate.heard c.done-in-None-pump_next.new.self) (g.G.Gate.passed c.done-in-None-pump_next.new.self) in
     let halt : Halt = AfterAsk m.0 a n.between n.laters in
     let adds = adds_open c.loop.transfer.session moved m.0 a n.between n.laters x y c.loop.tally (g.G.Gate.heard c.may_ask.new.gate) w.heard q r u m.1 c.ask-in-loop.ensures.view n.adds in
-    stopped k user session start v now moved w z halt i.9 (refl, i.5, c.ask.ensures.want)
+    stopped k g.G.Gate.may_want user session start v now moved w z halt i.9 (refl, i.5, c.ask.ensures.want)
     (All-push (Bears user session (way_in now)) [] a (All-nil (Bears user session (way_in now))) (c.ask.ensures.user ∙ i.3, c.ask.ensures.session ∙ i.4, c.ask.ensures.way))
     (n.sittings_are ∙ ap (λ l. l.sittings) c.ask-in-loop.ensures.view)
     (adds_still (a ∷ []) [] (looks_at (Some halt)) [] (calls_at session moved (Some halt)) w u z
@@ -116,12 +116,12 @@ returns-in-Some-job_end-clause-run g c =
     let t : Turn = record { before = m.0; ask = a; between = p.between; octets = p.octets; pumped = c.in-Some-pump_next.pumped } in
     let adds = adds_turn c.loop.transfer.session moved m.0 a p.between p.octets t.pumped x y c.loop.tally (g.G.Gate.heard c.may_ask.new.gate) w.heard q r u m.1 c.ask-in-loop.ensures.view p.adds in
     let is = sym c.in-Some-job_end.ensures.end in
-    let s = turn_more k user session start v now next moved w u t i.9
+    let s = turn_more k g.G.Gate.may_want user session start v now next moved w u t i.9
     (record { more = i.5; want = c.ask.ensures.want; pumped = next; pumps = p.pumps; tops = λ more. absurd (not_more t.pumped.end c.in-Some-job_end.end is more); ends = λ _. refl })
     (c.ask.ensures.user ∙ i.3, c.ask.ensures.session ∙ i.4, c.ask.ensures.way)
     (p.sittings_are ∙ ap (λ l. l.sittings) c.ask-in-loop.ensures.view)
     (subst (λ (n : ℕ). Adds (a ∷ []) (p.octets ∷ []) (length p.between) (t.pumped.moved ∷ []) (calls_in n moved t) w u) i.4 adds) in
-    ended k user session start v next _ u z c.in-Some-job_end.end s
+    ended k g.G.Gate.may_want user session start v next _ u z c.in-Some-job_end.end s
     (ap end_of (pumps_last k p.octets now next t.pumped p.pumps) ∙ sym c.in-Some-job_end.ensures.end)
     (ap (λ l. l.sittings) e) (ap (λ l. l.asks) e) (ap (λ l. l.taken) e) (ap (λ l. l.looks) e) refl c.done-in-Some-job_end.ensures.passed
     (λ before f. c.done-in-Some-job_end.ensures.heard before (c.pump_next.ensures.heard ∙ c.may_ask.ensures.heard ∙ i.7 ∙ f))
@@ -151,7 +151,7 @@ loop-preserved g c =
     let t : Turn = record { before = m.0; ask = a; between = p.between; octets = p.octets; pumped = c.in-Some-pump_next.pumped } in
     let adds = adds_turn c.loop.transfer.session moved m.0 a p.between p.octets t.pumped x y c.loop.tally (g.G.Gate.heard c.may_ask.new.gate) w.heard q r u m.1 c.ask-in-loop.ensures.view p.adds in
     let more = only_more t.pumped.end (sym c.in-None-job_end.ensures.end) in
-    let s = turn_more k user session start v now next moved w u t i.9
+    let s = turn_more k g.G.Gate.may_want user session start v now next moved w u t i.9
     (record { more = i.5; want = c.ask.ensures.want; pumped = pumped; pumps = p.pumps; tops = λ _. topped.topped; ends = λ not. absurd (not more) })
     (c.ask.ensures.user ∙ i.3, c.ask.ensures.session ∙ i.4, c.ask.ensures.way)
     (p.sittings_are ∙ ap (λ l. l.sittings) c.ask-in-loop.ensures.view)
@@ -165,5 +165,5 @@ loop-preserved g c =
       n.reported,
       n.heard ∙ c.may_ask.ensures.heard ∙ i.7,
       p.state_is,
-      subst (λ (j : ℕ). Sits k user session start v next j u) (sym (topped.moved ∙ some.1)) s,
+      subst (λ (j : ℕ). Sits k g.G.Gate.may_want user session start v next j u) (sym (topped.moved ∙ some.1)) s,
     )

@@ -18,6 +18,6 @@ invariant-loop g l =
     × IsReported l.tally (seat_view l.seat)
     × (g.G.Gate.heard l.gate ≡ g.G.Gate.heard l.fn.gate)
     × ((seat_view l.seat).state ≡ Worker)
-    × Sits (known g.R.Source.remaining g.K.Sink.collected g.K.Sink.target g.C.Read.remaining g.C.Write.contents) l.fn.transfer.user l.fn.transfer.session (flow_of l.fn.transfer.running)
+    × Sits (known g.R.Source.remaining g.K.Sink.collected g.K.Sink.target g.C.Read.remaining g.C.Write.contents) g.G.Gate.may_want l.fn.transfer.user l.fn.transfer.session (flow_of l.fn.transfer.running)
     (worker (seat_view l.fn.seat) l.fn.tally (g.G.Gate.heard l.fn.gate) (g.G.Gate.passed l.fn.gate)) (flow_of l.transfer.running) l.transfer.moved
     (worker (seat_view l.seat) l.tally (g.G.Gate.heard l.gate) (g.G.Gate.passed l.gate))

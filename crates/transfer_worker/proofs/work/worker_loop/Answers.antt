@@ -30,7 +30,7 @@ loop-preserved g c =
       (
         works ++ r.0 ∷ [],
         All-push NotStopped works r.0 i.6.1 r.2,
-        more_done _ works r.0 (done_by c.args.pass.now) h (done_by c.pop.new.pass) _ _ _ i.6.2 (p.0 ∙ ap (λ j. hand h.pushed (h.popped ++ j ∷ [])) (sym r.1)) r.3,
+        more_done _ _ works r.0 (done_by c.args.pass.now) h (done_by c.pop.new.pass) _ _ _ i.6.2 (p.0 ∙ ap (λ j. hand h.pushed (h.popped ++ j ∷ [])) (sym r.1)) r.3,
       ),
     )
 
@@ -42,7 +42,7 @@ loop-init g c = (
   (refl, refl),
   c.parts-seat.ensures.reported,
   ap (λ s. (seat_view s).state) c.parts-seat.ensures.parts.0 ∙ c.requires.state,
-  ([], All-nil NotStopped, none_done _ (done_by c.args.pass.now) _),
+  ([], All-nil NotStopped, none_done _ _ (done_by c.args.pass.now) _),
 )
 
 pub returns-then-run_job-clause-works : goal.returns-then-run_job-clause-works
@@ -55,11 +55,11 @@ returns-then-run_job-clause-works g c =
     let works = i.6.0 in
     let a = c.parts-seat.ensures.parts in
     let z = c.new-then-run_job.ensures.parts in
-    subst (λ (s : (LaneSeat g.row.N.Denot × TallyView) × (LaneSeat g.row.N.Denot × TallyView)). Works k Stopped (done_by c.args.pass.now) (done_by c.pop.new.pass)
+    subst (λ (s : (LaneSeat g.row.N.Denot × TallyView) × (LaneSeat g.row.N.Denot × TallyView)). Works k g.G.Gate.may_want Stopped (done_by c.args.pass.now) (done_by c.pop.new.pass)
     (worker (seat_view s.0.0) s.0.1 (g.G.Gate.heard c.args.gate.now) (g.G.Gate.passed c.args.gate.now))
     (worker (seat_view s.1.0) s.1.1 (g.G.Gate.heard c.run_job.new.gate) (g.G.Gate.passed c.run_job.new.gate)))
     (λ q. ((a.0 q, a.1 q), (sym z.0 q, sym z.1 q))) (
       works ++ r.0 ∷ [],
       (works, r.0, refl, i.6.1, r.2),
-      more_done k works r.0 (done_by c.args.pass.now) h (done_by c.pop.new.pass) _ _ _ i.6.2 (p.0 ∙ ap (λ j. hand h.pushed (h.popped ++ j ∷ [])) (sym r.1)) r.3,
+      more_done k g.G.Gate.may_want works r.0 (done_by c.args.pass.now) h (done_by c.pop.new.pass) _ _ _ i.6.2 (p.0 ∙ ap (λ j. hand h.pushed (h.popped ++ j ∷ [])) (sym r.1)) r.3,
     )

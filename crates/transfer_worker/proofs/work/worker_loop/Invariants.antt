@@ -16,6 +16,6 @@ invariant-loop g l =
     × IsReported l.tally (seat_view l.seat)
     × ((seat_view l.seat).state ≡ Free)
     × ((works : List (Work g.row.R.Denot g.row.K.Denot g.row.C.Denot)) × All NotStopped works
-    × Did (known g.R.Source.remaining g.K.Sink.collected g.K.Sink.target g.C.Read.remaining g.C.Write.contents) works (done_by l.fn.pass) (done_by l.pass)
+    × Did (known g.R.Source.remaining g.K.Sink.collected g.K.Sink.target g.C.Read.remaining g.C.Write.contents) g.G.Gate.may_want works (done_by l.fn.pass) (done_by l.pass)
     (worker (seat_view l.initial.seat) l.initial.tally (g.G.Gate.heard l.fn.gate) (g.G.Gate.passed l.fn.gate))
     (worker (seat_view l.seat) l.tally (g.G.Gate.heard l.gate) (g.G.Gate.passed l.gate)))

@@ -9,13 +9,12 @@ ghost use Rattle.server_house.specs.Tickets.{is_upload};
 
 use crate::clock::RoundClock;
 use crate::gate::LaneGate;
-use crate::paced::TalliedRounds;
-use lent_parts::{LentDesk, LentPass, LentWorker, PartsName};
+use lent_parts::{LentPass, LentWorker, PartsName};
 use line_rates::Way;
 use server_house::{House, LaneSign, SessionTicket, ShutdownStage};
 use std::alloc::Global;
 use std::io::{Read, Write};
-use std::sync::{Mutex, Wait};
+use std::sync::Wait;
 use std::time::{Clock, Duration};
 use transfer_ticket::TicketRun;
 use transfer_worker::LaneJob;
@@ -49,12 +48,10 @@ fn sign<R: Source, K: Sink, C: Read + Write + Drop>(sign: &LaneSign, job: &LaneJ
 }
 
 // Runs the transfer that waits on a ticket to its end, and reports that; nothing if it was taken back.
-fn run_transfer<'h, R, S, H, B, N>(
+fn run_transfer<'h, R, S, H, B>(
     rt: &R,
     house: &'h House<S, H, B>,
-    desk: &LentDesk<B, N>,
-    paced: &Mutex<TalliedRounds<B, N>>,
-    worker: &mut LentWorker<B, N>,
+    worker: &mut LentWorker<B>,
     ticket: &'h SessionTicket<S>,
 )
 where
@@ -73,9 +70,9 @@ where
         Some(own) => sign(own, &job),
         None => {}
     }
-    let mut gate = LaneGate::new(rt, house, desk, paced, lane, run, is_upload(&job));
+    let mut gate = LaneGate::new(rt, house, lane, run, is_upload(&job));
     let before = worker.moved();
-    worker.work(rt, rt.alloc(), desk, job, &mut gate);
+    worker.work(rt, rt.alloc(), &house.desk, job, &mut gate);
     gate.report(worker.moved().saturating_sub(before));
     match house.lanes.get(lane) {
         Some(own) => own.set_session(None),
@@ -86,12 +83,10 @@ where
 /// Takes transfers from the tickets whose numbers are on the board, and runs each to its end, until the lanes are to end:
 /// no session is left then. A transfer that its session wants to end is stopped before its next ask, and the lane takes
 /// the next one. The moments of the clock pass the test of the name.
-pub fn work_lane<R, S, H, B, N>(
+pub fn work_lane<R, S, H, B>(
     rt: &R,
     house: &House<S, H, B>,
-    desk: &LentDesk<B, N>,
-    paced: &Mutex<TalliedRounds<B, N>>,
-    worker: &mut LentWorker<B, N>,
+    worker: &mut LentWorker<B>,
     mut pass: LentPass<B, u32>,
 )
 where
@@ -108,7 +103,7 @@ where
         let seen = house.jobs.seen();
         match house.board.pop(rt, &mut pass) {
             Some(number) => match (&*house).tickets.get(number as usize) {
-                Some(ticket) => run_transfer(rt, &*house, desk, paced, worker, ticket),
+                Some(ticket) => run_transfer(rt, &*house, worker, ticket),
                 None => {}
             },
             None => {

@@ -1,7 +1,7 @@
 use Rattle.std.proofs.Common.{◌+◌, ◌≤◌, ℕ, List, arith, get_or, take}
 use Rattle.std.specs.Prelude.{sum}
 use Rattle.std.proofs.lemmas.List.Sums.{sum_by_more_le}
-use Rattle.lane_rounds.proofs.counting.count_all.Goals as goal
+use Rattle.lent_parts.proofs.counting.count_all.Goals as goal
 
 pub count-requires-clause-fits : goal.count-requires-clause-fits
 count-requires-clause-fits c =

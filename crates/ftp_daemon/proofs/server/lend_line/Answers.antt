@@ -2,10 +2,10 @@ use Rattle.std.proofs.Common.{ℕ, subst}
 use Rattle.atomic_table.specs.Seated.{TableId}
 use Rattle.lane_desk.specs.Open.{AreFresh}
 use Rattle.lane_desk.specs.Seats.{desk_id}
-use Rattle.ftp_daemon.proofs.works.lend_line.Goals as goal
+use Rattle.ftp_daemon.proofs.server.lend_line.Goals as goal
 
-pub lend_seats-requires-clause-seats : goal.lend_seats-requires-clause-seats
-lend_seats-requires-clause-seats g c =
+pub lend-requires-clause-seats : goal.lend-requires-clause-seats
+lend-requires-clause-seats g c =
     let named = c.requires.desk in
     let line = c.args.line in
     subst (λ (z : TableId). AreFresh z g.B.PartsName.lanes line.seats.items) named.0

@@ -110,7 +110,7 @@ pub(crate) fn new_cadence(alloc: Global, limits: &Limits) -> Result<Cadence, All
     Cadence::new(alloc, users.min(MOST_BEATS), groups.min(MOST_BEATS))
 }
 
-/// What is allocated for a server beside its line. It cannot be dropped.
+/// The parts of a server that are allocated beside its line. They cannot be dropped.
 pub(crate) struct Allocated<S: Store<Global>, B: PartsName> {
     pub(crate) own_stores: Vec<Mutex<S>>,
     pub(crate) arrivals: Vec<Mutex<Option<TcpStream>>>,
@@ -141,7 +141,7 @@ fn lend_passes<B: PartsName, J>(passes: Vec<BoardPass<J>>, lent: &mut Vec<LentPa
     }
 }
 
-/// Allocates what a server needs beside its line, with room for this many seats. The pace takes the limits.
+/// Allocates the parts beside the line of a server, with room for this many seats. The pace takes the limits.
 pub(crate) fn allocate<R, S, B>(
     rt: &R,
     numbers: &ServerNumbers,

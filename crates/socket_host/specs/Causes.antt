@@ -8,10 +8,10 @@ use Rattle.session_core.specs.declared.events.DataEvent.{DataEvent}
 use Rattle.session_core.specs.declared.events.DataEvent.TheVariants.{Ready, Ended}
 use Rattle.session_table.specs.declared.inputs.End.{End}
 use Rattle.session_table.specs.declared.inputs.End.TheVariants.{Done, Lost, Local, Full, NoConnection, NoMemory, Aborted}
-use Rattle.socket_side.specs.declared.running.Prepared.{Prepared}
-use Rattle.socket_side.specs.declared.running.Prepared.TheVariants as prepared
-use Rattle.socket_side.specs.declared.running.Running.{Running}
-use Rattle.socket_side.specs.declared.running.Running.TheVariants as running
+use Rattle.socket_host.specs.declared.running.Prepared.{Prepared}
+use Rattle.socket_host.specs.declared.running.Prepared.TheVariants as prepared
+use Rattle.socket_host.specs.declared.running.Running.{Running}
+use Rattle.socket_host.specs.declared.running.Running.TheVariants as running
 
 -- the reason for the end that a lane reports, with the connection's last error
 abbrev pub cause_of : Bool → End → Option Error → Option EndCause

@@ -12,13 +12,13 @@ use Rattle.session_core.specs.declared.events.DataEvent.TheVariants.{Ended}
 use Rattle.session_table.specs.declared.actions.Job.{Job}
 use Rattle.session_table.specs.declared.inputs.End.{End}
 use Rattle.session_table.specs.declared.inputs.End.TheVariants.{NoConnection, NoMemory, Aborted}
-use Rattle.socket_side.specs.Jobs.{sink_in, sink_of}
-use Rattle.socket_side.specs.declared.run.Taken.{Taken}
-use Rattle.socket_side.specs.declared.run.Taken.TheVariants as taken
-use Rattle.socket_side.specs.declared.running.Prepared.{Prepared}
-use Rattle.socket_side.specs.declared.running.Prepared.TheVariants as prepared
-use Rattle.socket_side.specs.declared.running.Running.{Running}
-use Rattle.socket_side.specs.declared.running.Running.TheVariants as running
+use Rattle.socket_host.specs.Jobs.{sink_in, sink_of}
+use Rattle.socket_host.specs.declared.run.Taken.{Taken}
+use Rattle.socket_host.specs.declared.run.Taken.TheVariants as taken
+use Rattle.socket_host.specs.declared.running.Prepared.{Prepared}
+use Rattle.socket_host.specs.declared.running.Prepared.TheVariants as prepared
+use Rattle.socket_host.specs.declared.running.Running.{Running}
+use Rattle.socket_host.specs.declared.running.Running.TheVariants as running
 use Rattle.transfer_ticket.specs.Tickets.{asking, begun, tried}
 use Rattle.transfer_ticket.specs.declared.view.TicketView.{TicketView}
 use Rattle.transfer_ticket.specs.declared.view.TicketView.TheVariants.{Away, Missed, Idle, Busy, Runs}

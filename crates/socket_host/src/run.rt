@@ -1,7 +1,7 @@
 //! The transfer of a session, and the session's right to its ticket.
 
 ghost use Rattle.std.specs.Prelude.{◌≡◌, IfNone, IfSome, false, true};
-ghost use Rattle.socket_side.specs.Running.{Aborts, Stops, Takes, is_marked, is_moving, port_of};
+ghost use Rattle.socket_host.specs.Running.{Aborts, Stops, Takes, is_marked, is_moving, port_of};
 ghost use Rattle.transfer_ticket.specs.Tickets.{is_busy, is_owner};
 ghost use Rattle.transfer_ticket.specs.Views.{owner_view};
 ghost use Rattle.transfer_ticket.specs.declared.view.TicketView.TheVariants.{Idle};

@@ -4,8 +4,8 @@ ghost use Rattle.std.specs.Prelude.{◌≡◌, IfNone, IfSome, IsTrue, false, tr
 ghost use Rattle.session_core.specs.declared.events.DataEvent.TheVariants.{Ready};
 ghost use Rattle.server_house.specs.declared.cause.EndCause.TheVariants as cause;
 ghost use Rattle.session_table.specs.declared.inputs.End.TheVariants.{Aborted, NoConnection, NoMemory};
-ghost use Rattle.socket_side.specs.Causes.{AbortCause, GoesCause, LookCause, StartCause, TakenCause, cause_of};
-ghost use Rattle.socket_side.specs.Running.{Aborts, GoesOn, IsAwaited, IsConnecting, IsHandedOver, IsMovedBy, IsNoTarget, Looks, RestsOn, Settles, Starts, TakesEnd, event_of, is_busy, is_moving, over, pause_after, port_in};
+ghost use Rattle.socket_host.specs.Causes.{AbortCause, GoesCause, LookCause, StartCause, TakenCause, cause_of};
+ghost use Rattle.socket_host.specs.Running.{Aborts, GoesOn, IsAwaited, IsConnecting, IsHandedOver, IsMovedBy, IsNoTarget, Looks, RestsOn, Settles, Starts, TakesEnd, event_of, is_busy, is_moving, over, pause_after, port_in};
 ghost use Rattle.transfer_ticket.specs.Tickets as ticket;
 ghost use Rattle.transfer_ticket.specs.Views.{owner_view};
 ghost use Rattle.transfer_ticket.specs.declared.view.TicketView.TheVariants.{Idle};

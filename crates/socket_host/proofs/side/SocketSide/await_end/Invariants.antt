@@ -1,5 +1,5 @@
 use Rattle.std.proofs.Common.{◌≡◌}
-use Rattle.socket_side.proofs.side.SocketSide.await_end.Given as goal
+use Rattle.socket_host.proofs.side.SocketSide.await_end.Given as goal
 
 abbrev pub invariant-loop : goal.invariant-loop
 invariant-loop g l =

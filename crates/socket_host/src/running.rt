@@ -1,8 +1,8 @@
 //! Prepared and running transfers.
 
 ghost use Rattle.std.specs.Prelude.{◌≡◌};
-ghost use Rattle.socket_side.specs.Jobs.{is_upload, lane_job, sink_of};
-ghost use Rattle.socket_side.specs.Running.{over, taken_back};
+ghost use Rattle.socket_host.specs.Jobs.{is_upload, lane_job, sink_of};
+ghost use Rattle.socket_host.specs.Running.{over, taken_back};
 
 use data_sockets::{DataConnection, Listing, Outgoing, Served, TransferEnd};
 use ftp_terms::DataType;

@@ -10,10 +10,9 @@ use Rattle.ftp_daemon.proofs.Sameness.{rates_same, same_server}
 pub none_kept : (allowed : Rates → Bool) (test : ℕ → Bool) (carried issued : ℕ) → issued ≡ carried → HasKept allowed test carried issued
 none_kept allowed test carried issued e = ([], record { seconds = λ n second bound within. omega arith; windows = tt }, refl, omega (arith, e))
 
--- by what the rates at the start and the octets carried are
-pub kept_of : (rates limits : Rates) (allows : Rates → Bool) (test : ℕ → Bool) (carried issued : ℕ) → rates ≡ limits → carried ≡ 0 → HasKept (may_hold rates allows) test carried issued
-    → HasKept (may_hold limits allows) test 0 issued
-kept_of rates limits allows test carried issued e f kept = subst (λ (z : Rates × ℕ). HasKept (may_hold z.0 allows) test z.1 issued) (λ i. (e i, f i)) kept
+-- nothing was carried
+pub kept_of : (allowed : Rates → Bool) (test : ℕ → Bool) (carried issued : ℕ) → carried ≡ 0 → HasKept allowed test carried issued → HasKept allowed test 0 issued
+kept_of allowed test carried issued e kept = subst (λ (n : ℕ). HasKept allowed test n issued) e kept
 
 -- the rates of the start are among those
 pub may_begin : (rates : Rates) (allows : Rates → Bool) → may_hold rates allows rates ≡ true

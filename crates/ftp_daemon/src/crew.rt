@@ -1,7 +1,7 @@
 //! The work of each thread of a server.
 
+use crate::server::Server;
 use crate::watching::{OwnerSigns, watch};
-use crate::works::Works;
 use lane_rounds::{RoundClock, keep_rounds, run_here, work_lane};
 use lent_parts::PartsName;
 use server_house::{OwnRuns, ServerHooks, ServerRuntime, ShutdownStage};
@@ -27,7 +27,7 @@ pub(crate) trait Crew {
     fn end_lanes(&self);
 }
 
-impl<R, S, H, B, P> Crew for Works<R, S, H, B, P>
+impl<R, S, H, B, P> Crew for Server<R, S, H, B, P>
 where
     R: ServerRuntime + RoundClock,
     S: Store<Global>,
@@ -36,32 +36,25 @@ where
     P: OwnerSigns,
 {
     fn lanes(&self) -> usize {
-        self.lent.workers.len()
+        self.house.seats.count()
     }
 
     fn keep_rounds(&self) {
-        keep_rounds(&self.rt, &self.house, &self.lent.desk, &self.lent.paced);
+        keep_rounds(&self.rt, &self.house);
     }
 
     // Each lane takes a pass of its own; there is one for each.
     fn work(&self, lane: usize) {
-        let pass = self.passes.lock(&self.rt).pop();
-        match (self.lent.workers.get(lane), pass) {
-            (Some(seat), Some(pass)) => work_lane(
-                &self.rt,
-                &self.house,
-                &self.lent.desk,
-                &self.lent.paced,
-                seat,
-                pass,
-            ),
+        let pass = self.house.passes.lock(&self.rt).pop();
+        match (self.house.seats.seat(lane), pass) {
+            (Some(seat), Some(pass)) => work_lane(&self.rt, &self.house, seat, pass),
             _ => {}
         }
     }
 
     fn watch(&self) {
         match &self.signs {
-            Some(signs) => watch(&self.rt, &self.house, &self.lent.paced, signs),
+            Some(signs) => watch(&self.rt, &self.house, signs),
             None => {}
         }
     }
@@ -73,7 +66,7 @@ where
     }
 }
 
-impl<R, S, H, B, P> OwnRuns for Works<R, S, H, B, P>
+impl<R, S, H, B, P> OwnRuns for Server<R, S, H, B, P>
 where
     R: ServerRuntime + RoundClock,
     S: Store<Global>,
@@ -82,9 +75,6 @@ where
     P: OwnerSigns,
 {
     fn run_here(&self, number: u32, user: u32) -> bool {
-        let lent = &self.lent;
-        let (desk, paced) = (&lent.desk, &lent.paced);
-        let seats = &lent.workers;
-        run_here(&self.rt, &self.house, desk, paced, seats, number, user)
+        run_here(&self.rt, &self.house, number, user)
     }
 }

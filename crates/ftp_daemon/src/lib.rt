@@ -18,10 +18,10 @@ mod lanes;
 mod listening;
 mod opening;
 mod reloading;
+mod server;
 mod serving;
 mod settling;
 mod watching;
-mod works;
 
 pub use client_patience::Patience;
 pub use ftpd_program::{ScriptFault, ServeFault, run_script};

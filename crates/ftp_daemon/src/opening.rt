@@ -6,25 +6,29 @@ ghost use Rattle.desk_rule.specs.Lanes.{posted_in};
 ghost use Rattle.lane_desk.specs.Seats.{desk_id};
 ghost use Rattle.lane_desk.specs.Posted.{AllAnswered};
 ghost use Rattle.lane_desk.specs.Traces.{back, traces, IsRoundOf};
+ghost use Rattle.lent_parts.specs.Rooms.{HasRoom};
 ghost use Rattle.round_pace.specs.Earned.{tick_of};
 ghost use Rattle.round_pace.specs.Paced.{IsPacedFrom};
+ghost use Rattle.transfer_worker.specs.Boards.{AreNewPasses};
 
 use client_patience::Patience;
 use ftpd_program::ServeFault;
 use grant_ledger::{Book, Settled, Tally, settle};
 use lane_desk::{Desk, LaneSeat, RoundDesk, Worked, open_desk};
 use lane_rounds::RoundClock;
+use lent_parts::{LentPass, LentSeats, PartsName};
 use line_rates::Limits;
 use passive_ports::{PoolFault, Registry, RestingPorts};
 use rate_floors::Floors;
 use round_cadence::Cadence;
 use round_pace::Pace;
 use server_config::ServerNumbers;
-use server_house::{LaneSign, SessionTicket, SharedTerms, Terms};
+use server_house::{LaneSign, SessionTicket, Terms};
 use std::alloc::{AllocError, Global};
 use std::net::TcpStream;
 use std::sync::{Arc, Mutex};
 use transfer_ticket::Ticket;
+use transfer_worker::BoardPass;
 use virtual_tree::Store;
 
 /// The parts that a caller hands to a server.
@@ -44,29 +48,6 @@ pub struct Service<S: Drop, H: Drop, P: Drop> {
     pub signs: Option<P>,
     /// The limits of time for clients.
     pub patience: Patience,
-}
-
-/// The parts that the threads will share, except desk and board.
-#[derive(Drop)]
-pub(crate) struct Rooms<S: Store<Global>, H: Drop, P: Drop> {
-    pub(crate) terms: SharedTerms,
-    pub(crate) numbers: ServerNumbers,
-    pub(crate) store: S,
-    pub(crate) own_stores: Vec<Mutex<S>>,
-    pub(crate) arrivals: Vec<Mutex<Option<TcpStream>>>,
-    pub(crate) handler: H,
-    pub(crate) signs: Option<P>,
-    pub(crate) patience: Patience,
-    pub(crate) floors: Floors,
-    pub(crate) ports: RestingPorts,
-    pub(crate) registry: Registry,
-    pub(crate) tickets: Vec<SessionTicket<S>>,
-    pub(crate) lanes: Vec<LaneSign>,
-    pub(crate) pace: Pace,
-    /// The beats of the pace's rows.
-    pub(crate) cadence: Cadence,
-    /// The moment at which the pace was made, in microseconds.
-    pub(crate) begun: u64,
 }
 
 fn new_tickets<S: Store<Global>>(
@@ -129,33 +110,59 @@ pub(crate) fn new_cadence(alloc: Global, limits: &Limits) -> Result<Cadence, All
     Cadence::new(alloc, users.min(MOST_BEATS), groups.min(MOST_BEATS))
 }
 
-/// Makes the parts that the threads of a server share. The pace takes the limits.
-pub(crate) fn open_rooms<R, S, H, P>(
+/// The parts of a server that are allocated beside its line. They cannot be dropped.
+pub(crate) struct Allocated<S: Store<Global>, B: PartsName> {
+    pub(crate) own_stores: Vec<Mutex<S>>,
+    pub(crate) arrivals: Vec<Mutex<Option<TcpStream>>>,
+    pub(crate) floors: Floors,
+    pub(crate) ports: RestingPorts,
+    pub(crate) registry: Registry,
+    pub(crate) tickets: Vec<SessionTicket<S>>,
+    pub(crate) lanes: Vec<LaneSign>,
+    pub(crate) pace: Pace,
+    /// The beats of the pace's rows.
+    pub(crate) cadence: Cadence,
+    /// The moment at which the pace was made, in microseconds.
+    pub(crate) begun: u64,
+    /// The pass of sessions, and those of lanes.
+    pub(crate) pass: LentPass<B, u32>,
+    pub(crate) passes: Vec<LentPass<B, u32>>,
+    /// Room for the seats of the lanes.
+    pub(crate) seats: LentSeats<B>,
+}
+
+// Lends the passes of a board.
+fn lend_passes<B: PartsName, J>(passes: Vec<BoardPass<J>>, lent: &mut Vec<LentPass<B, J>>)
+    requires passes { AreNewPasses B.board (length passes.items) passes.items }
+    requires room { length lent.old.items + length passes.items ≤ vec_capacity lent.old }
+{
+    for pass in passes {
+        lent.push_reserved(LentPass::new(pass));
+    }
+}
+
+/// Allocates the parts beside the line of a server, with room for this many seats. The pace takes the limits.
+pub(crate) fn allocate<R, S, B>(
     rt: &R,
-    service: Service<S, H, P>,
-) -> Result<Rooms<S, H, P>, ServeFault>
+    numbers: &ServerNumbers,
+    limits: Limits,
+    own_stores: Vec<S>,
+    passes: Vec<BoardPass<u32>>,
+    seats: usize,
+) -> Result<Allocated<S, B>, ServeFault>
 where
     R: RoundClock + AllocGlobal,
     S: Store<Global> + Drop,
-    H: Drop,
-    P: Drop,
-    ensures new { IfOk result (λ r. IsPacedFrom (tick_of r.begun) service.limits r.pace) }
-    ensures when { IfOk result (λ r. R.when r.begun ≡ true) }
+    B: PartsName,
+    requires passes { AreNewPasses B.board (length passes.items) passes.items }
+    ensures new { IfOk result (λ a. IsPacedFrom (tick_of a.begun) limits a.pace) }
+    ensures when { IfOk result (λ a. R.when a.begun ≡ true) }
+    ensures room { IfOk result (λ a. HasRoom seats a.seats) }
 {
     let alloc = rt.alloc();
-    let Service {
-        terms,
-        numbers,
-        limits,
-        store,
-        own_stores,
-        handler,
-        signs,
-        patience,
-    } = service;
     let most = usize::from(numbers.max_cons);
     let floors = Floors::of(alloc, &limits)?;
-    let ports = new_ports(alloc, &numbers)?;
+    let ports = new_ports(alloc, numbers)?;
     let registry = Registry::new(alloc, most, usize::from(numbers.max_cons_per_address))?;
     let own_stores = locked(alloc, own_stores)?;
     let arrivals = new_arrivals(alloc, most)?;
@@ -164,15 +171,14 @@ where
     let cadence = new_cadence(alloc, &limits)?;
     let begun = rt.moment();
     let pace = Pace::of(alloc, limits, begun)?;
-    Ok(Rooms {
-        terms: SharedTerms::new(terms),
-        numbers,
-        store,
+    let mut lent = Vec::with_capacity(alloc, passes.len())?;
+    lend_passes::<B, u32>(passes, &mut lent);
+    let Some(pass) = lent.pop() else {
+        return Err(ServeFault::NoThread);
+    };
+    Ok(Allocated {
         own_stores,
         arrivals,
-        handler,
-        signs,
-        patience,
         floors,
         ports,
         registry,
@@ -181,6 +187,9 @@ where
         pace,
         cadence,
         begun,
+        pass,
+        passes: lent,
+        seats: LentSeats::open(alloc, seats)?,
     })
 }
 

@@ -6,14 +6,13 @@ ghost use Rattle.rate_floors.specs.Carried.{carried};
 ghost use Rattle.round_pace.specs.Changed.{IsChangedTo};
 
 use crate::opening::new_cadence;
-use lane_rounds::TalliedRounds;
-use lent_parts::PartsName;
+use lent_parts::{LentRounds, PartsName};
 use line_rates::Limits;
 use passive_ports::{LimitFault, Registry};
 use rate_floors::{CarryFault, Floors};
 use server_house::{House, ServerHooks, Terms};
 use std::alloc::{AllocError, Global};
-use std::sync::{Arc, Mutex, Wait};
+use std::sync::{Arc, Wait};
 use thiserror::Error;
 use virtual_tree::Store;
 
@@ -67,7 +66,7 @@ fn put_in_force<B: PartsName>(
     alloc: Global,
     registry: &mut Registry,
     floors: &mut Floors,
-    paced: &mut TalliedRounds<B, ()>,
+    rounds: &mut LentRounds<B>,
     counts: Counts,
     limits: Limits,
 ) -> Result<(), ReloadFault>
@@ -75,12 +74,12 @@ fn put_in_force<B: PartsName>(
     ensures registry { OnOk result
         (registry.new ≡ with_limits registry.old counts.max counts.max_of_address) }
     ensures floors { OnOk result (carried floors.old limits ≡ Ok floors.new) }
-    ensures pace { OnOk result (IsChangedTo limits paced.old.rounds.rounds.pace
-        paced.new.rounds.rounds.pace) }
+    ensures pace { OnOk result (IsChangedTo limits rounds.old.rounds.pace
+        rounds.new.rounds.pace) }
     ensures same_registry { OnErr result (registry.new ≡ registry.old) }
     ensures same_floors { OnErr result (floors.new ≡ floors.old) }
     ensures same_pace { OnErr result
-        (paced.new.rounds.rounds.pace ≡ paced.old.rounds.rounds.pace) }
+        (rounds.new.rounds.pace ≡ rounds.old.rounds.pace) }
 {
     let Counts {
         max,
@@ -97,7 +96,7 @@ fn put_in_force<B: PartsName>(
     let Ok(cadence) = new_cadence(alloc, &limits) else {
         return Err(ReloadFault::Memory);
     };
-    match paced.change(alloc, limits, cadence) {
+    match rounds.change(alloc, limits, cadence) {
         Ok(()) => {
             registry.set_limits(max, max_of_address);
             *floors = carried;
@@ -113,7 +112,6 @@ pub(crate) fn take<R, S, H, B>(
     rt: &R,
     alloc: Global,
     house: &House<S, H, B>,
-    paced: &Mutex<TalliedRounds<B, ()>>,
     reload: Reload,
 ) -> Result<(), ReloadFault>
 where
@@ -135,12 +133,12 @@ where
     };
     let mut registry = house.registry.lock(rt);
     let mut floors = house.floors.lock(rt);
-    let mut paced = paced.lock(rt);
+    let mut rounds = house.rounds.lock(rt);
     put_in_force(
         alloc,
         &mut *registry,
         &mut *floors,
-        &mut *paced,
+        &mut *rounds,
         counts,
         limits,
     )?;

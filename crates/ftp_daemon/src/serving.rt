@@ -1,186 +1,36 @@
 //! A server, from its listener to its settlement.
 
-ghost use Rattle.std.specs.Prelude.{◌≡◌, ◌≢◌, ◌+◌, ◌*◌, ◌≤◌, ℕ, true, IfOk, length, vec_capacity};
-ghost use Rattle.std.specs.Thread.{IsSend, IsSync};
+ghost use Rattle.std.specs.Prelude.{◌≡◌, ◌≢◌, ◌+◌, ◌*◌, ◌≤◌, ℕ, true, IfOk, length};
 ghost use Rattle.lane_rounds.specs.Clocks.{IsTestOf};
 ghost use Rattle.lent_parts.specs.Names.{IsBoardOf, IsNamed};
 ghost use Rattle.line_rates.specs.Rates.{Rates};
 ghost use Rattle.paced_rounds.specs.Seconds.{AreInSeconds, HasKept};
-ghost use Rattle.round_pace.specs.Earned.{tick_of};
-ghost use Rattle.round_pace.specs.Histories.{rates_of};
-ghost use Rattle.round_pace.specs.Paced.{IsPacedFrom};
 ghost use Rattle.transfer_worker.specs.Boards.{AreNewPasses};
 ghost use Rattle.ftp_daemon.specs.SameRates.{Permits, may_hold};
 
-use crate::lanes::{run_threads, serve_clients};
 use crate::listening::{listen_on, warn_of_descriptors};
-use crate::opening::{Line, Rooms, Service, open_line, open_rooms};
-use crate::settling::{Room, settle_served, settle_unlent};
-use crate::watching::{OwnerSigns, is_up, wants_looks};
-use crate::works::{LentLine, Lists, Works, lend_line, lend_passes, new_lists};
-use event_word::{EventCount, SharedEventCount};
+use crate::opening::{Line, Service, open_line};
+use crate::server::Server;
+use crate::watching::{OwnerSigns, is_up};
 use ftpd_program::ServeFault;
 use grant_ledger::Settled;
 use lane_rounds::RoundClock;
-use lent_parts::{LentBoard, LentPass, PartsName};
+use lent_parts::PartsName;
 use paced_rounds::seconds_are_kept;
 use recorded_store::Recorder;
-use round_cadence::Cadence;
-use round_pace::{Pace, histories_keep_rates};
-use server_house::{House, ServerHooks, ServerRuntime, ServerShutdown};
-use std::alloc::{AllocError, Global};
+use server_house::{ServerHooks, ServerRuntime};
+use std::alloc::Global;
 use std::marker::Brand;
 use std::net::TcpListener;
-use std::sync::Mutex;
 use std::thread::Threads;
 use text_io::TextWriter;
 use transfer_worker::{BoardPass, JobBoard, open_board};
 use virtual_tree::Store;
 
-// The parts that the threads share, with the board; also the pace, and what the owner sees to.
-fn furnish<S: Store<Global>, H: Drop, B: PartsName, P: Drop>(
-    rooms: Rooms<S, H, P>,
-    board: LentBoard<B, u32>,
-    pass: LentPass<B, u32>,
-) -> (House<S, H, B>, Pace, Cadence, Option<P>)
-    ensures pace { result.1 ≡ rooms.pace }
-{
-    let Rooms {
-        terms,
-        numbers,
-        store,
-        own_stores,
-        arrivals,
-        handler,
-        signs,
-        patience,
-        floors,
-        ports,
-        registry,
-        tickets,
-        lanes,
-        pace,
-        cadence,
-        begun: _,
-    } = rooms;
-    let house = House {
-        terms,
-        numbers,
-        patience,
-        store: Mutex::new(store),
-        own_stores,
-        arrivals,
-        floors: Mutex::new(floors),
-        handler: Mutex::new(handler),
-        ports: Mutex::new(ports),
-        registry: Mutex::new(registry),
-        board,
-        pass: Mutex::new(pass),
-        jobs: SharedEventCount::new(),
-        tickets,
-        lanes,
-        waker: EventCount::new(),
-        ending: ServerShutdown::new(),
-    };
-    (house, pace, cadence, signs)
-}
-
-// Serves with the shared parts, and settles.
-fn serve_works<R, S, H, B, P, W>(
-    works: Works<R, S, H, B, P>,
-    room: Room<B>,
-    listener: TcpListener,
-    writer: &mut W,
-) -> (Settled, Result<(), ServeFault>)
-where
-    R: Threads + ServerRuntime + RoundClock + Copy + Send + Sync,
-    S: Store<Global> + Recorder + Send + Drop,
-    S::Source: Send,
-    S::Sink: Send,
-    H: ServerHooks + Send,
-    B: PartsName + Send + Sync + 'static,
-    P: OwnerSigns + Send + Sync + Drop,
-    W: TextWriter,
-    requires gathered { length works.lent.workers.items ≤ vec_capacity room.gathered }
-    requires worked { length works.lent.workers.items ≤ vec_capacity room.worked }
-    ensures sum { result.0.issued ≡ result.0.moved + result.0.back }
-    ensures kept { HasKept B.rates B.when B.carried result.0.issued }
-{
-    let rt = works.rt;
-    let house = &works.house;
-    let (own, crew) = (&rt, &works);
-    let served = run_threads(
-        own,
-        crew,
-        || -> Result<(), ServeFault>
-            requires { IsSync R.row × IsSend R.row × IsSend S.row × IsSend S.Source.row
-                × IsSend S.Sink.row × IsSend H.row × IsSync P.row × IsSend P.row }
-        { serve_clients(own, house, crew, listener, writer) },
-    );
-    let Works {
-        rt: _,
-        house: _,
-        passes: _,
-        lent,
-        signs: _,
-    } = works;
-    (settle_served(&rt, lent, room), served)
-}
-
-// Serves with what is lent of a line and of a board.
-fn serve_lent<R, S, H, B, P, W>(
-    rt: &R,
-    rooms: Rooms<S, H, P>,
-    board: LentBoard<B, u32>,
-    mut passes: Vec<LentPass<B, u32>>,
-    line: LentLine<B>,
-    listener: TcpListener,
-    writer: &mut W,
-) -> (Settled, Result<(), ServeFault>)
-where
-    R: Threads + ServerRuntime + RoundClock + Copy + Send + Sync,
-    S: Store<Global> + Recorder + Send + Drop,
-    S::Source: Send,
-    S::Sink: Send,
-    H: ServerHooks + Send,
-    B: PartsName + Send + Sync + 'static,
-    P: OwnerSigns + Send + Sync + Drop,
-    W: TextWriter,
-    requires new { (rates : Rates) × IsPacedFrom (tick_of rooms.begun) rates rooms.pace }
-    requires rated { B.rates (rates_of rooms.pace) ≡ true }
-    requires owner { Permits P.allows B.rates }
-    requires when { B.when rooms.begun ≡ true }
-    requires clock { IsTestOf R.when B.when }
-    ensures sum { result.0.issued ≡ result.0.moved + result.0.back }
-    ensures kept { HasKept B.rates B.when B.carried result.0.issued }
-{
-    let begun = rooms.begun;
-    match passes.pop() {
-        Some(pass) => {
-            let (house, pace, cadence, signs) = furnish(rooms, board, pass);
-            let is_watched = wants_looks(&signs);
-            let (lent, room) = line.paced(pace, cadence, begun, is_watched);
-            let works = Works {
-                rt: *rt,
-                house,
-                passes: Mutex::new(passes),
-                lent,
-                signs,
-            };
-            serve_works(works, room, listener, writer)
-        }
-        None => {
-            let Rooms { pace, cadence, .. } = rooms;
-            let (lent, room) = line.paced(pace, cadence, begun, false);
-            (settle_served(rt, lent, room), Err(ServeFault::NoThread))
-        }
-    }
-}
-
 /// Serves with a desk and a board of this name. Returns the settled book, and whether clients were served.
 fn serve_named<R, S, H, B, P, W>(
     rt: &R,
-    rooms: Rooms<S, H, P>,
+    service: Service<S, H, P>,
     board: JobBoard<u32>,
     passes: Vec<BoardPass<u32>>,
     line: Line,
@@ -199,27 +49,18 @@ where
     requires desk { IsNamed B.desk B.lanes line.desk }
     requires board { IsBoardOf B.board board }
     requires passes { AreNewPasses B.board (length passes.items) passes.items }
-    requires new { (rates : Rates) × IsPacedFrom (tick_of rooms.begun) rates rooms.pace }
-    requires rated { B.rates (rates_of rooms.pace) ≡ true }
+    requires rated { B.rates service.limits ≡ true }
     requires owner { Permits P.allows B.rates }
-    requires when { B.when rooms.begun ≡ true }
     requires clock { IsTestOf R.when B.when }
     requires carried { line.book.issued ≡ B.carried }
     ensures sum { result.0.issued ≡ result.0.moved + result.0.back }
     ensures kept { HasKept B.rates B.when B.carried result.0.issued }
 {
-    match new_lists::<B, u32>(rt.alloc(), line.seats.len(), passes.len()) {
-        Err(AllocError) => (settle_unlent(line), Err(ServeFault::Memory)),
-        Ok(lists) => {
-            let Lists {
-                workers,
-                gathered,
-                passes: mut lent_passes,
-            } = lists;
-            lend_passes(passes, &mut lent_passes);
-            let board = LentBoard::new(board);
-            let line = lend_line(line, workers, gathered);
-            serve_lent(rt, rooms, board, lent_passes, line, listener, writer)
+    match Server::<R, S, H, B, P>::open(rt, service, board, passes, line) {
+        Err((settled, fault)) => (settled, Err(fault)),
+        Ok(server) => {
+            let served = server.run(listener, writer);
+            (server.settle(), served)
         }
     }
 }
@@ -273,7 +114,6 @@ where
         → ((rates : Rates) → P.allows rates ≡ true → rates.server ≡ service.limits.server)
         → settled.issued ≤ count * service.limits.server) }
 {
-    histories_keep_rates();
     seconds_are_kept();
     if is_up(&service.signs) {
         return Err(ServeFault::Stopped);
@@ -282,7 +122,6 @@ where
     let mut service = service;
     let listener = listen_on(rt, &numbers, &mut service.handler)?;
     warn_of_descriptors(&numbers, &mut service.handler);
-    let rooms = open_rooms(rt, service)?;
     let lanes = usize::from(numbers.lanes);
     let Ok((board, passes)) = open_board(rt.alloc(), usize::from(numbers.max_cons), lanes + 1)
     else {
@@ -290,7 +129,7 @@ where
     };
     let line = open_line(rt.alloc(), lanes)?;
     let (settled, served) = serve_named::<R, S, H, Brand, P, W>(
-        rt, rooms, board, passes, line, listener, writer,
+        rt, service, board, passes, line, listener, writer,
     );
     served?;
     report_settled(rt.alloc(), &settled, writer)?;

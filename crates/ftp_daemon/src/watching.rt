@@ -9,7 +9,7 @@ use crate::draining::{Due, next_due};
 use crate::reloading::{ReloadFault, ReloadSign, take};
 use event_word::{has_passed, micros};
 use grant_ledger::MAX_LANES;
-use lane_rounds::{TalliedRounds, look};
+use lane_rounds::look;
 use lent_parts::PartsName;
 use round_tally::Tallies;
 use server_house::{
@@ -18,7 +18,7 @@ use server_house::{
 };
 use std::alloc::Global;
 use std::net::{Net, TcpListener, TcpStream};
-use std::sync::{Mutex, Wait};
+use std::sync::Wait;
 use std::thread;
 use std::time::{Clock, Duration};
 use virtual_tree::Store;
@@ -102,14 +102,14 @@ fn lanes_of(signs: &[LaneSign], tallies: &Tallies) -> [LaneLook; MAX_LANES] {
 }
 
 // Shows the handler what goes on, if no round is in the way.
-fn show<R, S, H, B>(rt: &R, house: &House<S, H, B>, paced: &Mutex<TalliedRounds<B, ()>>)
+fn show<R, S, H, B>(rt: &R, house: &House<S, H, B>)
 where
     R: Wait + Clock,
     S: Store<Global>,
     H: ServerHooks,
     B: PartsName,
 {
-    let Some(look) = look(rt, house, paced) else {
+    let Some(look) = look(rt, house) else {
         return;
     };
     let lanes = lanes_of(&house.lanes, &look.tallies);
@@ -167,12 +167,7 @@ where
 }
 
 // Takes the configuration of a sign, if there is one, and tells the handler what came of it.
-fn reload<R, S, H, B, P>(
-    rt: &R,
-    house: &House<S, H, B>,
-    paced: &Mutex<TalliedRounds<B, ()>>,
-    signs: &P,
-)
+fn reload<R, S, H, B, P>(rt: &R, house: &House<S, H, B>, signs: &P)
 where
     R: Wait + AllocGlobal,
     S: Store<Global>,
@@ -184,7 +179,7 @@ where
     let outcome = match signs.reload() {
         ReloadSign::Nothing => return,
         ReloadSign::Refused(reason) => Err(reason),
-        ReloadSign::Asked(reload) => match take(rt, rt.alloc(), house, paced, reload) {
+        ReloadSign::Asked(reload) => match take(rt, rt.alloc(), house, reload) {
             Ok(()) => Ok(()),
             Err(fault) => Err(signs.refused(fault)),
         },
@@ -202,12 +197,7 @@ where
 
 /// Checks the signs until the sessions are to end, and shows the handler what goes on, if that is wanted. Drains the
 /// server, or ends its sessions, as is due.
-pub(crate) fn watch<R, S, H, B, P>(
-    rt: &R,
-    house: &House<S, H, B>,
-    paced: &Mutex<TalliedRounds<B, ()>>,
-    signs: &P,
-)
+pub(crate) fn watch<R, S, H, B, P>(rt: &R, house: &House<S, H, B>, signs: &P)
 where
     R: ServerRuntime,
     S: Store<Global>,
@@ -239,10 +229,10 @@ where
         if begin(rt, house, next, clients) {
             return;
         }
-        reload(rt, house, paced, signs);
+        reload(rt, house, signs);
         if signs.wants_looks() && has_passed(shown, now, SECOND) {
             shown = shown.saturating_add(SECOND);
-            show(rt, house, paced);
+            show(rt, house);
             signs.looked();
         }
         thread::sleep(rt, Duration::from_millis(LOOK));

@@ -10,15 +10,14 @@ ghost use Rattle.transfer_worker.specs.Transfers.{IsUploadWant};
 use crate::asking::{UploadLooks, want_of};
 use crate::clock::RoundClock;
 use crate::ends::{report_of, reported_of};
-use crate::paced::TalliedRounds;
 use crate::rounds::help;
 use data_sockets::{DataConnection, Served};
-use lent_parts::{LentDesk, PartsName};
+use lent_parts::PartsName;
 use round_cadence::{WORTH, WORTH_UP};
 use server_house::{House, LaneEnds, LaneSign, SessionEnd, SessionJob};
 use session_table::End;
 use std::alloc::Global;
-use std::sync::{Mutex, Wait};
+use std::sync::Wait;
 use std::time::{Clock, Duration};
 use std::{mem, thread};
 use transfer_ticket::TicketRun;
@@ -45,21 +44,9 @@ const GATHER: u64 = 8_000;
 /// The gate of a lane for one transfer. It waits for answers, and holds rounds. It stops the transfer before an ask once
 /// its session wants it to end, or rounds are refused to it: the lane is free then for the next. It cannot be dropped:
 /// it reports the end of its transfer.
-pub(crate) struct LaneGate<
-    'r,
-    'h,
-    'd,
-    't,
-    R: RoundClock,
-    S: Store<Global>,
-    H: Drop,
-    B: PartsName,
-    N,
-> {
+pub(crate) struct LaneGate<'r, 'h, R: RoundClock, S: Store<Global>, H: Drop, B: PartsName> {
     rt: &'r R,
     house: &'h House<S, H, B>,
-    desk: &'d LentDesk<B, N>,
-    paced: &'t Mutex<TalliedRounds<B, N>>,
     lane: usize,
     run: TicketRun<'h, SessionJob<S>, SessionEnd<S>, LaneEnds>,
     is_upload: bool,
@@ -87,7 +74,7 @@ pub(crate) struct LaneGate<
     ghost stops: { (not has_stopped || has_seen (run_view run)) ≡ true },
 }
 
-impl<'r, 'h, 'd, 't, R, S, H, B, N> LaneGate<'r, 'h, 'd, 't, R, S, H, B, N>
+impl<'r, 'h, R, S, H, B> LaneGate<'r, 'h, R, S, H, B>
 where
     R: Wait + Clock + RoundClock + AllocGlobal,
     S: Store<Global>,
@@ -98,8 +85,6 @@ where
     pub(crate) fn new(
         rt: &'r R,
         house: &'h House<S, H, B>,
-        desk: &'d LentDesk<B, N>,
-        paced: &'t Mutex<TalliedRounds<B, N>>,
         lane: usize,
         run: TicketRun<'h, SessionJob<S>, SessionEnd<S>, LaneEnds>,
         is_upload: bool,
@@ -111,8 +96,6 @@ where
         LaneGate {
             rt,
             house,
-            desk,
-            paced,
             lane,
             run,
             is_upload,
@@ -164,8 +147,6 @@ where
         let LaneGate {
             rt: _,
             house: _,
-            desk: _,
-            paced: _,
             lane: _,
             run,
             is_upload,
@@ -225,14 +206,7 @@ where
             return;
         }
         let now = self.rt.moment();
-        let due = help(
-            self.rt.alloc(),
-            self.house,
-            self.desk,
-            self.paced,
-            sign,
-            now,
-        );
+        let due = help(self.rt.alloc(), self.house, sign, now);
         let limit = match due {
             Some(moment) => Duration::from_micros(moment.saturating_sub(now)),
             None => Duration::from_millis(BACKSTOP),
@@ -278,9 +252,8 @@ fn answer(is_before_ask: bool, is_to_stop: bool, is_starved: bool) -> Go
     Go::On
 }
 
-impl<'r, 'h, 'd, 't, R, S, H, B, N> Gate<
-    Ran<Served<Global, S::Source>, S::Sink, DataConnection, Global>,
-> for LaneGate<'r, 'h, 'd, 't, R, S, H, B, N>
+impl<'r, 'h, R, S, H, B> Gate<Ran<Served<Global, S::Source>, S::Sink, DataConnection, Global>>
+    for LaneGate<'r, 'h, R, S, H, B>
 where
     R: Wait + Clock + RoundClock + AllocGlobal,
     S: Store<Global>,

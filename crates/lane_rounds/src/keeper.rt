@@ -3,12 +3,11 @@
 ghost use Rattle.lane_rounds.specs.Clocks.{IsTestOf};
 
 use crate::clock::RoundClock;
-use crate::paced::TalliedRounds;
 use crate::rounds::try_one;
-use lent_parts::{LentDesk, PartsName};
+use lent_parts::PartsName;
 use server_house::{House, ShutdownStage};
 use std::alloc::Global;
-use std::sync::{Mutex, Wait};
+use std::sync::Wait;
 use std::time::{Clock, Duration};
 use virtual_tree::Store;
 
@@ -17,12 +16,7 @@ use virtual_tree::Store;
 const BACKSTOP: u64 = 200;
 
 /// Holds rounds when no lane does, until the lanes are to end. The moments of the clock pass the test of the name.
-pub fn keep_rounds<R, S, H, B, N>(
-    rt: &R,
-    house: &House<S, H, B>,
-    desk: &LentDesk<B, N>,
-    paced: &Mutex<TalliedRounds<B, N>>,
-)
+pub fn keep_rounds<R, S, H, B>(rt: &R, house: &House<S, H, B>)
 where
     R: Wait + Clock + RoundClock + AllocGlobal,
     S: Store<Global>,
@@ -36,7 +30,7 @@ where
             return;
         }
         let now = rt.moment();
-        let _ = try_one(rt.alloc(), house, desk, paced, None, now);
+        let _ = try_one(rt.alloc(), house, None, now);
         house
             .waker
             .wait(rt, seen, 0, Duration::from_millis(BACKSTOP));

@@ -10,14 +10,13 @@ ghost use Rattle.server_house.specs.Tickets.{is_upload};
 use crate::asking::UploadLooks;
 use crate::clock::RoundClock;
 use crate::gate::LaneGate;
-use crate::paced::TalliedRounds;
 use data_sockets::DataConnection;
-use lent_parts::{LentDesk, LentPass, LentWorker, PartsName};
+use lent_parts::{LentPass, LentWorker, PartsName};
 use line_rates::Way;
 use server_house::{House, LaneSign, SessionTicket, ShutdownStage};
 use std::alloc::Global;
 use std::io::{Read, Write};
-use std::sync::{Mutex, Wait};
+use std::sync::Wait;
 use std::time::{Clock, Duration};
 use transfer_ticket::TicketRun;
 use transfer_worker::LaneJob;
@@ -62,12 +61,10 @@ fn sign<R: Source, K: Sink, C: Read + Write + Drop>(sign: &LaneSign, job: &LaneJ
 }
 
 /// Runs the transfer that waits on a ticket to its end, and reports that; nothing if it was taken back.
-pub(crate) fn run_transfer<'h, R, S, H, B, N>(
+pub(crate) fn run_transfer<'h, R, S, H, B>(
     rt: &R,
     house: &'h House<S, H, B>,
-    desk: &LentDesk<B, N>,
-    paced: &Mutex<TalliedRounds<B, N>>,
-    worker: &mut LentWorker<B, N>,
+    worker: &mut LentWorker<B>,
     ticket: &'h SessionTicket<S>,
 )
 where
@@ -86,10 +83,10 @@ where
         Some(own) => sign(own, &job),
         None => {}
     }
-    let mut gate = LaneGate::new(rt, house, desk, paced, lane, run, is_upload(&job));
+    let mut gate = LaneGate::new(rt, house, lane, run, is_upload(&job));
     gate.set_looks(looks_of(rt.alloc(), &job));
     let before = worker.moved();
-    worker.work(rt, rt.alloc(), desk, job, &mut gate);
+    worker.work(rt, rt.alloc(), &house.desk, job, &mut gate);
     gate.report(worker.moved().saturating_sub(before));
     match house.lanes.get(lane) {
         Some(own) => own.set_session(None),
@@ -98,12 +95,10 @@ where
 }
 
 // Runs the transfer of the next ticket whose number is on the board. Returns whether there was a number.
-fn run_next<R, S, H, B, N>(
+fn run_next<R, S, H, B>(
     rt: &R,
     house: &House<S, H, B>,
-    desk: &LentDesk<B, N>,
-    paced: &Mutex<TalliedRounds<B, N>>,
-    worker: &mut LentWorker<B, N>,
+    worker: &mut LentWorker<B>,
     pass: &mut LentPass<B, u32>,
 ) -> bool
 where
@@ -117,7 +112,7 @@ where
     match house.board.pop(rt, pass) {
         Some(number) => {
             match (&*house).tickets.get(number as usize) {
-                Some(ticket) => run_transfer(rt, &*house, desk, paced, worker, ticket),
+                Some(ticket) => run_transfer(rt, &*house, worker, ticket),
                 None => {}
             }
             true
@@ -132,12 +127,10 @@ where
 /// The moments of the clock pass the test of the name.
 ///
 /// [`run_here`]: crate::run_here
-pub fn work_lane<R, S, H, B, N>(
+pub fn work_lane<R, S, H, B>(
     rt: &R,
     house: &House<S, H, B>,
-    desk: &LentDesk<B, N>,
-    paced: &Mutex<TalliedRounds<B, N>>,
-    seat: &Mutex<LentWorker<B, N>>,
+    seat: &Mutex<LentWorker<B>>,
     mut pass: LentPass<B, u32>,
 )
 where
@@ -153,7 +146,7 @@ where
         if !worker.is_free() {
             return;
         }
-        let has_run = run_next(rt, house, desk, paced, &mut *worker, &mut pass);
+        let has_run = run_next(rt, house, &mut *worker, &mut pass);
         drop(worker);
         if !has_run {
             if house.ending.has_begun(ShutdownStage::Lanes) {

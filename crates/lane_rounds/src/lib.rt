@@ -1,7 +1,7 @@
 //! The lanes of a server, and the rounds that they hold for each other.
 //!
 //! A lane takes transfers from the board and runs each to its end ([`work_lane`]). If its ask is not answered yet, it
-//! tries the lock of the [`TalliedRounds`] and holds a round itself, for all lanes that have asked and whose transfers'
+//! tries the lock of the house's rounds and holds a round itself, for all lanes that have asked and whose transfers'
 //! rows are open; nobody waits for that lock. If another thread has the lock, that thread looks at the `waker` after it
 //! has released the lock, and the lane looks again a tick later, so no ask is missed.
 //! A session may run a short download itself, at the seat of a lane that runs none ([`run_here`]).
@@ -12,19 +12,16 @@
 
 mod asking;
 mod clock;
-mod counting;
 mod ends;
 mod gate;
 mod keeper;
 mod lane;
 mod looking;
 mod own_run;
-mod paced;
 mod rounds;
 
 pub use clock::RoundClock;
 pub use keeper::keep_rounds;
 pub use lane::work_lane;
-pub use looking::{RoundLook, look};
+pub use looking::look;
 pub use own_run::run_here;
-pub use paced::TalliedRounds;

@@ -1,15 +1,10 @@
 //! A look at what rounds have granted.
 
-ghost use Rattle.std.specs.Prelude.{◌≡◌, ◌+◌};
-ghost use Rattle.round_tally.specs.Counts.{tallied};
-
-use crate::paced::TalliedRounds;
 use grant_ledger::MAX_LANES;
-use lent_parts::PartsName;
-use round_tally::Tallies;
+use lent_parts::{PartsName, RoundLook};
 use server_house::{House, LaneSign};
 use std::alloc::Global;
-use std::sync::{Mutex, Wait};
+use std::sync::Wait;
 use std::thread;
 use std::time::{Clock, Duration};
 use virtual_tree::Store;
@@ -19,18 +14,6 @@ const TRIES: usize = 50;
 
 /// The time between two tries, in microseconds.
 const PAUSE: u64 = 500;
-
-/// The octets that rounds have granted to the transfers that run, and to those that have ended: together all that were
-/// issued, but for those issued before the server began.
-#[derive(Drop)]
-pub struct RoundLook {
-    pub tallies: Tallies,
-    /// The octets issued so far.
-    pub issued: u64,
-    /// The octets issued before.
-    pub before: u64,
-    ghost counted: { issued ≡ tallied tallies + before },
-}
 
 // The number of the transfer that each lane runs; 0 for none.
 fn running_on(lanes: &[LaneSign]) -> [u64; MAX_LANES] {
@@ -46,11 +29,7 @@ fn running_on(lanes: &[LaneSign]) -> [u64; MAX_LANES] {
 
 /// Looks at the rounds, if nobody holds one at one of several tries. The lock of the rounds is only tried, here too: who
 /// could not get it meanwhile relies on the waker, which is raised.
-pub fn look<R, S, H, B, N>(
-    rt: &R,
-    house: &House<S, H, B>,
-    paced: &Mutex<TalliedRounds<B, N>>,
-) -> Option<RoundLook>
+pub fn look<R, S, H, B>(rt: &R, house: &House<S, H, B>) -> Option<RoundLook>
 where
     R: Wait + Clock,
     S: Store<Global>,
@@ -59,7 +38,7 @@ where
 {
     for _ in 0..TRIES {
         let running = running_on(&house.lanes);
-        if let Some(guard) = paced.try_lock() {
+        if let Some(guard) = house.rounds.try_lock() {
             let look = guard.look(&running);
             drop(guard);
             house.waker.signal();

@@ -5,23 +5,24 @@ ghost use Rattle.lane_rounds.specs.Clocks.{IsTestOf};
 
 use crate::clock::RoundClock;
 use crate::lane::run_transfer;
-use crate::paced::TalliedRounds;
-use lent_parts::{LentDesk, LentWorker, PartsName};
+use lent_parts::PartsName;
 use line_rates::Way;
 use server_house::House;
 use std::alloc::Global;
-use std::sync::{Mutex, Wait};
+use std::sync::Wait;
 use std::time::Clock;
 use virtual_tree::Store;
 
 // Returns whether a round that is held now would grant a user's download all that it asks for, if nobody holds one.
-fn has_plenty<R, B, N>(rt: &R, paced: &Mutex<TalliedRounds<B, N>>, user: u32) -> bool
+fn has_plenty<R, S, H, B>(rt: &R, house: &House<S, H, B>, user: u32) -> bool
 where
     R: RoundClock,
+    S: Store<Global>,
+    H: Drop,
     B: PartsName,
 {
-    match paced.try_lock() {
-        Some(guard) => guard.rounds.has_plenty(Way::Down, user, rt.moment()),
+    match house.rounds.try_lock() {
+        Some(rounds) => rounds.has_plenty(Way::Down, user, rt.moment()),
         None => false,
     }
 }
@@ -30,15 +31,7 @@ where
 /// that runs none: so no other thread is woken for it, and none wakes this one. Returns false, and leaves it to the lanes,
 /// if no seat is free, or a rate of its user may hold it back: the thread reads nothing of its client meanwhile. The
 /// number must not be on the board. The moments of the clock pass the test of the name.
-pub fn run_here<R, S, H, B, N>(
-    rt: &R,
-    house: &House<S, H, B>,
-    desk: &LentDesk<B, N>,
-    paced: &Mutex<TalliedRounds<B, N>>,
-    seats: &[Mutex<LentWorker<B, N>>],
-    number: u32,
-    user: u32,
-) -> bool
+pub fn run_here<R, S, H, B>(rt: &R, house: &House<S, H, B>, number: u32, user: u32) -> bool
 where
     R: Wait + Clock + RoundClock + AllocGlobal,
     S: Store<Global>,
@@ -49,14 +42,16 @@ where
     let Some(ticket) = house.tickets.get(number as usize) else {
         return false;
     };
-    if !has_plenty(rt, paced, user) {
+    if !has_plenty(rt, house, user) {
         return false;
     }
-    for seat in seats {
-        if let Some(mut worker) = seat.try_lock() {
-            if worker.is_free() {
-                run_transfer(rt, house, desk, paced, &mut *worker, ticket);
-                return true;
+    for lane in 0..house.seats.count() {
+        if let Some(seat) = house.seats.seat(lane) {
+            if let Some(mut worker) = seat.try_lock() {
+                if worker.is_free() {
+                    run_transfer(rt, house, &mut *worker, ticket);
+                    return true;
+                }
             }
         }
     }

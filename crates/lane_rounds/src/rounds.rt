@@ -3,14 +3,12 @@
 ghost use Rattle.std.specs.Prelude.{◌≡◌, true};
 ghost use Rattle.lane_rounds.specs.Dues.{sooner};
 
-use crate::paced::TalliedRounds;
 use grant_ledger::MAX_LANES;
 use lane_desk::RoundRecord;
-use lent_parts::{LentDesk, LentRounds, PartsName};
+use lent_parts::{LentRounds, PartsName};
 use round_pace::{Due, TICK_MICROS};
 use server_house::{House, LaneSign};
 use std::alloc::Global;
-use std::sync::Mutex;
 use virtual_tree::Store;
 
 /// Most rounds in a row that a lane holds for others.
@@ -41,9 +39,9 @@ fn wake_lanes(lanes: &[LaneSign], answered: u64, is_refused: bool) {
 // The lanes that a round is of: those with a transfer whose rows are open, or which is to stop. The ask of one that is to
 // stop is answered too, so that its lane can leave it. A lane without a transfer is not tried. The signs are hints, as for
 // `due_by`: a lane whose sign is stale is left out, or asked too early, in one round.
-fn open_lanes<S: Store<Global>, H: Drop, B: PartsName, N>(
+fn open_lanes<S: Store<Global>, H: Drop, B: PartsName>(
     house: &House<S, H, B>,
-    rounds: &LentRounds<B, N>,
+    rounds: &LentRounds<B>,
     now: u64,
 ) -> [bool; MAX_LANES] {
     let mut given = [false; MAX_LANES];
@@ -77,18 +75,17 @@ fn report_wholes(lanes: &[LaneSign], record: &RoundRecord) {
 }
 
 // Holds one round of the lanes whose transfers' rows are open. A refused one has answered each lane too, with 0 octets.
-fn hold_one<S: Store<Global>, H: Drop, B: PartsName, N>(
+fn hold_one<S: Store<Global>, H: Drop, B: PartsName>(
     alloc: Global,
     house: &House<S, H, B>,
-    desk: &LentDesk<B, N>,
-    paced: &mut TalliedRounds<B, N>,
+    rounds: &mut LentRounds<B>,
     now: u64,
 )
     requires when { B.when now ≡ true }
 {
-    let given = open_lanes(house, &paced.rounds, now);
+    let given = open_lanes(house, &*rounds, now);
     let transfers = transfers_of(&house.lanes);
-    match paced.hold(alloc, desk, now, &given, &transfers) {
+    match rounds.hold(alloc, &house.desk, now, &given, &transfers) {
         Ok(record) => {
             report_wholes(&house.lanes, &record);
             wake_lanes(&house.lanes, record.answered, false);
@@ -110,9 +107,9 @@ fn sooner(one: Due, other: Due) -> Due
 // The earliest moment of a round for the worker of a lane: at once, if its transfer is to stop, and never without a
 // transfer. The lane's sign is a hint: it may have the name of the worker's next transfer by now, and then a round is
 // held too early or too late for this one.
-fn due_at<S: Store<Global>, H: Drop, B: PartsName, N>(
+fn due_at<S: Store<Global>, H: Drop, B: PartsName>(
     house: &House<S, H, B>,
-    rounds: &LentRounds<B, N>,
+    rounds: &LentRounds<B>,
     sign: &LaneSign,
     now: u64,
 ) -> Due {
@@ -126,9 +123,9 @@ fn due_at<S: Store<Global>, H: Drop, B: PartsName, N>(
 }
 
 // The earliest moment of a round for the worker of a lane, or for that of any.
-fn due_by<S: Store<Global>, H: Drop, B: PartsName, N>(
+fn due_by<S: Store<Global>, H: Drop, B: PartsName>(
     house: &House<S, H, B>,
-    rounds: &LentRounds<B, N>,
+    rounds: &LentRounds<B>,
     sign: Option<&LaneSign>,
     now: u64,
 ) -> Due {
@@ -146,23 +143,21 @@ fn due_by<S: Store<Global>, H: Drop, B: PartsName, N>(
 
 /// Holds one round at a moment in microseconds, if none is being held and one is due: for the worker of the lane with
 /// this sign, or for that of any lane.
-pub(crate) fn try_one<S: Store<Global>, H: Drop, B: PartsName, N>(
+pub(crate) fn try_one<S: Store<Global>, H: Drop, B: PartsName>(
     alloc: Global,
     house: &House<S, H, B>,
-    desk: &LentDesk<B, N>,
-    paced: &Mutex<TalliedRounds<B, N>>,
     sign: Option<&LaneSign>,
     now: u64,
 ) -> Tried
     requires when { B.when now ≡ true }
 {
-    match paced.try_lock() {
+    match house.rounds.try_lock() {
         None => Tried::ByAnother,
-        Some(mut guard) => match due_by(house, &guard.rounds, sign, now) {
+        Some(mut guard) => match due_by(house, &*guard, sign, now) {
             Due::At(moment) => Tried::NotBefore(moment),
             Due::Now => {
                 let seen = house.waker.seen();
-                hold_one(alloc, house, desk, &mut *guard, now);
+                hold_one(alloc, house, &mut *guard, now);
                 Tried::Held(seen)
             }
         },
@@ -175,18 +170,16 @@ pub(crate) fn try_one<S: Store<Global>, H: Drop, B: PartsName, N>(
 /// The waker is raised before the try. So if another thread has the lock, it sees that after it has released the lock,
 /// and holds a round for whoever is due. The lane itself looks again a tick later: its rows may not have been open in
 /// that round.
-pub(crate) fn help<S: Store<Global>, H: Drop, B: PartsName, N>(
+pub(crate) fn help<S: Store<Global>, H: Drop, B: PartsName>(
     alloc: Global,
     house: &House<S, H, B>,
-    desk: &LentDesk<B, N>,
-    paced: &Mutex<TalliedRounds<B, N>>,
     sign: &LaneSign,
     now: u64,
 ) -> Option<u64>
     requires when { B.when now ≡ true }
 {
     house.waker.raise();
-    let mut seen = match try_one(alloc, house, desk, paced, Some(sign), now) {
+    let mut seen = match try_one(alloc, house, Some(sign), now) {
         Tried::Held(seen) => seen,
         Tried::ByAnother => return Some(now.saturating_add(TICK_MICROS)),
         Tried::NotBefore(moment) => return Some(moment),
@@ -195,7 +188,7 @@ pub(crate) fn help<S: Store<Global>, H: Drop, B: PartsName, N>(
         if house.waker.seen() == seen {
             return None;
         }
-        match try_one(alloc, house, desk, paced, None, now) {
+        match try_one(alloc, house, None, now) {
             Tried::Held(next) => seen = next,
             Tried::ByAnother | Tried::NotBefore(_) => return None,
         }

@@ -4,19 +4,24 @@
 //! type. A [`PartsName`] names the parts of one server there: a [`LentWorker`] is a lane's seat of its desk, with the
 //! tally of everything that it took, [`LentRounds`] are the rounds of that desk with its book, and a [`LentPass`]
 //! belongs to its board, whatever threads did with them and in whatever order. So once [`settle_lent`] has gathered
-//! everything, the octets issued are those moved and those given back.
+//! everything, or [`LentSeats`] have settled themselves, the octets issued are those moved and those given back.
 #![tactic(auto)]
 
 mod board;
+mod counting;
 mod desk;
+mod look;
 mod name;
 mod rounds;
+mod seats;
 mod settlement;
 mod worker;
 
 pub use board::{LentBoard, LentPass};
 pub use desk::LentDesk;
+pub use look::RoundLook;
 pub use name::PartsName;
 pub use rounds::LentRounds;
+pub use seats::LentSeats;
 pub use settlement::settle_lent;
 pub use worker::LentWorker;

@@ -11,26 +11,38 @@ ghost use Rattle.round_pace.specs.Changed.{IsChangedTo};
 ghost use Rattle.round_pace.specs.Earned.{tick_of};
 ghost use Rattle.round_pace.specs.Histories.{rates_of, after};
 ghost use Rattle.round_pace.specs.Offered.{offer_round};
+ghost use Rattle.round_tally.specs.Counts.{tallied};
 ghost use Rattle.paced_rounds.specs.History.{round_at, history, ended_in, stretch_under};
 ghost use Rattle.paced_rounds.specs.HeldLeaves.{AreHeld};
 ghost use Rattle.paced_rounds.specs.Beating.{has_plenty, is_open, due_open};
 ghost use Rattle.paced_rounds.specs.Seconds.{AreAt, AreAllowed, HasKept};
 
+use crate::counting::count_all;
 use crate::desk::LentDesk;
+use crate::look::RoundLook;
 use crate::name::PartsName;
 use grant_ledger::MAX_LANES;
 use lane_desk::{RoundFault, RoundRecord, Rounds};
 use line_rates::{Limits, Way};
 use paced_rounds::{HeldNames, PacedRounds};
 use round_cadence::Cadence;
-use round_pace::Due;
+use round_pace::{Due, TICK_MICROS};
+use round_tally::Tallies;
 use std::alloc::{AllocError, Allocator, Global};
 use std::marker::PhantomData;
 
-/// The rounds of the desk with a name, with its book, at a pace whose rates pass the test of the name. Each was held
-/// under such rates, and at a moment that passes the name's test of moments. They cannot be dropped.
-pub struct LentRounds<B: PartsName, N> {
-    rounds: PacedRounds<N>,
+/// The length of a window of the tallies, in microseconds: the longest interval between two fillings of a row.
+const WINDOW: u64 = 32 * TICK_MICROS;
+
+/// The rounds of the desk with a name, with its book, at a pace whose rates pass the test of the name, and the tallies of
+/// the transfers that they granted to. Each was held under such rates, and at a moment that passes the name's test of
+/// moments, and all that they have issued is in a tally. They cannot be dropped.
+pub struct LentRounds<B: PartsName> {
+    rounds: PacedRounds<()>,
+    tallies: Tallies,
+    names: HeldNames,
+    // the octets that were issued before
+    before: u64,
     name: PhantomData<B>,
     ghost named: { RoundsAt B.desk B.lanes rounds.rounds.desk },
     ghost rated: { B.rates (rates_of rounds.pace) ≡ true },
@@ -38,11 +50,13 @@ pub struct LentRounds<B: PartsName, N> {
     ghost moments: { AreAt B.when (history rounds.log.items) },
     ghost ended: { AreAllowed B.rates B.when (ended_in rounds.ended.items) },
     ghost last: { B.when rounds.latest ≡ true },
+    ghost counted: { rounds.rounds.book.issued ≡ tallied tallies + before },
 }
 
-impl<B: PartsName, N> LentRounds<B, N> {
-    /// The rounds of the desk, before any seat was returned.
-    pub fn new(rounds: PacedRounds<N>) -> LentRounds<B, N>
+impl<B: PartsName> LentRounds<B> {
+    /// The rounds of the desk, before any seat was returned, with nothing tallied. What holds transfers back is counted
+    /// if that is wanted.
+    pub fn new(rounds: PacedRounds<()>, is_wanted: bool) -> LentRounds<B>
         requires named { RoundsAt B.desk B.lanes rounds.rounds.desk }
         requires rated { B.rates (rates_of rounds.pace) ≡ true }
         requires carried { rounds.carried ≡ B.carried }
@@ -51,8 +65,12 @@ impl<B: PartsName, N> LentRounds<B, N> {
         requires last { B.when rounds.latest ≡ true }
         ensures rounds { result.rounds ≡ rounds }
     {
+        let before = rounds.issued();
         LentRounds {
             rounds,
+            tallies: Tallies::new(),
+            names: HeldNames::new(is_wanted),
+            before,
             name: PhantomData,
         }
     }
@@ -80,14 +98,15 @@ impl<B: PartsName, N> LentRounds<B, N> {
         self.rounds.due_for(way, user, now)
     }
 
-    /// A round of the given lanes of the desk, as `PacedRounds::hold`.
+    /// Holds a round of the given lanes of the desk, as `PacedRounds::hold`, and adds each grant to the tally of its lane's
+    /// transfer, whose number is at the lane's place.
     pub fn hold<A: Allocator + Clone, D: Allocator>(
         &mut self,
         alloc: A,
-        desk: &LentDesk<B, N, D>,
+        desk: &LentDesk<B, D>,
         now: u64,
         given: &[bool; MAX_LANES],
-        names: &mut HeldNames,
+        transfers: &[u64; MAX_LANES],
     ) -> Result<RoundRecord<A>, RoundFault>
         requires when { B.when now ≡ true }
         ensures tally { self.new.rounds.rounds.tally ≡ self.old.rounds.rounds.tally }
@@ -115,13 +134,31 @@ impl<B: PartsName, N> LentRounds<B, N> {
             ++ round_at (max now self.old.rounds.latest) result ∷ [] }
         ensures left { self.new.rounds.pace
             ≡ after self.old.rounds.pace (round_at (max now self.old.rounds.latest) result) }
-        ensures wanted { names.new.is_wanted ≡ names.old.is_wanted }
+        ensures wanted { self.new.names.is_wanted ≡ self.old.names.is_wanted }
         ensures held { let p = offer_round (tick_of (max now self.old.rounds.latest))
-            self.old.rounds.pace in names.old.is_wanted ≡ true
+            self.old.rounds.pace in self.old.names.is_wanted ≡ true
             → IfOk result (λ r. AreHeld p.offered r.tick r.asks.items (seen r.sealed.tree)
-            r.sealed.grants names.new.names) }
+            r.sealed.grants self.new.names.names) }
+        ensures counted { IfOk result (λ r. tallied self.new.tallies
+            ≡ tallied self.old.tallies + sum r.sealed.grants) }
+        ensures uncounted { OnErr result (self.new.tallies ≡ self.old.tallies) }
+        ensures before { self.new.before ≡ self.old.before }
     {
-        self.rounds.hold(alloc, desk.desk(), now, given, names)
+        let result = self
+            .rounds
+            .hold(alloc, desk.desk(), now, given, &mut self.names);
+        let _ = self.rounds.issued();
+        if let Ok(made) = &result {
+            count_all(
+                &mut self.tallies,
+                &made.lanes,
+                made.sealed.grants(),
+                &self.names,
+                transfers,
+                now / WINDOW,
+            );
+        }
+        result
     }
 
     /// The octets issued so far.
@@ -131,8 +168,21 @@ impl<B: PartsName, N> LentRounds<B, N> {
         self.rounds.issued()
     }
 
+    /// The octets granted to the transfers with these numbers, by lane, and to all others before them.
+    pub fn look(&self, running: &[u64; MAX_LANES]) -> RoundLook
+        ensures issued { result.issued ≡ self.now.rounds.rounds.book.issued }
+        ensures before { result.before ≡ self.now.before }
+    {
+        let issued = self.rounds.issued();
+        RoundLook {
+            tallies: self.tallies.running(running),
+            issued,
+            before: self.before,
+        }
+    }
+
     /// Puts the rates of other limits, which pass the test of the name, in force from the next round on, as
-    /// `PacedRounds::change`. Without memory nothing is changed.
+    /// `PacedRounds::change`. The tallies stay as they are. Without memory nothing is changed.
     pub fn change(
         &mut self,
         alloc: Global,
@@ -140,6 +190,8 @@ impl<B: PartsName, N> LentRounds<B, N> {
         cadence: Cadence,
     ) -> Result<(), AllocError>
         requires allowed { B.rates limits ≡ true }
+        ensures tallies { self.new.tallies ≡ self.old.tallies }
+        ensures before { self.new.before ≡ self.old.before }
         ensures rounds { self.new.rounds.rounds ≡ self.old.rounds.rounds }
         ensures latest { self.new.rounds.latest ≡ self.old.rounds.latest }
         ensures pace { OnOk result (IsChangedTo limits self.old.rounds.pace self.new.rounds.pace) }
@@ -159,11 +211,17 @@ impl<B: PartsName, N> LentRounds<B, N> {
 
     /// Returns the rounds, once no thread has them any more: there is a history of rounds, under rates and at moments that
     /// pass the tests of the name, in which each rate was kept, and which granted the octets issued beyond those carried.
-    pub fn into_rounds(self) -> Rounds<N>
+    pub fn into_rounds(self) -> Rounds<()>
         ensures rounds { (result ≡ self.rounds.rounds) × RoundsAt B.desk B.lanes result.desk }
         ensures kept { HasKept B.rates B.when B.carried result.book.issued }
     {
-        let LentRounds { rounds, name: _ } = self;
+        let LentRounds {
+            rounds,
+            tallies: _,
+            names: _,
+            before: _,
+            name: _,
+        } = self;
         rounds.into_rounds()
     }
 }

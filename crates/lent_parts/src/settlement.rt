@@ -16,10 +16,10 @@ use std::sync::Wait;
 
 // Gathers workers in the order of their lanes. The type of a worker does not contain its lane: this waits for ever if
 // one is not in its lane's place.
-fn gather<R: Wait, B: PartsName, N, A: Allocator>(
+fn gather<R: Wait, B: PartsName, A: Allocator>(
     rt: &R,
-    mut workers: Vec<LentWorker<B, N>, A>,
-    gathered: &mut Vec<Worked<N>, A>,
+    mut workers: Vec<LentWorker<B>, A>,
+    gathered: &mut Vec<Worked<()>, A>,
 )
     requires room { length workers.items ≤ vec_capacity gathered.old }
     requires none { gathered.old.items ≡ [] }
@@ -45,13 +45,13 @@ fn gather<R: Wait, B: PartsName, N, A: Allocator>(
 /// and which granted the octets issued beyond those carried.
 ///
 /// The types of the workers say that they are of this desk. That each lane's worker is there, and in its place, is checked:
-/// otherwise this would wait for ever.
-pub fn settle_lent<R: Wait, B: PartsName, N, A: Allocator, D: Allocator>(
+/// otherwise this would wait for ever, as a caller would have to that got all parts back, which cannot be dropped.
+pub fn settle_lent<R: Wait, B: PartsName, A: Allocator, D: Allocator>(
     rt: &R,
-    desk: LentDesk<B, N, D>,
-    rounds: LentRounds<B, N>,
-    workers: Vec<LentWorker<B, N>, A>,
-    room: Vec<Worked<N>, A>,
+    desk: LentDesk<B, D>,
+    rounds: LentRounds<B>,
+    workers: Vec<LentWorker<B>, A>,
+    room: Vec<Worked<()>, A>,
 ) -> Settled
     requires room { length workers.items ≤ vec_capacity room }
     requires none { room.items ≡ [] }

@@ -21,17 +21,17 @@ use virtual_tree::{Sink, Source};
 
 /// A seat of the desk with a name, with the tally of everything that it took: the octets moved and given back add up to
 /// that. It cannot be dropped.
-pub struct LentWorker<B: PartsName, N> {
-    pub(crate) seat: LaneSeat<N>,
-    pub(crate) tally: Tally<N>,
+pub struct LentWorker<B: PartsName> {
+    pub(crate) seat: LaneSeat<()>,
+    pub(crate) tally: Tally<()>,
     name: PhantomData<B>,
     ghost named: { SitsAt B.desk B.lanes seat },
     ghost reported: { tally.moved + tally.back ≡ sum (seat_view seat).taken },
 }
 
-impl<B: PartsName, N> LentWorker<B, N> {
+impl<B: PartsName> LentWorker<B> {
     /// A seat of the desk, with a tally of everything that it took.
-    pub fn new(seat: LaneSeat<N>, tally: Tally<N>) -> LentWorker<B, N>
+    pub fn new(seat: LaneSeat<()>, tally: Tally<()>) -> LentWorker<B>
         requires named { SitsAt B.desk B.lanes seat }
         requires reported { tally.moved + tally.back ≡ sum (seat_view seat).taken }
         ensures parts { (result.seat ≡ seat) × (result.tally ≡ tally) }
@@ -70,7 +70,7 @@ impl<B: PartsName, N> LentWorker<B, N> {
         &mut self,
         rt: &W,
         alloc: A,
-        desk: &LentDesk<B, N, D>,
+        desk: &LentDesk<B, D>,
         job: LaneJob<R, K, C>,
         gate: &mut G,
     ) -> bool
@@ -103,7 +103,7 @@ impl<B: PartsName, N> LentWorker<B, N> {
     }
 
     /// Returns the seat and the tally, once no thread has them any more.
-    pub fn into_worked(self) -> Worked<N>
+    pub fn into_worked(self) -> Worked<()>
         ensures seat { (result.seat ≡ self.seat) × SitsAt B.desk B.lanes result.seat }
         ensures tally { result.tally ≡ self.tally }
     {

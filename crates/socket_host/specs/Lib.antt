@@ -1,7 +1,10 @@
+pub mod Causes
 pub mod Cuts
+pub mod Jobs
 pub mod Records
 pub mod Refusals
 pub mod Replied
+pub mod Running
 pub mod Standing
 pub mod Texts
 pub mod Unsaid

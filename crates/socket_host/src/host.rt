@@ -19,6 +19,7 @@ ghost use Rattle.socket_host.specs.Unsaid.{AnyCall};
 
 use crate::control::ControlSocket;
 use crate::moments::millis_since_1970;
+use crate::side::SocketSide;
 use crate::standing::Standing;
 use crate::waiting::{is_due, is_life, passed_limit};
 use client_patience::{TimeOut, Waits};
@@ -36,7 +37,6 @@ use server_house::{
     copy_settings,
 };
 use session_table::{Action, Answer, End, HookCall, Input, Job, Refusal, Settings, Text};
-use socket_side::SocketSide;
 use std::alloc::{AllocError, Global};
 use std::time::Duration;
 use std::{io, thread};

@@ -6,6 +6,7 @@ ghost use Rattle.transfer_ticket.specs.declared.view.TicketView.TheVariants.{Idl
 
 use crate::control::ControlSocket;
 use crate::host::{SessionNeeds, SocketHost, floors_of_nobody};
+use crate::side::SocketSide;
 use control_session::{Host, run_control};
 use lent_parts::PartsName;
 use recorded_store::Recorder;
@@ -14,7 +15,6 @@ use server_house::{
     SharedTerms,
 };
 use session_table::Settings;
-use socket_side::SocketSide;
 use std::alloc::{AllocError, Global};
 use std::net::TcpStream;
 use std::sync::Wait;

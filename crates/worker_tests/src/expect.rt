@@ -12,10 +12,6 @@ pub(crate) fn holds(rt: &impl Abort, fact: bool)
     assert!(rt; fact);
 }
 
-/// The name of the tests' books.
-#[derive(Clone, Copy)]
-pub(crate) struct OfTest;
-
 /// Limits with the server's rate alone; a rate of 0 limits nothing.
 pub(crate) fn limits(rt: &(impl Abort + AllocGlobal), rate: u64) -> Limits {
     Limits::of(rate, 0, 0, Vec::new(rt.alloc()), Vec::new(rt.alloc())).expect(rt, "limits")

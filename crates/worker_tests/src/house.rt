@@ -3,11 +3,9 @@
 ghost use Rattle.std.specs.Prelude.{◌≡◌, ◌<◌, ℕ, true};
 
 use super::counted::End;
-use super::expect::OfTest;
 use data_pump::MAX_READ;
 use grant_ledger::MAX_LANES;
 use lent_parts::{LentDesk, LentRounds, PartsName};
-use paced_rounds::HeldNames;
 use round_pace::TICK_MICROS;
 use std::alloc::{Allocator, Global};
 use std::sync::Mutex;
@@ -28,7 +26,7 @@ const YIELDS: u32 = 100;
 
 /// The rounds, at moments of the test.
 pub(crate) struct Turns<B: PartsName> {
-    rounds: LentRounds<B, OfTest>,
+    rounds: LentRounds<B>,
     // the earliest moment of the next round, in microseconds
     next: u64,
     ghost any: { (moment : ℕ) → B.when moment ≡ true },
@@ -36,26 +34,25 @@ pub(crate) struct Turns<B: PartsName> {
 
 impl<B: PartsName> Turns<B> {
     // Holds a round, this many ticks of the pace after that of the last one.
-    fn round<A: Allocator + Clone>(&mut self, alloc: A, desk: &LentDesk<B, OfTest>, ticks: u64) {
+    fn round<A: Allocator + Clone>(&mut self, alloc: A, desk: &LentDesk<B>, ticks: u64) {
         let skipped = ticks.saturating_sub(1).saturating_mul(TICK_MICROS);
         let now = self.next.saturating_add(skipped);
         self.next = now.saturating_add(TICK_MICROS);
-        let mut names = HeldNames::new(false);
         let _ = self
             .rounds
-            .hold(alloc, desk, now, &[true; MAX_LANES], &mut names);
+            .hold(alloc, desk, now, &[true; MAX_LANES], &[0; MAX_LANES]);
     }
 }
 
 /// A desk with its rounds, and whether the transfer of `SECOND` has moved an octet.
 pub(crate) struct House<B: PartsName> {
-    desk: LentDesk<B, OfTest>,
+    desk: LentDesk<B>,
     turns: Mutex<Turns<B>>,
     has_moved: AtomicU64,
 }
 
 impl<B: PartsName> House<B> {
-    pub(crate) fn new(desk: LentDesk<B, OfTest>, rounds: LentRounds<B, OfTest>) -> House<B>
+    pub(crate) fn new(desk: LentDesk<B>, rounds: LentRounds<B>) -> House<B>
         requires any { (moment : ℕ) → B.when moment ≡ true }
     {
         let turns = Turns { rounds, next: 0 };
@@ -66,7 +63,7 @@ impl<B: PartsName> House<B> {
         }
     }
 
-    pub(crate) fn desk(&self) -> &LentDesk<B, OfTest> {
+    pub(crate) fn desk(&self) -> &LentDesk<B> {
         &self.desk
     }
 
@@ -83,7 +80,7 @@ impl<B: PartsName> House<B> {
         }
     }
 
-    pub(crate) fn into_parts(self) -> (LentDesk<B, OfTest>, LentRounds<B, OfTest>) {
+    pub(crate) fn into_parts(self) -> (LentDesk<B>, LentRounds<B>) {
         let House {
             desk,
             turns,

@@ -9,7 +9,7 @@ ghost use Rattle.paced_rounds.specs.History.{ended_in, history};
 ghost use Rattle.paced_rounds.specs.Seconds.{AreAllowed};
 ghost use Rattle.round_pace.specs.Histories.{rates_of};
 
-use super::expect::{OfTest, limits};
+use super::expect::limits;
 use super::house::House;
 use grant_ledger::{Book, Settled, Tally};
 use lane_desk::{Desk, LaneSeat, Rounds, Worked, open_desk};
@@ -23,12 +23,12 @@ use test_checked_desk::two_seats;
 
 /// A desk of two lanes, just opened, with its rounds, its seats and their tallies.
 pub(crate) struct Opened {
-    pub(crate) desk: Desk<OfTest>,
-    pub(crate) rounds: PacedRounds<OfTest>,
-    first: LaneSeat<OfTest>,
-    second: LaneSeat<OfTest>,
-    first_tally: Tally<OfTest>,
-    second_tally: Tally<OfTest>,
+    pub(crate) desk: Desk<()>,
+    pub(crate) rounds: PacedRounds<()>,
+    first: LaneSeat<()>,
+    second: LaneSeat<()>,
+    first_tally: Tally<()>,
+    second_tally: Tally<()>,
     ghost two: { desk.lanes ≡ 2 },
     ghost led: { IsRoundOf desk rounds.rounds.desk × (back rounds.rounds.desk ≡ []) },
     ghost none: { history rounds.log.items ≡ [] },
@@ -45,7 +45,7 @@ impl Opened {
     pub(crate) fn new(rt: &(impl Abort + AllocGlobal), rate: u64) -> Opened {
         let pace = Pace::of(rt.alloc(), limits(rt, rate), 0).expect(rt, "a pace");
         let cadence = Cadence::new(rt.alloc(), 0, 0).expect(rt, "memory");
-        let (book, mut tally) = Book::<OfTest>::open(0);
+        let (book, mut tally) = Book::<()>::open(0);
         match open_desk(rt.alloc(), 2, &book) {
             Ok((desk, round, seats)) => {
                 let Some((first, second)) = two_seats(&desk, seats) else {
@@ -70,8 +70,8 @@ impl Opened {
 /// The parts of a desk, as lent to its threads.
 pub(crate) struct Lent<B: PartsName> {
     pub(crate) house: House<B>,
-    pub(crate) first: LentWorker<B, OfTest>,
-    pub(crate) second: LentWorker<B, OfTest>,
+    pub(crate) first: LentWorker<B>,
+    pub(crate) second: LentWorker<B>,
 }
 
 impl<B: PartsName> Lent<B> {
@@ -91,7 +91,7 @@ impl<B: PartsName> Lent<B> {
             second_tally,
         } = opened;
         Lent {
-            house: House::new(LentDesk::new(desk), LentRounds::new(rounds)),
+            house: House::new(LentDesk::new(desk), LentRounds::new(rounds, false)),
             first: LentWorker::new(first, first_tally),
             second: LentWorker::new(second, second_tally),
         }
@@ -117,11 +117,11 @@ impl<B: PartsName> Lent<B> {
 pub(crate) fn settle_house<B: PartsName, R: Abort + AllocGlobal + Wait>(
     rt: &R,
     house: House<B>,
-    workers: Vec<LentWorker<B, OfTest>>,
+    workers: Vec<LentWorker<B>>,
 ) -> Settled
     ensures sum { result.issued ≡ result.moved + result.back }
 {
-    let room = Vec::<Worked<OfTest>>::with_capacity(rt.alloc(), workers.len());
+    let room = Vec::<Worked<()>>::with_capacity(rt.alloc(), workers.len());
     let (desk, rounds) = house.into_parts();
     settle_lent(rt, desk, rounds, workers, room.expect(rt, "memory"))
 }

@@ -7,7 +7,7 @@ ghost use Rattle.lent_parts.specs.Names.{IsPassOf};
 ghost use Rattle.transfer_worker.specs.Boards.{board_id};
 
 use super::counted::End;
-use super::expect::{OfTest, holds};
+use super::expect::holds;
 use super::house::{FIRST, House, Job, Keeper, SECOND};
 use super::parts::{Lent, Opened, settle_house};
 use ftp_terms::DataType;
@@ -48,7 +48,7 @@ fn file_for(session: u32) -> Job {
 /// A worker with a pass, and its record: the number of jobs that ended, and whether it stopped for lack of
 /// jobs.
 struct Hand<B: PartsName> {
-    worker: LentWorker<B, OfTest>,
+    worker: LentWorker<B>,
     pass: LentPass<B, Job>,
     did: (u64, bool),
 }
@@ -125,7 +125,7 @@ where
 fn gather<B: PartsName>(
     rt: &(impl Abort + AllocGlobal),
     mut hands: Vec<Hand<B>>,
-) -> (Vec<LentWorker<B, OfTest>>, bool) {
+) -> (Vec<LentWorker<B>>, bool) {
     let mut workers = Vec::new(rt.alloc());
     let mut did_one_each = true;
     while let Some(hand) = hands.pop() {
@@ -159,7 +159,7 @@ where
 }
 
 // A worker with a pass of the board with this name.
-fn hand_of<B: PartsName>(worker: LentWorker<B, OfTest>, pass: BoardPass<Job>) -> Hand<B>
+fn hand_of<B: PartsName>(worker: LentWorker<B>, pass: BoardPass<Job>) -> Hand<B>
     requires pass { IsPassOf B.board pass }
 {
     Hand {

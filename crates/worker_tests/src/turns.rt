@@ -9,7 +9,7 @@ ghost use Rattle.lent_parts.specs.Names.{SitsAt};
 ghost use Rattle.transfer_worker.specs.Turns.{IsReported};
 
 use super::ends::{File, Kept, Line};
-use super::expect::{OfTest, holds};
+use super::expect::holds;
 use super::house::House;
 use super::parts::{Lent, Opened};
 use data_pump::{DataIn, DataOut, PumpEnd, Pumped};
@@ -40,9 +40,9 @@ impl Moving {
 
     fn turn(
         &mut self,
-        desk: &Desk<OfTest>,
-        seat: &mut LaneSeat<OfTest>,
-        tally: &mut Tally<OfTest>,
+        desk: &Desk<()>,
+        seat: &mut LaneSeat<()>,
+        tally: &mut Tally<()>,
     ) -> Option<Pumped>
         requires desk { IsSeatOf desk.now seat.old }
         requires state { (seat_view seat.old).state ≡ Asked }
@@ -68,15 +68,15 @@ impl Moving {
 
 /// A lane's seat with its tally, of the desk with a name.
 struct Lane<B: PartsName> {
-    seat: LaneSeat<OfTest>,
-    tally: Tally<OfTest>,
+    seat: LaneSeat<()>,
+    tally: Tally<()>,
     name: PhantomData<B>,
     ghost named: { SitsAt B.desk B.lanes seat },
     ghost reported: { IsReported tally (seat_view seat) },
 }
 
 impl<B: PartsName> Lane<B> {
-    fn new(worker: LentWorker<B, OfTest>) -> Lane<B> {
+    fn new(worker: LentWorker<B>) -> Lane<B> {
         let (seat, tally) = worker.into_worked().parts();
         Lane {
             seat,
@@ -85,7 +85,7 @@ impl<B: PartsName> Lane<B> {
         }
     }
 
-    fn into_worker(self) -> LentWorker<B, OfTest> {
+    fn into_worker(self) -> LentWorker<B> {
         let Lane {
             seat,
             tally,

@@ -1,5 +1,4 @@
 use Rattle.lane_desk.specs.Seats.{desk_id}
-use Rattle.round_pace.specs.Histories.{rates_of}
 use Rattle.ftp_daemon.specs.SameRates.{may_hold}
 use Rattle.transfer_worker.specs.Boards.{board_id}
 use Rattle.ftp_daemon.proofs.serving.serve.Given as goal
@@ -8,7 +7,7 @@ abbrev pub ghosts-serve_named : goal.ghosts-serve_named
 ghosts-serve_named g a = record {
   desk = desk_id a.line.desk;
   lanes = a.line.desk.lanes;
-  rates = may_hold (rates_of a.rooms.pace) g.P.OwnerSigns.allows;
+  rates = may_hold a.service.limits g.P.OwnerSigns.allows;
   carried = a.line.book.issued;
   when = g.R.RoundClock.when;
   board = board_id a.board;

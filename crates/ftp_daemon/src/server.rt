@@ -1,0 +1,220 @@
+//! One server, from its parts to their settlement.
+
+ghost use Rattle.std.specs.Prelude.{◌≡◌, ◌+◌, true, IfErr, length};
+ghost use Rattle.std.specs.Thread.{IsSend, IsSync};
+ghost use Rattle.lane_rounds.specs.Clocks.{IsTestOf};
+ghost use Rattle.lent_parts.specs.Names.{IsBoardOf, IsNamed};
+ghost use Rattle.lent_parts.specs.Rooms.{HasRoom};
+ghost use Rattle.line_rates.specs.Rates.{Rates};
+ghost use Rattle.paced_rounds.specs.Seconds.{HasKept};
+ghost use Rattle.round_pace.specs.Earned.{tick_of};
+ghost use Rattle.round_pace.specs.Histories.{rates_of};
+ghost use Rattle.round_pace.specs.Paced.{IsPacedFrom};
+ghost use Rattle.transfer_worker.specs.Boards.{AreNewPasses};
+ghost use Rattle.ftp_daemon.specs.SameRates.{Permits};
+
+use crate::lanes::{run_threads, serve_clients};
+use crate::opening::{Allocated, Line, Service, allocate};
+use crate::settling::settle_unlent;
+use crate::watching::{OwnerSigns, wants_looks};
+use event_word::{EventCount, SharedEventCount};
+use ftpd_program::ServeFault;
+use grant_ledger::Settled;
+use lane_desk::Rounds;
+use lane_rounds::RoundClock;
+use lent_parts::{LentBoard, LentDesk, LentRounds, LentSeats, PartsName};
+use paced_rounds::PacedRounds;
+use recorded_store::Recorder;
+use round_cadence::Cadence;
+use round_pace::{Pace, histories_keep_rates};
+use server_house::{House, ServerHooks, ServerRuntime, ServerShutdown, SharedTerms};
+use std::alloc::Global;
+use std::net::TcpListener;
+use std::sync::{Mutex, Wait};
+use std::thread::Threads;
+use text_io::TextWriter;
+use transfer_worker::{BoardPass, JobBoard};
+use virtual_tree::Store;
+
+/// A server whose parts have a name: what its threads share. It cannot be dropped.
+pub(crate) struct Server<R: RoundClock, S: Store<Global>, H: Drop, B: PartsName, P: OwnerSigns> {
+    pub(crate) rt: R,
+    pub(crate) house: House<S, H, B>,
+    /// The signs of the owner, if there are any.
+    pub(crate) signs: Option<P>,
+    ghost clock: { IsTestOf R.when B.when },
+    ghost owner: { Permits P.allows B.rates },
+}
+
+// Lends a line: its seats, for which there is room, its desk, and its rounds at a pace that was made at this moment, with
+// the beats of its rows. If the server is watched, what holds transfers back is counted.
+fn lend_line<B: PartsName>(
+    line: Line,
+    pace: Pace,
+    cadence: Cadence,
+    begun: u64,
+    is_watched: bool,
+    lent: &mut LentSeats<B>,
+) -> (LentDesk<B>, LentRounds<B>)
+    requires desk { IsNamed B.desk B.lanes line.desk }
+    requires carried { line.book.issued ≡ B.carried }
+    requires new { (rates : Rates) × IsPacedFrom (tick_of begun) rates pace }
+    requires rated { B.rates (rates_of pace) ≡ true }
+    requires when { B.when begun ≡ true }
+    requires room { HasRoom (length line.seats.items) lent.old }
+{
+    let Line {
+        desk,
+        round,
+        seats,
+        book,
+        mut tally,
+        room,
+    } = line;
+    room.destroy_empty();
+    lent.lend(seats, &mut tally);
+    let rounds = PacedRounds::new(Rounds::new(round, book, tally), pace, cadence, begun);
+    (LentDesk::new(desk), LentRounds::new(rounds, is_watched))
+}
+
+impl<R, S, H, B, P> Server<R, S, H, B, P>
+where
+    R: ServerRuntime + RoundClock + Copy,
+    S: Store<Global> + Drop,
+    H: Drop,
+    B: PartsName,
+    P: OwnerSigns + Drop,
+{
+    /// The server of a desk and a board of this name. If it cannot be opened, the desk is settled.
+    pub(crate) fn open(
+        rt: &R,
+        service: Service<S, H, P>,
+        board: JobBoard<u32>,
+        passes: Vec<BoardPass<u32>>,
+        line: Line,
+    ) -> Result<Self, (Settled, ServeFault)>
+        requires desk { IsNamed B.desk B.lanes line.desk }
+        requires board { IsBoardOf B.board board }
+        requires passes { AreNewPasses B.board (length passes.items) passes.items }
+        requires rated { B.rates service.limits ≡ true }
+        requires owner { Permits P.allows B.rates }
+        requires clock { IsTestOf R.when B.when }
+        requires carried { line.book.issued ≡ B.carried }
+        ensures sum { IfErr result (λ e. e.0.issued ≡ e.0.moved + e.0.back) }
+        ensures kept { IfErr result (λ e. HasKept B.rates B.when B.carried e.0.issued) }
+    {
+        histories_keep_rates();
+        let Service {
+            terms,
+            numbers,
+            limits,
+            store,
+            own_stores,
+            handler,
+            signs,
+            patience,
+        } = service;
+        let seats = line.seats.len();
+        match allocate::<R, S, B>(rt, &numbers, limits, own_stores, passes, seats) {
+            Err(fault) => Err((settle_unlent(line), fault)),
+            Ok(made) => {
+                let Allocated {
+                    own_stores,
+                    arrivals,
+                    floors,
+                    ports,
+                    registry,
+                    tickets,
+                    lanes,
+                    pace,
+                    cadence,
+                    begun,
+                    pass,
+                    passes,
+                    mut seats,
+                } = made;
+                let is_watched = wants_looks(&signs);
+                let (desk, rounds) = lend_line(line, pace, cadence, begun, is_watched, &mut seats);
+                let house = House {
+                    terms: SharedTerms::new(terms),
+                    numbers,
+                    patience,
+                    store: Mutex::new(store),
+                    own_stores,
+                    arrivals,
+                    floors: Mutex::new(floors),
+                    handler: Mutex::new(handler),
+                    ports: Mutex::new(ports),
+                    registry: Mutex::new(registry),
+                    tickets,
+                    board: LentBoard::new(board),
+                    pass: Mutex::new(pass),
+                    jobs: SharedEventCount::new(),
+                    lanes,
+                    waker: EventCount::new(),
+                    ending: ServerShutdown::new(),
+                    desk,
+                    rounds: Mutex::new(rounds),
+                    seats,
+                    passes: Mutex::new(passes),
+                };
+                Ok(Server {
+                    rt: *rt,
+                    house,
+                    signs,
+                })
+            }
+        }
+    }
+}
+
+impl<R, S, H, B, P> Server<R, S, H, B, P>
+where
+    R: Threads + ServerRuntime + RoundClock + Copy + Send + Sync,
+    S: Store<Global> + Recorder + Send + Drop,
+    S::Source: Send,
+    S::Sink: Send,
+    H: ServerHooks + Send,
+    B: PartsName + Send + Sync + 'static,
+    P: OwnerSigns + Send + Sync + Drop,
+{
+    /// Serves the clients of a listener in threads, until all have ended.
+    pub(crate) fn run<W: TextWriter>(
+        &self,
+        listener: TcpListener,
+        writer: &mut W,
+    ) -> Result<(), ServeFault> {
+        let own = &self.rt;
+        let house = &self.house;
+        run_threads(
+            own,
+            self,
+            || -> Result<(), ServeFault>
+                requires { IsSync R.row × IsSend R.row × IsSend S.row × IsSend S.Source.row
+                    × IsSend S.Sink.row × IsSend H.row × IsSync P.row × IsSend P.row }
+            { serve_clients(own, house, self, listener, writer) },
+        )
+    }
+}
+
+impl<R, S, H, B, P> Server<R, S, H, B, P>
+where
+    R: RoundClock + Wait + Drop,
+    S: Store<Global> + Drop,
+    H: Drop,
+    B: PartsName,
+    P: OwnerSigns + Drop,
+{
+    /// Settles the desk, once no thread has any part of it.
+    pub(crate) fn settle(self) -> Settled
+        ensures sum { result.issued ≡ result.moved + result.back }
+        ensures kept { HasKept B.rates B.when B.carried result.issued }
+    {
+        let Server {
+            rt,
+            house,
+            signs: _,
+        } = self;
+        house.settle(&rt)
+    }
+}

@@ -1,7 +1,0 @@
-use Rattle.std.proofs.Common.{◌≡◌, ◌+◌, take}
-use Rattle.std.specs.Prelude.{sum}
-use Rattle.round_tally.specs.Counts.{tallied}
-use Rattle.lane_rounds.proofs.counting.count_all.Given as goal
-
-abbrev pub invariant-loop-leaf : goal.invariant-loop-leaf
-invariant-loop-leaf l = tallied l.tallies ≡ tallied l.initial.tallies + sum (take l.leaf l.grants)

@@ -1,0 +1,11 @@
+-- Room for seats.
+use Rattle.std.specs.Prelude.{◌≡◌, ℕ, ◌≤◌, [], vec_capacity}
+use Rattle.lent_parts.specs.declared.name.PartsName.{Ghosts}
+use Rattle.lent_parts.specs.declared.seats.LentSeats.{LentSeats}
+
+module _ {B : Type 0} {names : Ghosts B} where
+  -- no seat is lent yet, and as many as these can be lent and gathered
+  abbrev pub HasRoom : ℕ → LentSeats B names → Type 0
+  HasRoom lanes s =
+      (s.seats.items ≡ []) × (lanes ≤ vec_capacity s.seats)
+      × (lanes ≤ vec_capacity s.gathered) × (lanes ≤ vec_capacity s.worked)

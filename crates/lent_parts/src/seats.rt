@@ -1,0 +1,140 @@
+//! The seats of a desk, as lent to the threads of its lanes.
+
+ghost use Rattle.std.specs.Prelude.{◌≡◌, ◌+◌, ◌≤◌, [], IfOk, MatchOption, Some, length, slice_get, vec_capacity};
+ghost use Rattle.lane_desk.specs.Open.{AreFresh};
+ghost use Rattle.paced_rounds.specs.Seconds.{HasKept};
+ghost use Rattle.lent_parts.specs.Rooms.{HasRoom};
+
+use crate::desk::LentDesk;
+use crate::name::PartsName;
+use crate::rounds::LentRounds;
+use crate::settlement::settle_lent;
+use crate::worker::LentWorker;
+use grant_ledger::{Settled, Tally};
+use lane_desk::{LaneSeat, Worked};
+use std::alloc::{AllocError, Global};
+use std::sync::{Mutex, Wait};
+
+/// The seats of the desk with a name, in the order of their lanes, each with a lock of its own; and room to gather them.
+/// They cannot be dropped.
+pub struct LentSeats<B: PartsName> {
+    seats: Vec<Mutex<LentWorker<B>>>,
+    gathered: Vec<LentWorker<B>>,
+    worked: Vec<Worked<()>>,
+    ghost none: { (gathered.items ≡ []) × (worked.items ≡ []) },
+    ghost gathers: { length seats.items ≤ vec_capacity gathered },
+    ghost works: { length seats.items ≤ vec_capacity worked },
+}
+
+// Two lists of seats, which cannot be dropped.
+fn new_lists<B: PartsName>(
+    alloc: Global,
+    lanes: usize,
+) -> Result<(Vec<Mutex<LentWorker<B>>>, Vec<LentWorker<B>>), AllocError>
+    ensures seats { IfOk result (λ l. (l.0.items ≡ []) × (lanes ≤ vec_capacity l.0)) }
+    ensures gathered { IfOk result (λ l. (l.1.items ≡ []) × (lanes ≤ vec_capacity l.1)) }
+{
+    let seats = Vec::with_capacity(alloc, lanes)?;
+    match Vec::with_capacity(alloc, lanes) {
+        Ok(gathered) => Ok((seats, gathered)),
+        Err(AllocError) => {
+            seats.destroy_empty();
+            Err(AllocError)
+        }
+    }
+}
+
+// Lends each seat with a tally of its own.
+fn lend_seats<B: PartsName>(
+    seats: Vec<LaneSeat<()>>,
+    tally: &mut Tally<()>,
+    workers: &mut Vec<Mutex<LentWorker<B>>>,
+)
+    requires seats { AreFresh B.desk B.lanes seats.items }
+    requires room { length workers.old.items + length seats.items ≤ vec_capacity workers.old }
+    ensures tally { tally.new ≡ tally.old }
+    ensures workers { length workers.new.items
+        ≡ length workers.old.items + length seats.items }
+{
+    for seat in seats {
+        workers.push_reserved(Mutex::new(LentWorker::new(seat, tally.split())));
+    }
+}
+
+// Takes each seat out of its lock, in order.
+fn unlocked<B: PartsName>(
+    mut seats: Vec<Mutex<LentWorker<B>>>,
+    gathered: Vec<LentWorker<B>>,
+) -> Vec<LentWorker<B>>
+    requires none { gathered.items ≡ [] }
+    requires room { length seats.items ≤ vec_capacity gathered }
+    ensures all { length result.items ≡ length seats.items }
+{
+    let mut all = gathered;
+    seats.reverse();
+    while let Some(seat) = seats.pop() {
+        all.push_reserved(seat.into_inner());
+    }
+    seats.destroy_empty();
+    all
+}
+
+impl<B: PartsName> LentSeats<B> {
+    /// Room for the seats of this many lanes, and none yet.
+    pub fn open(alloc: Global, lanes: usize) -> Result<LentSeats<B>, AllocError>
+        ensures room { IfOk result (λ s. HasRoom lanes s) }
+    {
+        let (seats, gathered) = new_lists(alloc, lanes)?;
+        match Vec::with_capacity(alloc, lanes) {
+            Ok(worked) => Ok(LentSeats {
+                seats,
+                gathered,
+                worked,
+            }),
+            Err(AllocError) => {
+                seats.destroy_empty();
+                gathered.destroy_empty();
+                Err(AllocError)
+            }
+        }
+    }
+
+    /// Lends the seats of a desk that was just opened, each with a tally of its own.
+    pub fn lend(&mut self, seats: Vec<LaneSeat<()>>, tally: &mut Tally<()>)
+        requires seats { AreFresh B.desk B.lanes seats.items }
+        requires room { HasRoom (length seats.items) self.old }
+        ensures tally { tally.new ≡ tally.old }
+        ensures all { length self.new.seats.items ≡ length seats.items }
+    {
+        lend_seats(seats, tally, &mut self.seats);
+    }
+
+    /// The number of lanes.
+    pub fn count(&self) -> usize
+        ensures count { result ≡ length self.now.seats.items }
+    {
+        self.seats.len()
+    }
+
+    /// The seat of a lane, behind its lock; none if there is no such lane.
+    pub fn seat(&self, lane: usize) -> Option<&Mutex<LentWorker<B>>>
+        ensures seat { MatchOption result (length self.now.seats.items ≤ lane)
+            (λ s. slice_get self.now.seats.items lane ≡ Some s.now) }
+    {
+        self.seats.get(lane)
+    }
+
+    /// Gathers the seats, once no thread has one any more, and settles the book of their desk, as `settle_lent`.
+    pub fn settle<R: Wait>(self, rt: &R, desk: LentDesk<B>, rounds: LentRounds<B>) -> Settled
+        ensures issued { result.issued ≡ rounds.rounds.rounds.book.issued }
+        ensures sum { result.issued ≡ result.moved + result.back }
+        ensures kept { HasKept B.rates B.when B.carried result.issued }
+    {
+        let LentSeats {
+            seats,
+            gathered,
+            worked,
+        } = self;
+        settle_lent(rt, desk, rounds, unlocked(seats, gathered), worked)
+    }
+}

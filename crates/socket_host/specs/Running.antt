@@ -1,0 +1,277 @@
+-- The transfer of a session, step by step.
+use Rattle.std.specs.Prelude.{◌≡◌, ◌⊎◌, ⊤, ℕ, ◌+◌, ◌/◌, ◌<◌, max, min, Bool, true, false, not, ◌||◌, IsTrue, Option, Some, None}
+use Rattle.std.specs.declared.alloc.Global.{Global}
+use Rattle.std.specs.declared.net.tcp.TcpListener.{TcpListener}
+use Rattle.data_sockets.specs.declared.connection.DataConnection.{DataConnection}
+use Rattle.data_sockets.specs.declared.end.TransferEnd.{TransferEnd}
+use Rattle.data_sockets.specs.declared.served.Served.{Served}
+use Rattle.server_house.specs.Tickets.{HasSinkOf}
+use Rattle.server_house.specs.Tickets as house
+use Rattle.session_core.specs.declared.events.DataEvent.{DataEvent}
+use Rattle.session_core.specs.declared.events.DataEvent.TheVariants.{Ended}
+use Rattle.session_table.specs.declared.actions.Job.{Job}
+use Rattle.session_table.specs.declared.inputs.End.{End}
+use Rattle.session_table.specs.declared.inputs.End.TheVariants.{NoConnection, NoMemory, Aborted}
+use Rattle.socket_host.specs.Jobs.{sink_in, sink_of}
+use Rattle.socket_host.specs.declared.run.Taken.{Taken}
+use Rattle.socket_host.specs.declared.run.Taken.TheVariants as taken
+use Rattle.socket_host.specs.declared.running.Prepared.{Prepared}
+use Rattle.socket_host.specs.declared.running.Prepared.TheVariants as prepared
+use Rattle.socket_host.specs.declared.running.Running.{Running}
+use Rattle.socket_host.specs.declared.running.Running.TheVariants as running
+use Rattle.transfer_ticket.specs.Tickets.{asking, begun, tried}
+use Rattle.transfer_ticket.specs.declared.view.TicketView.{TicketView}
+use Rattle.transfer_ticket.specs.declared.view.TicketView.TheVariants.{Away, Missed, Idle, Busy, Runs}
+use Rattle.transfer_worker.specs.declared.job.LaneJob.{LaneJob}
+
+-- the port that is listened on
+abbrev pub port_in : Prepared → Option ℕ
+port_in prepared.Nothing = None
+port_in (prepared.Listening listener port) = Some port
+port_in (prepared.Target to) = None
+
+-- a port is listened on, or nothing is prepared
+abbrev pub IsNoTarget : Prepared → Type 0
+IsNoTarget prepared.Nothing = ⊤
+IsNoTarget (prepared.Listening listener port) = ⊤
+IsNoTarget (prepared.Target to) = ⊥
+
+-- the report of an end
+abbrev pub event_of : {K : Type 0} → Option (TransferEnd K) → Option (DataEvent K)
+event_of None = None
+event_of (Some reported) = Some (Ended reported.end reported.sink)
+
+-- the octets that a transfer had moved whose end is taken
+abbrev pub IsMovedBy : {K : Type 0} → Option (TransferEnd K) → ℕ → Type 0
+IsMovedBy None moved = ⊤
+IsMovedBy (Some reported) moved = moved ≡ reported.moved
+
+-- the time for a client to connect to its passive port, and for a client's port to answer, in
+-- microseconds
+abbrev pub client_time : ℕ
+client_time = 60_000_000
+
+abbrev pub answer_time : ℕ
+answer_time = 5_000_000
+
+-- the time until the next look for a data connection, in milliseconds, by the microseconds waited
+-- so far: a tenth of these, from 20 to 200
+abbrev pub pause_after : ℕ → ℕ
+pause_after waited = min (max (waited / 10000) 20) 500
+
+module _ {J : Type 0} where
+  -- the session has asked for the end of what is on its ticket
+  abbrev pub has_asked : TicketView J → Bool
+  has_asked Away = false
+  has_asked Missed = false
+  has_asked Idle = false
+  has_asked (Busy job asked begun tries) = asked
+  has_asked (Runs job seen looks) = false
+
+module _ {R K C : Type 0} where
+  -- the transfer on a ticket is an upload
+  abbrev pub has_upload : TicketView (LaneJob R K C) → Bool
+  has_upload Away = false
+  has_upload Missed = false
+  has_upload Idle = false
+  has_upload (Busy job asked begun tries) = house.is_upload job
+  has_upload (Runs job seen looks) = false
+
+-- the knowledge of a session of its ticket
+abbrev pub Ticket : (R K : Type 0) → Type 0
+Ticket R K = TicketView (LaneJob (Served Global R) K DataConnection)
+
+module _ {R K : Type 0} where
+  -- a transfer that ends before it ran; the sink of an upload comes back
+  abbrev pub over : End → Job Global R K → Running R K
+  over end job = running.Over (record {
+    end = end;
+    sink = sink_in job;
+    moved = 0;
+  })
+
+  -- a transfer that was taken back before a lane had begun it
+  abbrev pub taken_back : LaneJob (Served Global R) K DataConnection → Running R K
+  taken_back job = running.Over (record {
+    end = Aborted;
+    sink = sink_of job;
+    moved = 0;
+  })
+
+  -- something was begun whose end is not reported
+  abbrev pub is_busy : Running R K → Bool
+  is_busy running.Nothing = false
+  is_busy (running.Awaited listener port job since) = true
+  is_busy (running.Connecting outgoing job since) = true
+  is_busy (running.Moving connection is_aborted) = true
+  is_busy (running.Over reported) = true
+
+  -- a transfer is on the ticket
+  abbrev pub is_moving : Running R K → Bool
+  is_moving running.Nothing = false
+  is_moving (running.Awaited listener port job since) = false
+  is_moving (running.Connecting outgoing job since) = false
+  is_moving (running.Moving connection is_aborted) = true
+  is_moving (running.Over reported) = false
+
+  -- it was aborted
+  abbrev pub is_aborted_in : Running R K → Bool
+  is_aborted_in running.Nothing = false
+  is_aborted_in (running.Awaited listener port job since) = false
+  is_aborted_in (running.Connecting outgoing job since) = false
+  is_aborted_in (running.Moving connection is_aborted) = is_aborted
+  is_aborted_in (running.Over reported) = false
+
+  -- only of an aborted transfer was a lane asked to stop it
+  abbrev pub is_marked : Running R K → Ticket R K → Bool
+  is_marked run view = not (has_asked view) || is_aborted_in run
+
+  -- lanes have the transfer, or it is over since there was no memory for it
+  abbrev pub IsHandedOver : Job Global R K → Running R K → Type 0
+  IsHandedOver job running.Nothing = ⊥
+  IsHandedOver job (running.Awaited listener port waiting since) = ⊥
+  IsHandedOver job (running.Connecting outgoing waiting since) = ⊥
+  IsHandedOver job (running.Moving connection is_aborted) = is_aborted ≡ false
+  IsHandedOver job (running.Over reported) = running.Over reported ≡ over NoMemory job
+
+  -- it is over since there was no memory or no connection for it; the sink of an upload comes back
+  abbrev pub IsUnbegun : Job Global R K → TransferEnd K → Type 0
+  IsUnbegun job reported =
+      ((reported.end ≡ NoMemory) ⊎ (reported.end ≡ NoConnection)) × (reported.sink ≡ sink_in job)
+      × (reported.moved ≡ 0)
+
+  -- the same job waits at the same port since the same moment, and not too long, or it was handed
+  -- over, or no client came in time
+  abbrev pub IsAwaited : TcpListener → ℕ → Job Global R K → ℕ → ℕ → Running R K → Type 0
+  IsAwaited listener port job since now running.Nothing = ⊥
+  IsAwaited listener port job since now (running.Awaited again at waiting moment) =
+      (again ≡ listener) × (at ≡ port) × (waiting ≡ job) × (moment ≡ since)
+      × (¬ (since + client_time < now))
+  IsAwaited listener port job since now (running.Connecting outgoing waiting moment) = ⊥
+  IsAwaited listener port job since now (running.Moving connection is_aborted) = is_aborted ≡ false
+  IsAwaited listener port job since now (running.Over reported) =
+      IsUnbegun job reported × (reported.end ≡ NoConnection → since + client_time < now)
+
+  -- the same job waits for the client's port since the same moment, and not too long, or it was
+  -- handed over, or there was no connection in time
+  abbrev pub IsConnecting : Job Global R K → ℕ → ℕ → Running R K → Type 0
+  IsConnecting job since now running.Nothing = ⊥
+  IsConnecting job since now (running.Awaited listener port waiting moment) = ⊥
+  IsConnecting job since now (running.Connecting outgoing waiting moment) =
+      (waiting ≡ job) × (moment ≡ since) × (¬ (since + answer_time < now))
+  IsConnecting job since now (running.Moving connection is_aborted) = is_aborted ≡ false
+  IsConnecting job since now (running.Over reported) = IsUnbegun job reported
+
+  -- a transfer over what was prepared, from this moment on; over nothing it ends at once
+  abbrev pub Starts : Prepared → Job Global R K → ℕ → Running R K → Type 0
+  Starts prepared.Nothing job now new = new ≡ over NoConnection job
+  Starts (prepared.Target to) job now new = IsConnecting job now now new
+  Starts (prepared.Listening listener port) job now new = IsAwaited listener port job now now new
+
+  -- A transfer on a ticket is taken back if no lane has begun it: then it is over, and its sink
+  -- comes back. Otherwise it is marked, and its lane is asked to stop, unless it has ended.
+  abbrev pub Stops : Ticket R K → DataConnection → Running R K → Ticket R K → Type 0
+  Stops view connection new view' =
+      ((job : LaneJob (Served Global R) K DataConnection) × (tries : ℕ)
+      × (view ≡ Busy job false false tries) × (new ≡ taken_back job) × (view' ≡ Idle))
+      ⊎ ((new ≡ running.Moving connection true)
+      × ((view' ≡ asking (begun view)) ⊎ (view' ≡ tried (begun view))))
+
+  -- a transfer without a connection ends at once, as does one that no lane has begun; one that a
+  -- lane runs is marked
+  abbrev pub Aborts : Ticket R K → Running R K → Running R K → Type 0
+  Aborts view running.Nothing new = new ≡ running.Nothing
+  Aborts view (running.Awaited listener port job since) new = new ≡ over Aborted job
+  Aborts view (running.Connecting outgoing job since) new = new ≡ over Aborted job
+  Aborts view (running.Moving connection is_aborted) new =
+      (view' : Ticket R K) × Stops view connection new view'
+  Aborts view (running.Over reported) new = new ≡ running.Over reported
+
+  -- only a transfer without a connection goes on by itself
+  abbrev pub GoesOn : ℕ → Running R K → Running R K → Type 0
+  GoesOn now (running.Awaited listener port job since) new =
+      IsAwaited listener port job since now new
+  GoesOn now (running.Connecting outgoing job since) new = IsConnecting job since now new
+  GoesOn now running.Nothing new = new ≡ running.Nothing
+  GoesOn now (running.Moving connection is_aborted) new = new ≡ running.Moving connection is_aborted
+  GoesOn now (running.Over reported) new = new ≡ running.Over reported
+
+  -- The end of a transfer on the ticket is Aborted exactly if it was aborted. The sink of an upload
+  -- comes back, unless there was no memory to begin it.
+  abbrev pub IsEndOf : Ticket R K → Bool → TransferEnd K → Type 0
+  IsEndOf view is_aborted reported =
+      (is_aborted ≡ true → reported.end ≡ Aborted) × (reported.end ≡ Aborted → is_aborted ≡ true)
+      × (is_aborted ≡ false → HasSinkOf (has_upload view) reported)
+
+  -- the port that a client is awaited at
+  abbrev pub port_of : Running R K → Option (TcpListener × ℕ)
+  port_of running.Nothing = None
+  port_of (running.Awaited listener port job since) = Some (listener, port)
+  port_of (running.Connecting outgoing job since) = None
+  port_of (running.Moving connection is_aborted) = None
+  port_of (running.Over reported) = None
+
+  -- the report of a lane on a transfer on the ticket
+  abbrev pub IsReported : Ticket R K → Bool → TransferEnd K → Type 0
+  IsReported view is_aborted reported =
+      (reported.end ≡ Aborted → is_aborted ≡ true) × HasSinkOf (has_upload view) reported
+
+  -- an end is taken as it is known to the session, or as a lane reports it
+  abbrev pub Takes : Ticket R K → Running R K → Taken K → Running R K → Type 0
+  Takes view running.Nothing found new = (found ≡ taken.Nothing) × (new ≡ running.Nothing)
+  Takes view (running.Awaited listener port job since) found new =
+      (found ≡ taken.Nothing) × (new ≡ running.Awaited listener port job since)
+  Takes view (running.Connecting outgoing job since) found new =
+      (found ≡ taken.Nothing) × (new ≡ running.Connecting outgoing job since)
+  Takes view (running.Moving connection is_aborted) taken.Nothing new =
+      new ≡ running.Moving connection is_aborted
+  Takes view (running.Moving connection is_aborted) (taken.Unbegun reported) new = ⊥
+  Takes view (running.Moving connection is_aborted) (taken.Reported reported aborted fault) new =
+      (new ≡ running.Nothing) × (aborted ≡ is_aborted) × IsReported view is_aborted reported
+  Takes view (running.Over reported) found new =
+      (found ≡ taken.Unbegun reported) × (new ≡ running.Nothing)
+
+  -- an end is taken once, and then nothing runs
+  abbrev pub TakesEnd
+      : Ticket R K → Running R K → Option (TransferEnd K) → Running R K → Type 0
+  TakesEnd view running.Nothing end new = (end ≡ None) × (new ≡ running.Nothing)
+  TakesEnd view (running.Awaited listener port job since) end new =
+      (end ≡ None) × (new ≡ running.Awaited listener port job since)
+  TakesEnd view (running.Connecting outgoing job since) end new =
+      (end ≡ None) × (new ≡ running.Connecting outgoing job since)
+  TakesEnd view (running.Moving connection is_aborted) None new =
+      new ≡ running.Moving connection is_aborted
+  TakesEnd view (running.Moving connection is_aborted) (Some end) new =
+      (new ≡ running.Nothing) × IsEndOf view is_aborted end
+  TakesEnd view (running.Over reported) end new = (end ≡ Some reported) × (new ≡ running.Nothing)
+
+  -- a look at a moment: the transfer goes on, and its end is taken, with the octets that it had
+  -- moved; what was on the ticket before stays there
+  abbrev pub Looks
+      : Ticket R K → ℕ → Running R K → Option (DataEvent K) → Running R K → ℕ → Type 0
+  Looks before now old event new moved =
+      (mid : Running R K) × (end : Option (TransferEnd K)) × (view : Ticket R K)
+      × (is_moving old ≡ true → view ≡ before) × GoesOn now old mid × TakesEnd view mid end new
+      × (event ≡ event_of end) × IsMovedBy end moved
+
+  -- The report of a transfer that is waited for, or of nothing if nothing runs, with the octets
+  -- that it had moved. One without a connection is aborted.
+  abbrev pub Settles : Running R K → Option (DataEvent K) → ℕ → Type 0
+  Settles running.Nothing event moved = event ≡ None
+  Settles (running.Awaited listener port job since) event moved =
+      (event ≡ Some (Ended Aborted (sink_in job))) × (moved ≡ 0)
+  Settles (running.Connecting outgoing job since) event moved =
+      (event ≡ Some (Ended Aborted (sink_in job))) × (moved ≡ 0)
+  Settles (running.Moving connection is_aborted) event moved =
+      (end : TransferEnd K) × (event ≡ Some (Ended end.end end.sink)) × (moved ≡ end.moved)
+      × (IsTrue is_aborted → end.end ≡ Aborted)
+  Settles (running.Over reported) event moved =
+      (event ≡ Some (Ended reported.end reported.sink)) × (moved ≡ reported.moved)
+
+  -- true if there is something to report; either value for a moving transfer
+  abbrev pub RestsOn : Running R K → Bool → Type 0
+  RestsOn running.Nothing result = result ≡ false
+  RestsOn (running.Awaited listener port job since) result = result ≡ false
+  RestsOn (running.Connecting outgoing job since) result = result ≡ false
+  RestsOn (running.Moving connection is_aborted) result = ⊤
+  RestsOn (running.Over reported) result = result ≡ true

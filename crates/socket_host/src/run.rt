@@ -1,0 +1,180 @@
+//! The transfer of a session, and the session's right to its ticket.
+
+ghost use Rattle.std.specs.Prelude.{◌≡◌, IfNone, IfSome, false, true};
+ghost use Rattle.socket_host.specs.Running.{Aborts, Stops, Takes, is_marked, is_moving, port_of};
+ghost use Rattle.transfer_ticket.specs.Tickets.{is_busy, is_owner};
+ghost use Rattle.transfer_ticket.specs.Views.{owner_view};
+ghost use Rattle.transfer_ticket.specs.declared.view.TicketView.TheVariants.{Idle};
+
+use crate::running::{Running, over, taken_back};
+use data_sockets::{DataConnection, TransferEnd};
+use server_house::{LaneEnds, SessionEnd, SessionJob};
+use session_table::End;
+use std::alloc::Global;
+use std::net::TcpListener;
+use std::{io, mem};
+use transfer_ticket::TicketOwner;
+use virtual_tree::Store;
+
+// Takes a transfer back from the lanes, or has the lane that runs it stop.
+fn stop<S: Store<Global>>(
+    owner: &mut TicketOwner<'_, SessionJob<S>, SessionEnd<S>, LaneEnds>,
+    connection: DataConnection,
+) -> Running<S::Source, S::Sink>
+    requires busy { is_busy (owner_view owner.old) ≡ true }
+    ensures stops { Stops (owner_view owner.old) connection result (owner_view owner.new) }
+{
+    match owner.cancel() {
+        Some(job) => taken_back(job),
+        None => {
+            connection.abort();
+            let _ = owner.stop();
+            Running::Moving {
+                connection,
+                is_aborted: true,
+            }
+        }
+    }
+}
+
+/// The end of a transfer that was taken.
+#[derive(Drop)]
+pub(crate) enum Taken<K> {
+    Nothing,
+    /// One that never ran, or was taken back.
+    Unbegun(TransferEnd<K>),
+    /// The end that a lane reports of a transfer that was aborted or not, and the last error of its connection.
+    Reported(TransferEnd<K>, bool, Option<io::Error>),
+}
+
+/// The transfer of a session at its ticket: it moves exactly if it is on the ticket, and a lane was asked to stop it only
+/// if it was aborted. It cannot be dropped.
+pub(crate) struct SessionRun<'h, S: Store<Global>> {
+    pub(crate) owner: TicketOwner<'h, SessionJob<S>, SessionEnd<S>, LaneEnds>,
+    pub(crate) running: Running<S::Source, S::Sink>,
+    ghost tied: { (is_owner (owner_view owner) ≡ true)
+        × (is_moving running ≡ is_busy (owner_view owner))
+        × (is_marked running (owner_view owner) ≡ true) },
+}
+
+impl<'h, S: Store<Global>> SessionRun<'h, S> {
+    /// No transfer, at a ticket with nothing on it.
+    pub(crate) fn new(
+        owner: TicketOwner<'h, SessionJob<S>, SessionEnd<S>, LaneEnds>,
+    ) -> SessionRun<'h, S>
+        requires idle { owner_view owner ≡ Idle }
+        ensures nothing { result.running ≡ Running.Nothing }
+    {
+        SessionRun {
+            owner,
+            running: Running::Nothing,
+        }
+    }
+
+    /// Puts a transfer over a connection on the ticket. Returns whether the ticket's number is to be appended to the board.
+    pub(crate) fn put(&mut self, connection: DataConnection, job: SessionJob<S>) -> bool
+        requires nothing { self.old.running ≡ Running.Nothing }
+        ensures moving { self.new.running ≡ Running.Moving connection false }
+    {
+        let is_to_list = self.owner.put(job);
+        self.running = Running::Moving {
+            connection,
+            is_aborted: false,
+        };
+        is_to_list
+    }
+
+    /// Takes out a transfer without a connection, or its end; one on the ticket stays there.
+    pub(crate) fn take_out(&mut self) -> Option<Running<S::Source, S::Sink>>
+        ensures out { IfSome result (λ out. (out ≡ self.old.running)
+            × (is_moving self.old.running ≡ false) × (self.new.running ≡ Running.Nothing)) }
+        ensures stays { IfNone result ((is_moving self.old.running ≡ true)
+            × (self.new.running ≡ self.old.running)
+            × (owner_view self.new.owner ≡ owner_view self.old.owner)) }
+    {
+        if let Running::Moving { .. } = &self.running {
+            return None;
+        }
+        Some(mem::replace(&mut self.running, Running::Nothing))
+    }
+
+    /// Aborts the transfer. Returns the port that it waited at, if it did, which is to be closed.
+    pub(crate) fn abort(&mut self) -> Option<(TcpListener, u16)>
+        ensures running { Aborts (owner_view self.old.owner) self.old.running self.new.running }
+        ensures port { result ≡ port_of self.old.running }
+    {
+        let before = mem::replace(&mut self.running, Running::Nothing);
+        match before {
+            Running::Awaited {
+                listener,
+                port,
+                job,
+                since: _,
+            } => {
+                self.running = over(End::Aborted, job);
+                Some((listener, port))
+            }
+            Running::Connecting {
+                outgoing,
+                job,
+                since: _,
+            } => {
+                drop(outgoing);
+                self.running = over(End::Aborted, job);
+                None
+            }
+            Running::Moving {
+                connection,
+                is_aborted: _,
+            } => {
+                self.running = stop::<S>(&mut self.owner, connection);
+                None
+            }
+            Running::Nothing => None,
+            Running::Over(reported) => {
+                self.running = Running::Over(reported);
+                None
+            }
+        }
+    }
+
+    /// Takes the end of the transfer, if it has ended. The connection is closed first.
+    pub(crate) fn take_end(&mut self) -> Taken<S::Sink>
+        ensures takes { Takes (owner_view self.old.owner) self.old.running result self.new.running }
+    {
+        let before = mem::replace(&mut self.running, Running::Nothing);
+        match before {
+            Running::Nothing => Taken::Nothing,
+            Running::Over(reported) => Taken::Unbegun(reported),
+            Running::Moving {
+                connection,
+                is_aborted,
+            } => match self.owner.take_end() {
+                Some(reported) => {
+                    let fault = connection.fault();
+                    drop(connection);
+                    Taken::Reported(reported, is_aborted, fault)
+                }
+                None => {
+                    self.running = Running::Moving {
+                        connection,
+                        is_aborted,
+                    };
+                    Taken::Nothing
+                }
+            },
+            waiting => {
+                self.running = waiting;
+                Taken::Nothing
+            }
+        }
+    }
+
+    /// Leaves the ticket, with nothing on it.
+    pub(crate) fn leave(self)
+        requires nothing { is_moving self.running ≡ false }
+    {
+        let SessionRun { owner, running: _ } = self;
+        owner.leave();
+    }
+}

@@ -1,0 +1,611 @@
+//! The data side of a session.
+
+ghost use Rattle.std.specs.Prelude.{◌≡◌, IfNone, IfSome, IsTrue, false, true};
+ghost use Rattle.session_core.specs.declared.events.DataEvent.TheVariants.{Ready};
+ghost use Rattle.server_house.specs.declared.cause.EndCause.TheVariants as cause;
+ghost use Rattle.session_table.specs.declared.inputs.End.TheVariants.{Aborted, NoConnection, NoMemory};
+ghost use Rattle.socket_host.specs.Causes.{AbortCause, GoesCause, LookCause, StartCause, TakenCause, cause_of};
+ghost use Rattle.socket_host.specs.Running.{Aborts, GoesOn, IsAwaited, IsConnecting, IsHandedOver, IsMovedBy, IsNoTarget, Looks, RestsOn, Settles, Starts, TakesEnd, event_of, is_busy, is_moving, over, pause_after, port_in};
+ghost use Rattle.transfer_ticket.specs.Tickets as ticket;
+ghost use Rattle.transfer_ticket.specs.Views.{owner_view};
+ghost use Rattle.transfer_ticket.specs.declared.view.TicketView.TheVariants.{Idle};
+
+use crate::ports::SharedPorts;
+use crate::run::{SessionRun, Taken};
+use crate::running::{Prepared, Running, is_brief, is_upload, lane_job, over};
+use data_sockets::{DataConnection, Outgoing, Progress, TransferEnd, accept_from, socket_address};
+use event_word::{has_passed, micros};
+use ftp_wire::HostPort;
+use lent_parts::PartsName;
+use passive_ports::{MOST_TRIES, open_passive};
+use server_house::{EndCause, House, LaneEnds, OwnRuns, ServerRuntime, SessionEnd, SessionJob};
+use session_core::DataEvent;
+use session_table::{End, Job};
+use std::alloc::Global;
+use std::io::ErrorKind;
+use std::net::{TcpListener, TcpStream};
+use std::time::Duration;
+use std::{io, mem, thread};
+use transfer_ticket::TicketOwner;
+use virtual_tree::Store;
+
+/// The time without an octet after which the read of an upload fails, in milliseconds.
+const STANDSTILL: u64 = 60_000;
+
+/// The time for a client to connect to its passive port, in microseconds.
+const PATIENCE: u64 = 60_000_000;
+
+/// The time for a client's port to answer, in microseconds.
+const CONNECTING: u64 = 5_000_000;
+
+/// The longest wait for the end of a moving transfer before the session reads its control connection, in milliseconds.
+/// The end wakes it at once.
+const LOOK: u64 = 50;
+
+/// The time in which a data connection usually comes, in microseconds: the session looks for it each millisecond.
+const USUAL: u64 = 100_000;
+
+/// The shortest and the longest time between two looks for one that has not come by then, in milliseconds.
+const SHORTEST_PAUSE: u64 = 20;
+
+const LONGEST_PAUSE: u64 = 500;
+
+// The time until the next look for a data connection, in milliseconds: a tenth of the microseconds waited so far.
+fn pause_after(waited: u64) -> u64
+    ensures pause { result ≡ pause_after waited }
+{
+    (waited / 10_000).max(SHORTEST_PAUSE).min(LONGEST_PAUSE)
+}
+
+// The end of a transfer: that which its lane reports, or `Aborted` if it was aborted.
+fn end_of(is_aborted: bool, end: End) -> End
+    ensures aborted { IsTrue is_aborted → result ≡ Aborted }
+    ensures reported { is_aborted ≡ false → result ≡ end }
+{
+    if is_aborted { End::Aborted } else { end }
+}
+
+// The reason for the end that a lane reports, with the error of the connection, if there was one.
+fn cause_of(is_aborted: bool, end: End, fault: Option<io::Error>) -> Option<EndCause>
+    ensures cause { result ≡ cause_of is_aborted end fault }
+{
+    if is_aborted {
+        return Some(EndCause::Aborted);
+    }
+    match end {
+        End::Done => None,
+        End::Lost => Some(EndCause::Connection(fault)),
+        End::Local | End::Full => Some(EndCause::File),
+        End::NoConnection => Some(EndCause::NoClient),
+        End::NoMemory => Some(EndCause::NoMemory),
+        End::Aborted => Some(EndCause::ServerEnds),
+    }
+}
+
+// The report of an end, if there is one.
+fn event_of<K: Drop>(end: Option<TransferEnd<K>>) -> Option<DataEvent<K>>
+    ensures event { result ≡ event_of end }
+{
+    match end {
+        Some(TransferEnd { end, sink, .. }) => Some(DataEvent::Ended { end, sink }),
+        None => None,
+    }
+}
+
+/// The data side of the session of one control connection. It cannot be dropped: it leaves its ticket.
+pub struct SocketSide<'h, R, S: Store<Global>, H: Drop, B: PartsName, T> {
+    rt: &'h R,
+    house: &'h House<S, H, B>,
+    // runs brief downloads here
+    runs: &'h T,
+    // the peer whose data connections are accepted; none for any
+    wanted: Option<[u8; 4]>,
+    // the number of its ticket, and its right to that
+    session: u32,
+    run: SessionRun<'h, S>,
+    prepared: Prepared,
+    // the reason for the last end that was made or taken, unless it is that all was moved
+    cause: Option<EndCause>,
+    // the number of octets that the last transfer had moved whose end was taken
+    moved: u64,
+    // the result of opening a port, to be reported: the port, or that none was free
+    ready: Option<Option<u16>>,
+    // the error for which none could be listened on
+    port_fault: Option<io::Error>,
+}
+
+impl<'h, R, S, H, B, T> SocketSide<'h, R, S, H, B, T>
+where
+    R: ServerRuntime,
+    S: Store<Global>,
+    H: Drop,
+    B: PartsName,
+    T: OwnRuns,
+{
+    /// The data side of the session with this number, at its ticket, with nothing prepared and nothing running. It accepts
+    /// connections of the wanted peer, or of any if none is given.
+    pub fn new(
+        rt: &'h R,
+        house: &'h House<S, H, B>,
+        runs: &'h T,
+        wanted: Option<[u8; 4]>,
+        session: u32,
+        owner: TicketOwner<'h, SessionJob<S>, SessionEnd<S>, LaneEnds>,
+    ) -> Self
+        requires idle { owner_view owner ≡ Idle }
+        ensures prepared { result.prepared ≡ Prepared.Nothing }
+        ensures running { result.run.running ≡ Running.Nothing }
+        ensures ready { result.ready ≡ None }
+    {
+        SocketSide {
+            rt,
+            house,
+            runs,
+            wanted,
+            session,
+            run: SessionRun::new(owner),
+            prepared: Prepared::Nothing,
+            cause: None,
+            moved: 0,
+            ready: None,
+            port_fault: None,
+        }
+    }
+
+    /// Drops what was prepared; a port then rests.
+    pub fn drop_data(&mut self)
+        ensures prepared { self.new.prepared ≡ Prepared.Nothing }
+        ensures running { self.new.run.running ≡ self.old.run.running }
+        ensures ready { self.new.ready ≡ self.old.ready }
+        ensures cause { self.new.cause ≡ self.old.cause }
+    {
+        let before = mem::replace(&mut self.prepared, Prepared::Nothing);
+        match before {
+            Prepared::Listening(listener, port) => self.close_port(listener, port),
+            Prepared::Nothing | Prepared::Target(_) => {}
+        }
+    }
+
+    fn close_port(&self, listener: TcpListener, port: u16) {
+        drop(listener);
+        self.house.ports.lock(self.rt).give_back(port);
+    }
+
+    // Leases a port and listens on it. If none could be listened on, the error of the last is kept.
+    fn listening(&mut self) -> Option<(u16, TcpListener)>
+        ensures prepared { self.new.prepared ≡ self.old.prepared }
+        ensures running { self.new.run.running ≡ self.old.run.running }
+        ensures cause { self.new.cause ≡ self.old.cause }
+    {
+        let mut ports = SharedPorts {
+            rt: self.rt,
+            ports: &self.house.ports,
+            numbers: self.house.numbers,
+            fault: None,
+        };
+        let listening = open_passive(&mut ports, MOST_TRIES);
+        let SharedPorts { fault, .. } = ports;
+        self.port_fault = fault;
+        listening
+    }
+
+    /// The machine's error for which no port could be listened on, when a look has just reported that none is free. None
+    /// if all are leased.
+    pub fn port_fault(&self) -> Option<io::Error>
+        ensures fault { result ≡ self.now.port_fault }
+    {
+        self.port_fault
+    }
+
+    /// The reason for the last end that was reported, unless it is that all octets were moved.
+    pub fn cause(&self) -> Option<EndCause>
+        ensures cause { result ≡ self.now.cause }
+    {
+        self.cause
+    }
+
+    /// Number of octets that the transfer had moved whose end was reported last.
+    pub fn moved(&self) -> u64
+        ensures moved { result ≡ self.now.moved }
+    {
+        self.moved
+    }
+
+    /// Listens on a passive port, if one is free. The next look reports it.
+    pub fn open_passive(&mut self)
+        ensures ready { self.new.ready ≡ Some (port_in self.new.prepared) }
+        ensures prepared { IsNoTarget self.new.prepared }
+        ensures running { self.new.run.running ≡ self.old.run.running }
+    {
+        self.drop_data();
+        match self.listening() {
+            Some((port, listener)) => {
+                self.prepared = Prepared::Listening(listener, port);
+                self.ready = Some(Some(port));
+            }
+            None => self.ready = Some(None),
+        }
+    }
+
+    /// Makes the next transfer connect to this port.
+    pub fn connect_to(&mut self, to: HostPort)
+        ensures prepared { self.new.prepared ≡ Prepared.Target to }
+        ensures running { self.new.run.running ≡ self.old.run.running }
+        ensures ready { self.new.ready ≡ self.old.ready }
+    {
+        self.drop_data();
+        self.prepared = Prepared::Target(to);
+    }
+
+    // Hands a transfer to the lanes.
+    fn hand_over(&mut self, stream: TcpStream, job: Job<Global, S::Source, S::Sink>, user: u32)
+        requires nothing { self.old.run.running ≡ Running.Nothing }
+        ensures running { IsHandedOver job self.new.run.running }
+        ensures prepared { self.new.prepared ≡ self.old.prepared }
+        ensures ready { self.new.ready ≡ self.old.ready }
+    {
+        if is_upload(&job) {
+            let _ = stream.set_read_timeout(Some(Duration::from_millis(STANDSTILL)));
+        }
+        match DataConnection::new(self.rt.alloc(), stream) {
+            Ok(own) => match own.another() {
+                Ok(theirs) => self.put(own, theirs, job, user),
+                Err(_) => self.end_unbegun(job),
+            },
+            Err(_) => self.end_unbegun(job),
+        }
+    }
+
+    // Ends a transfer for which there is no memory.
+    fn end_unbegun(&mut self, job: Job<Global, S::Source, S::Sink>)
+        requires nothing { self.old.run.running ≡ Running.Nothing }
+        ensures running { self.new.run.running ≡ over NoMemory job }
+        ensures cause { self.new.cause ≡ Some cause.NoMemory }
+        ensures prepared { self.new.prepared ≡ self.old.prepared }
+        ensures ready { self.new.ready ≡ self.old.ready }
+    {
+        self.cause = Some(EndCause::NoMemory);
+        self.run.running = over(End::NoMemory, job);
+    }
+
+    // Puts a transfer on the ticket. A brief download is run here, if it can be; the lanes run any other.
+    fn put(
+        &mut self,
+        own: DataConnection,
+        theirs: DataConnection,
+        job: Job<Global, S::Source, S::Sink>,
+        user: u32,
+    )
+        requires nothing { self.old.run.running ≡ Running.Nothing }
+        ensures running { self.new.run.running ≡ Running.Moving own false }
+        ensures prepared { self.new.prepared ≡ self.old.prepared }
+        ensures ready { self.new.ready ≡ self.old.ready }
+        ensures cause { self.new.cause ≡ self.old.cause }
+    {
+        let is_brief = is_brief(&job);
+        let job = lane_job(job, theirs, user, self.session);
+        if self.run.put(own, job) {
+            if is_brief && self.runs.run_here(self.session, user) {
+                return;
+            }
+            self.list();
+        }
+        self.house.jobs.signal_one();
+    }
+
+    // Appends the number of the ticket to those with a transfer that waits. There is room for each number once.
+    fn list(&self) {
+        let mut pass = self.house.pass.lock(self.rt);
+        let _ = self.house.board.push(self.rt, &mut *pass, self.session);
+    }
+
+    // Ends a transfer that got no data connection.
+    fn end_without(&mut self, why: EndCause, job: Job<Global, S::Source, S::Sink>)
+        requires nothing { self.old.run.running ≡ Running.Nothing }
+        ensures running { self.new.run.running ≡ over NoConnection job }
+        ensures cause { self.new.cause ≡ Some why }
+        ensures prepared { self.new.prepared ≡ self.old.prepared }
+        ensures ready { self.new.ready ≡ self.old.ready }
+    {
+        self.cause = Some(why);
+        self.run.running = over(End::NoConnection, job);
+    }
+
+    // Checks once, at this moment, whether the client has connected to its port.
+    fn await_client(
+        &mut self,
+        listener: TcpListener,
+        port: u16,
+        job: Job<Global, S::Source, S::Sink>,
+        since: u64,
+        now: u64,
+        user: u32,
+    )
+        requires nothing { self.old.run.running ≡ Running.Nothing }
+        ensures running { IsAwaited listener port job since now self.new.run.running }
+        ensures prepared { self.new.prepared ≡ self.old.prepared }
+        ensures ready { self.new.ready ≡ self.old.ready }
+    {
+        match accept_from(&listener, self.wanted) {
+            Some(stream) => {
+                self.close_port(listener, port);
+                self.hand_over(stream, job, user);
+            }
+            None => {
+                if has_passed(since, now, PATIENCE) {
+                    self.close_port(listener, port);
+                    self.end_without(EndCause::NoClient, job);
+                } else {
+                    self.run.running = Running::Awaited {
+                        listener,
+                        port,
+                        job,
+                        since,
+                    };
+                }
+            }
+        }
+    }
+
+    // Checks once, at this moment, whether the client's port has answered.
+    fn await_answer(
+        &mut self,
+        outgoing: Outgoing,
+        job: Job<Global, S::Source, S::Sink>,
+        since: u64,
+        now: u64,
+        user: u32,
+    )
+        requires nothing { self.old.run.running ≡ Running.Nothing }
+        ensures running { IsConnecting job since now self.new.run.running }
+        ensures prepared { self.new.prepared ≡ self.old.prepared }
+        ensures ready { self.new.ready ≡ self.old.ready }
+    {
+        match outgoing.progress() {
+            Progress::Connected(stream) => self.hand_over(stream, job, user),
+            Progress::Failed(error) => self.end_without(EndCause::NotConnected(error), job),
+            Progress::Pending(outgoing) => {
+                if has_passed(since, now, CONNECTING) {
+                    let error = io::Error::from(ErrorKind::TimedOut);
+                    self.end_without(EndCause::NotConnected(error), job);
+                } else {
+                    self.run.running = Running::Connecting {
+                        outgoing,
+                        job,
+                        since,
+                    };
+                }
+            }
+        }
+    }
+
+    // Begins a connection to a client's port, at this moment.
+    fn connect(&mut self, to: HostPort, job: Job<Global, S::Source, S::Sink>, user: u32, now: u64)
+        requires nothing { self.old.run.running ≡ Running.Nothing }
+        ensures running { Starts (Prepared.Target to) job now self.new.run.running }
+        ensures prepared { self.new.prepared ≡ self.old.prepared }
+        ensures ready { self.new.ready ≡ self.old.ready }
+    {
+        match Outgoing::begin(self.rt, socket_address(to.address, to.port)) {
+            Ok(outgoing) => self.await_answer(outgoing, job, now, now, user),
+            Err(error) => self.end_without(EndCause::NotConnected(error), job),
+        }
+    }
+
+    // Ends what runs: a session begins a transfer when the one before has ended.
+    fn clear(&mut self)
+        ensures running { self.new.run.running ≡ Running.Nothing }
+        ensures prepared { self.new.prepared ≡ self.old.prepared }
+        ensures ready { self.new.ready ≡ self.old.ready }
+    {
+        self.abort();
+        self.await_end();
+    }
+
+    /// Begins a transfer of a user over the connection that was prepared, at this moment in microseconds. One that runs
+    /// is ended first.
+    pub fn start(&mut self, job: Job<Global, S::Source, S::Sink>, user: u32, now: u64)
+        ensures running { Starts self.old.prepared job now self.new.run.running }
+        ensures prepared { self.new.prepared ≡ Prepared.Nothing }
+        ensures ready { self.new.ready ≡ self.old.ready }
+        ensures cause { StartCause self.old.prepared self.new.cause }
+    {
+        self.clear();
+        let prepared = mem::replace(&mut self.prepared, Prepared::Nothing);
+        self.cause = None;
+        match prepared {
+            Prepared::Nothing => self.end_without(EndCause::NothingPrepared, job),
+            Prepared::Target(to) => self.connect(to, job, user, now),
+            Prepared::Listening(listener, port) => {
+                self.await_client(listener, port, job, now, now, user);
+            }
+        }
+    }
+
+    /// Aborts the running transfer; a later look reports its end. One that waits for a lane is over at once, and one that
+    /// a lane runs before its next ask, whatever its rates have left.
+    pub fn abort(&mut self)
+        ensures running { Aborts (owner_view self.old.run.owner) self.old.run.running
+            self.new.run.running }
+        ensures prepared { self.new.prepared ≡ self.old.prepared }
+        ensures ready { self.new.ready ≡ self.old.ready }
+        ensures cause { AbortCause self.old.run.running self.new.run.running self.old.cause
+            self.new.cause }
+    {
+        let is_open = !matches!(&self.run.running, Running::Nothing | Running::Over(_));
+        if let Some((listener, port)) = self.run.abort() {
+            self.close_port(listener, port);
+        }
+        if is_open && matches!(&self.run.running, Running::Over(_)) {
+            self.cause = Some(EndCause::Aborted);
+        }
+    }
+
+    // Takes the end of the running transfer, if it has ended. If it was aborted, the end is `Aborted` whatever the lane
+    // reports. The connection is closed first, so that the client reads the end of the data no later than the reply.
+    fn take_end(&mut self) -> Option<TransferEnd<S::Sink>>
+        ensures running { TakesEnd (owner_view self.old.run.owner) self.old.run.running result
+            self.new.run.running }
+        ensures prepared { self.new.prepared ≡ self.old.prepared }
+        ensures ready { self.new.ready ≡ self.old.ready }
+        ensures cause { TakenCause self.old.run.running result self.old.cause self.new.cause }
+        ensures moved { IsMovedBy result self.new.moved }
+    {
+        match self.run.take_end() {
+            Taken::Nothing => None,
+            Taken::Unbegun(reported) => {
+                self.moved = reported.moved;
+                Some(reported)
+            }
+            Taken::Reported(reported, is_aborted, fault) => {
+                let TransferEnd { end, sink, moved } = reported;
+                self.cause = cause_of(is_aborted, end, fault);
+                self.moved = moved;
+                Some(TransferEnd {
+                    end: end_of(is_aborted, end),
+                    sink,
+                    moved,
+                })
+            }
+        }
+    }
+
+    // Accepts the client's connection, if it has come by this moment, or takes that to its port, if it is there.
+    fn go_on(&mut self, user: u32, now: u64)
+        ensures running { GoesOn now self.old.run.running self.new.run.running }
+        ensures ticket { is_moving self.old.run.running ≡ true
+            → owner_view self.new.run.owner ≡ owner_view self.old.run.owner }
+        ensures prepared { self.new.prepared ≡ self.old.prepared }
+        ensures ready { self.new.ready ≡ self.old.ready }
+        ensures cause { GoesCause self.old.run.running self.old.cause self.new.cause }
+    {
+        match self.run.take_out() {
+            Some(
+                Running::Awaited {
+                    listener,
+                    port,
+                    job,
+                    since,
+                },
+            ) => self.await_client(listener, port, job, since, now, user),
+            Some(
+                Running::Connecting {
+                    outgoing,
+                    job,
+                    since,
+                },
+            ) => self.await_answer(outgoing, job, since, now, user),
+            Some(Running::Over(reported)) => self.run.running = Running::Over(reported),
+            Some(Running::Moving { .. }) => unreachable!(),
+            Some(Running::Nothing) | None => {}
+        }
+    }
+
+    /// Reports a port, or the end of this user's transfer; `None` if there is neither by this moment, in microseconds. A
+    /// client that has not connected to its port within a minute, or whose port has not answered within five seconds,
+    /// is not waited for any longer. Does not wait.
+    pub fn look(&mut self, user: u32, now: u64) -> Option<DataEvent<S::Sink>>
+        ensures port { IfSome self.old.ready (λ port. (result ≡ Some (Ready port))
+            × (self.new.run.running ≡ self.old.run.running)) }
+        ensures end { IfNone self.old.ready (Looks (owner_view self.old.run.owner) now
+            self.old.run.running result self.new.run.running self.new.moved) }
+        ensures ready { self.new.ready ≡ None }
+        ensures prepared { self.new.prepared ≡ self.old.prepared }
+        ensures cause { IfNone self.old.ready
+            (LookCause self.old.run.running result self.old.cause self.new.cause) }
+    {
+        if let Some(port) = self.ready.take() {
+            return Some(DataEvent::Ready(port));
+        }
+        self.go_on(user, now);
+        event_of(self.take_end())
+    }
+
+    /// Returns whether the end of something begun is not yet reported.
+    pub fn is_busy(&self) -> bool
+        ensures busy { result ≡ is_busy self.now.run.running }
+    {
+        !matches!(&self.run.running, Running::Nothing)
+    }
+
+    /// Waits briefly for the end of a moving transfer, or for a data connection that is late. Returns whether there is
+    /// something to report.
+    pub fn rest(&self) -> bool
+        ensures over { RestsOn self.now.run.running result }
+    {
+        match &self.run.running {
+            Running::Moving { .. } => self.run.owner.rest(self.rt, Duration::from_millis(LOOK)),
+            Running::Over(_) => true,
+            Running::Nothing => false,
+            Running::Awaited { since, .. } | Running::Connecting { since, .. } => {
+                let now = micros(self.rt);
+                if has_passed(*since, now, USUAL) {
+                    let pause = pause_after(now.saturating_sub(*since));
+                    thread::sleep(self.rt, Duration::from_millis(pause));
+                }
+                false
+            }
+        }
+    }
+
+    // Waits for the end of the running transfer and reports it.
+    fn await_end(&mut self) -> Option<DataEvent<S::Sink>>
+        ensures settled { Settles self.old.run.running result self.new.moved }
+        ensures running { self.new.run.running ≡ Running.Nothing }
+        ensures prepared { self.new.prepared ≡ self.old.prepared }
+        ensures ready { self.new.ready ≡ self.old.ready }
+    {
+        let rt = self.rt;
+        for _ in rt.forever() {
+            match self.take_end() {
+                Some(TransferEnd { end, sink, .. }) => {
+                    return Some(DataEvent::Ended { end, sink });
+                }
+                None => {
+                    if !self.is_busy() {
+                        return None;
+                    }
+                    self.rest();
+                }
+            }
+        }
+        unreachable!()
+    }
+
+    /// Waits for the end of the running transfer and reports it; aborts it if there is no connection yet. Drops what was
+    /// prepared.
+    pub fn settle(&mut self) -> Option<DataEvent<S::Sink>>
+        ensures settled { Settles self.old.run.running result self.new.moved }
+        ensures running { self.new.run.running ≡ Running.Nothing }
+        ensures prepared { self.new.prepared ≡ Prepared.Nothing }
+        ensures ready { self.new.ready ≡ None }
+    {
+        self.drop_data();
+        self.ready = None;
+        if let Running::Awaited { .. } | Running::Connecting { .. } = &self.run.running {
+            self.abort();
+        }
+        self.await_end()
+    }
+
+    /// Leaves the ticket to the next session. A transfer that still runs is ended.
+    pub fn leave(self) {
+        let mut side = self;
+        side.drop_data();
+        side.clear();
+        let SocketSide {
+            rt: _,
+            house: _,
+            runs: _,
+            wanted: _,
+            session: _,
+            run,
+            prepared: _,
+            cause: _,
+            moved: _,
+            ready: _,
+            port_fault: _,
+        } = side;
+        run.leave();
+    }
+}

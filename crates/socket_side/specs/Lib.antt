@@ -1,3 +1,0 @@
-pub mod Causes
-pub mod Jobs
-pub mod Running

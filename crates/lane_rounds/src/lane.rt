@@ -16,7 +16,7 @@ use line_rates::Way;
 use server_house::{House, LaneSign, SessionTicket, ShutdownStage};
 use std::alloc::Global;
 use std::io::{Read, Write};
-use std::sync::Wait;
+use std::sync::{Mutex, Wait};
 use std::time::{Clock, Duration};
 use transfer_ticket::TicketRun;
 use transfer_worker::LaneJob;

@@ -3,7 +3,6 @@
 ghost use Rattle.std.specs.Prelude.{◌≡◌, ◌+◌, ◌≤◌, [], IfOk, MatchOption, Some, length, slice_get, vec_capacity};
 ghost use Rattle.lane_desk.specs.Open.{AreFresh};
 ghost use Rattle.paced_rounds.specs.Seconds.{HasKept};
-ghost use Rattle.lent_parts.specs.Rooms.{HasRoom};
 
 use crate::desk::LentDesk;
 use crate::name::PartsName;
@@ -82,7 +81,8 @@ fn unlocked<B: PartsName>(
 impl<B: PartsName> LentSeats<B> {
     /// Room for the seats of this many lanes, and none yet.
     pub fn open(alloc: Global, lanes: usize) -> Result<LentSeats<B>, AllocError>
-        ensures room { IfOk result (λ s. HasRoom lanes s) }
+        ensures room { IfOk result (λ s. (s.seats.items ≡ []) × (lanes ≤ vec_capacity s.seats)
+            × (lanes ≤ vec_capacity s.gathered) × (lanes ≤ vec_capacity s.worked)) }
     {
         let (seats, gathered) = new_lists(alloc, lanes)?;
         match Vec::with_capacity(alloc, lanes) {
@@ -102,7 +102,10 @@ impl<B: PartsName> LentSeats<B> {
     /// Lends the seats of a desk that was just opened, each with a tally of its own.
     pub fn lend(&mut self, seats: Vec<LaneSeat<()>>, tally: &mut Tally<()>)
         requires seats { AreFresh B.desk B.lanes seats.items }
-        requires room { HasRoom (length seats.items) self.old }
+        requires room { (self.old.seats.items ≡ [])
+            × (length seats.items ≤ vec_capacity self.old.seats)
+            × (length seats.items ≤ vec_capacity self.old.gathered)
+            × (length seats.items ≤ vec_capacity self.old.worked) }
         ensures tally { tally.new ≡ tally.old }
         ensures all { length self.new.seats.items ≡ length seats.items }
     {

@@ -8,20 +8,20 @@ use Rattle.lent_parts.proofs.rounds.LentRounds.hold.Goals as goal
 pub invariant_of-self-clause-moments : goal.invariant_of-self-clause-moments
 invariant_of-self-clause-moments g c =
     let old = c.args.self.now in
-    moments_more g.B.PartsName.when (history old.rounds.log.items) (history c.hold.new.self.log.items) c.args.now old.rounds.latest (round_at (max c.args.now old.rounds.latest) c.hold.result) old.moments c.requires.when old.last refl
-    c.hold.ensures.grows
+    moments_more g.B.PartsName.when (history old.rounds.log.items) (history c.hold-result.new.self.log.items) c.args.now old.rounds.latest (round_at (max c.args.now old.rounds.latest) c.hold-result.result) old.moments c.requires.when old.last refl
+    c.hold-result.ensures.grows
 
 pub invariant_of-self-clause-last : goal.invariant_of-self-clause-last
 invariant_of-self-clause-last g c =
     let old = c.args.self.now in
-    ap g.B.PartsName.when c.hold.ensures.latest ∙ later_passes g.B.PartsName.when c.args.now old.rounds.latest c.requires.when old.last
+    ap g.B.PartsName.when c.hold-result.ensures.latest ∙ later_passes g.B.PartsName.when c.args.now old.rounds.latest c.requires.when old.last
 
 pub invariant_of-self-clause-rated : goal.invariant_of-self-clause-rated
 invariant_of-self-clause-rated g c =
     let old = c.args.self.now in
-    ap g.B.PartsName.rates c.hold.ensures.rates ∙ old.rated
+    ap g.B.PartsName.rates c.hold-result.ensures.rates ∙ old.rated
 
 pub invariant_of-self-clause-ended : goal.invariant_of-self-clause-ended
 invariant_of-self-clause-ended g c =
     let old = c.args.self.now in
-    subst (AreAllowed g.B.PartsName.rates g.B.PartsName.when) (sym c.hold.ensures.ended) old.ended
+    subst (AreAllowed g.B.PartsName.rates g.B.PartsName.when) (sym c.hold-result.ensures.ended) old.ended

@@ -7,7 +7,7 @@ ghost use Rattle.transfer_ticket.specs.Tickets.{is_runner};
 ghost use Rattle.transfer_ticket.specs.Views.{run_view};
 ghost use Rattle.transfer_worker.specs.Transfers.{IsUploadWant};
 
-use crate::asking::{UploadLooks, want_of};
+use crate::asking::{UploadLooks, account, next_want, want_of};
 use crate::clock::RoundClock;
 use crate::ends::{report_of, reported_of};
 use crate::rounds::help;
@@ -168,14 +168,13 @@ where
         run.report(report_of(end, sink, is_upload, has_stopped, moved));
     }
 
-    // Takes account of a read of this many octets, after a grant that was all that was asked for or not.
-    fn account(&mut self, is_whole: bool, octets: u64)
+    // Takes account of a read of this many octets, after the last grant.
+    fn account(&mut self, sign: &LaneSign, octets: u64)
         ensures last { self.new.last ≡ self.old.last }
     {
-        self.dribbles = dribbles_after(self.dribbles, self.is_upload && is_whole, octets);
-        if let Some(upload) = &mut self.upload {
-            upload.account(octets);
-        }
+        let is_free = self.is_upload && sign.is_whole();
+        self.dribbles = dribbles_after(self.dribbles, is_free, octets);
+        account(&mut self.upload, sign.has_plenty(), octets);
     }
 
     // Before an ask. If the last one was granted nothing, the rates have nothing left, and this waits a moment; and so
@@ -185,7 +184,7 @@ where
         self.seen = sign.answered.seen();
         sign.set_moved(moved);
         if let Some(before) = self.asked_at {
-            self.account(sign.is_whole(), moved.saturating_sub(before));
+            self.account(sign, moved.saturating_sub(before));
         }
         if self.asked_at == Some(moved) {
             thread::sleep(self.rt, Duration::from_micros(PAUSE));
@@ -193,9 +192,7 @@ where
             thread::sleep(self.rt, Duration::from_micros(GATHER));
         }
         self.asked_at = Some(moved);
-        if let Some(upload) = &mut self.upload {
-            self.want = upload.want(self.rt.alloc());
-        }
+        self.want = next_want(self.rt.alloc(), &mut self.upload);
     }
 
     // Waits until a round has answered the ask, or holds one. It may return before.

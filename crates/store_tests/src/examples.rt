@@ -63,12 +63,14 @@ fn of_a_file(rt: &(impl Abort + AllocGlobal)) {
     virtual_tree(rt, &mut store, &path).expect(rt, "a file");
 }
 
-// What a source has, and what is expected of it before each read.
+// The octets that are expected of a source before each read.
 fn expectations(rt: &(impl Abort + AllocGlobal)) {
     let root = VPath::root(rt.alloc());
     let path = root.child(rt.alloc(), "g").expect(rt, "a path");
     let mut store = MemStore::new(rt.alloc(), 100).expect(rt, "memory");
-    let mut sink = store.open_write(&path, WriteMode::New, 0).expect(rt, "a file");
+    let mut sink = store
+        .open_write(&path, WriteMode::New, 0)
+        .expect(rt, "a file");
     sink.write(b"all").expect(rt, "room");
     store.finish(sink, 0).expect(rt, "room");
     let mut source = store.open_read(&path, 1).expect(rt, "a file");

@@ -5,9 +5,9 @@ ghost use Rattle.lane_rounds.specs.Clocks.{IsTestOf};
 
 use crate::clock::RoundClock;
 use crate::lane::run_transfer;
-use lent_parts::PartsName;
+use lent_parts::{LentWorker, PartsName};
 use line_rates::Way;
-use server_house::House;
+use server_house::{House, SessionTicket};
 use std::alloc::Global;
 use std::sync::Wait;
 use std::time::Clock;
@@ -25,6 +25,27 @@ where
         Some(rounds) => rounds.has_plenty(Way::Down, user, rt.moment()),
         None => false,
     }
+}
+
+// Runs the transfer that waits on a ticket at a seat, if that is free. Returns whether it was.
+fn run_at<'h, R, S, H, B>(
+    rt: &R,
+    house: &'h House<S, H, B>,
+    worker: &mut LentWorker<B>,
+    ticket: &'h SessionTicket<S>,
+) -> bool
+where
+    R: Wait + Clock + RoundClock + AllocGlobal,
+    S: Store<Global>,
+    H: Drop,
+    B: PartsName,
+    requires clock { IsTestOf R.when B.when }
+{
+    if !worker.is_free() {
+        return false;
+    }
+    run_transfer(rt, house, worker, ticket);
+    true
 }
 
 /// Runs the download that waits on the ticket with this number to its end, on the thread that calls, at the seat of a lane
@@ -48,8 +69,7 @@ where
     for lane in 0..house.seats.count() {
         if let Some(seat) = house.seats.seat(lane) {
             if let Some(mut worker) = seat.try_lock() {
-                if worker.is_free() {
-                    run_transfer(rt, house, &mut *worker, ticket);
+                if run_at(rt, house, &mut *worker, ticket) {
                     return true;
                 }
             }

@@ -1,8 +1,8 @@
 //! The octets that an upload asks a round for.
 //!
 //! A transfer that is granted octets and does not move them takes them from the others under its rates, until these have
-//! earned them again. So an upload looks how much has come before it asks, and asks for that. One whose last read was of
-//! all that a read can return does not look: more is likely there, and a look costs a copy of the octets.
+//! earned them again. So an upload looks how much has come before it asks, and asks for that. While the rates have
+//! plenty left, one whose last read was of all that a read can return does not look: a look costs a copy of the octets.
 
 ghost use Rattle.std.specs.Prelude.{◌≡◌, Some};
 ghost use Rattle.lane_rounds.specs.Gates.{is_to_look, left_after, want_of};
@@ -21,15 +21,15 @@ pub(crate) struct UploadLooks {
     connection: DataConnection,
     // room for what a look finds; none before the first
     room: Vec<u8, Global>,
-    // the octets known to be there; `None` after a read of as many as one can return
+    // the octets known to be there; `None` after a read of as many as one can return, while the rates have plenty left
     come: Option<u64>,
 }
 
-// The octets known to be there after a read of this many.
-fn left_after(come: Option<u64>, octets: u64) -> Option<u64>
-    ensures left { result ≡ left_after come octets }
+// The octets known to be there after a read of this many, while the rates have plenty left or not.
+fn left_after(come: Option<u64>, has_plenty: bool, octets: u64) -> Option<u64>
+    ensures left { result ≡ left_after come has_plenty octets }
 {
-    if octets >= MAX_READ as u64 {
+    if has_plenty && octets >= MAX_READ as u64 {
         return None;
     }
     match come {
@@ -74,11 +74,11 @@ impl UploadLooks {
         }
     }
 
-    /// Takes account of a read of this many octets.
-    pub(crate) fn account(&mut self, octets: u64)
-        ensures come { self.new.come ≡ left_after self.old.come octets }
+    /// Takes account of a read of this many octets, while the rates have plenty left or not.
+    pub(crate) fn account(&mut self, has_plenty: bool, octets: u64)
+        ensures come { self.new.come ≡ left_after self.old.come has_plenty octets }
     {
-        self.come = left_after(self.come, octets);
+        self.come = left_after(self.come, has_plenty, octets);
     }
 
     // Returns whether there is room for what a look finds.

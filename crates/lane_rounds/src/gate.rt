@@ -168,13 +168,14 @@ where
         run.report(report_of(end, sink, is_upload, has_stopped, moved));
     }
 
-    // Takes account of a read of this many octets, after a grant that was all that was asked for or not.
-    fn account(&mut self, is_whole: bool, octets: u64)
+    // Takes account of a read of this many octets, after the last grant.
+    fn account(&mut self, sign: &LaneSign, octets: u64)
         ensures last { self.new.last ≡ self.old.last }
     {
-        self.dribbles = dribbles_after(self.dribbles, self.is_upload && is_whole, octets);
+        let is_free = self.is_upload && sign.is_whole();
+        self.dribbles = dribbles_after(self.dribbles, is_free, octets);
         if let Some(upload) = &mut self.upload {
-            upload.account(octets);
+            upload.account(sign.has_plenty(), octets);
         }
     }
 
@@ -185,7 +186,7 @@ where
         self.seen = sign.answered.seen();
         sign.set_moved(moved);
         if let Some(before) = self.asked_at {
-            self.account(sign.is_whole(), moved.saturating_sub(before));
+            self.account(sign, moved.saturating_sub(before));
         }
         if self.asked_at == Some(moved) {
             thread::sleep(self.rt, Duration::from_micros(PAUSE));

@@ -6,6 +6,7 @@ ghost use Rattle.lane_rounds.specs.Dues.{sooner};
 use grant_ledger::MAX_LANES;
 use lane_desk::RoundRecord;
 use lent_parts::{LentRounds, PartsName};
+use line_rates::Way;
 use round_pace::{Due, TICK_MICROS};
 use server_house::{House, LaneSign};
 use std::alloc::Global;
@@ -64,12 +65,21 @@ fn transfers_of(lanes: &[LaneSign]) -> [u64; MAX_LANES] {
     transfers
 }
 
-// Tells each lane that a round has answered whether it was granted all that it asked for.
-fn report_wholes(lanes: &[LaneSign], record: &RoundRecord) {
+// Tells each lane that a round has answered whether it was granted all that it asked for, and one that receives whether
+// its rates have plenty left.
+fn report_grants<B: PartsName>(
+    lanes: &[LaneSign],
+    rounds: &LentRounds<B>,
+    record: &RoundRecord,
+    now: u64,
+) {
     let grants = record.sealed.grants().iter();
     for ((lane, ask), grant) in record.lanes.iter().zip(&record.asks).zip(grants) {
         if let Some(sign) = lanes.get(*lane as usize) {
             sign.set_whole(*grant >= ask.want);
+            if matches!(ask.way, Way::Up) {
+                sign.set_plenty(rounds.has_plenty(Way::Up, ask.user, now));
+            }
         }
     }
 }
@@ -87,7 +97,7 @@ fn hold_one<S: Store<Global>, H: Drop, B: PartsName>(
     let transfers = transfers_of(&house.lanes);
     match rounds.hold(alloc, &house.desk, now, &given, &transfers) {
         Ok(record) => {
-            report_wholes(&house.lanes, &record);
+            report_grants(&house.lanes, &*rounds, &record, now);
             wake_lanes(&house.lanes, record.answered, false);
         }
         Err(fault) => wake_lanes(&house.lanes, fault.answered, true),

@@ -27,6 +27,8 @@ pub struct LaneSign {
     refused: AtomicU64,
     // 1 if the last grant was all that was asked for, otherwise 0
     whole: AtomicU64,
+    // 1 if the rates had plenty left after the last grant to an upload, otherwise 0
+    plenty: AtomicU64,
 }
 
 // The number of rounds refused in a row, after one more round.
@@ -63,6 +65,7 @@ impl LaneSign {
             moved: AtomicU64::new(0),
             refused: AtomicU64::new(0),
             whole: AtomicU64::new(0),
+            plenty: AtomicU64::new(0),
         }
     }
 
@@ -84,6 +87,17 @@ impl LaneSign {
         self.whole.load(Ordering::SeqCst) == 1
     }
 
+    /// Sets whether the rates have plenty left after the last grant to an upload.
+    pub fn set_plenty(&self, has_plenty: bool) {
+        self.plenty.store(u64::from(has_plenty), Ordering::SeqCst);
+    }
+
+    /// Returns whether the rates had plenty left after the last grant to an upload: one that is granted more than it reads
+    /// takes nothing from others.
+    pub fn has_plenty(&self) -> bool {
+        self.plenty.load(Ordering::SeqCst) == 1
+    }
+
     /// Returns whether the lane's transfer is to end for lack of memory: [`MOST_REFUSED`] rounds in a row were refused.
     pub fn is_starved(&self) -> bool {
         self.refused.load(Ordering::SeqCst) >= MOST_REFUSED
@@ -95,6 +109,7 @@ impl LaneSign {
         self.refused.store(0, Ordering::SeqCst);
         self.moved.store(0, Ordering::SeqCst);
         self.whole.store(0, Ordering::SeqCst);
+        self.plenty.store(0, Ordering::SeqCst);
         if session.is_some() {
             self.transfers.fetch_add(1, Ordering::SeqCst);
         }

@@ -195,6 +195,7 @@ fn rounds_keep_the_rates_of_their_pace(rt: HostRuntime) {
     // the server earns too little in a shorter interval: its row opens in tick 31, the last of the longest
     holds(&rt, !paced.rounds.is_open(Way::Down, 7, 61_999));
     holds(&rt, paced.rounds.is_open(Way::Down, 7, 62_000));
+    holds(&rt, !paced.rounds.has_plenty(Way::Down, 7, 62_000)); // the server has a rate, and little left
     holds(
         &rt,
         paced.rounds.due_for(Way::Down, 7, 4_000) == Due::At(62_000),

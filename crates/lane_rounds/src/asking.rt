@@ -109,3 +109,21 @@ impl UploadLooks {
         want_of(self.come)
     }
 }
+
+/// Takes account of a read, if the transfer is an upload that looks.
+pub(crate) fn account(looks: &mut Option<UploadLooks>, has_plenty: bool, octets: u64) {
+    if let Some(looks) = looks {
+        looks.account(has_plenty, octets);
+    }
+}
+
+/// The number of octets that a transfer asks for next: that of its looks, or as many as one read can return, if it has
+/// none.
+pub(crate) fn next_want(alloc: Global, looks: &mut Option<UploadLooks>) -> u64
+    ensures bounds { IsUploadWant result }
+{
+    match looks {
+        Some(looks) => looks.want(alloc),
+        None => want_of(None),
+    }
+}

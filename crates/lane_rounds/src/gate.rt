@@ -7,7 +7,7 @@ ghost use Rattle.transfer_ticket.specs.Tickets.{is_runner};
 ghost use Rattle.transfer_ticket.specs.Views.{run_view};
 ghost use Rattle.transfer_worker.specs.Transfers.{IsUploadWant};
 
-use crate::asking::{UploadLooks, want_of};
+use crate::asking::{UploadLooks, account, next_want, want_of};
 use crate::clock::RoundClock;
 use crate::ends::{report_of, reported_of};
 use crate::rounds::help;
@@ -174,9 +174,7 @@ where
     {
         let is_free = self.is_upload && sign.is_whole();
         self.dribbles = dribbles_after(self.dribbles, is_free, octets);
-        if let Some(upload) = &mut self.upload {
-            upload.account(sign.has_plenty(), octets);
-        }
+        account(&mut self.upload, sign.has_plenty(), octets);
     }
 
     // Before an ask. If the last one was granted nothing, the rates have nothing left, and this waits a moment; and so
@@ -194,9 +192,7 @@ where
             thread::sleep(self.rt, Duration::from_micros(GATHER));
         }
         self.asked_at = Some(moved);
-        if let Some(upload) = &mut self.upload {
-            self.want = upload.want(self.rt.alloc());
-        }
+        self.want = next_want(self.rt.alloc(), &mut self.upload);
     }
 
     // Waits until a round has answered the ask, or holds one. It may return before.

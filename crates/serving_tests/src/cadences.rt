@@ -181,6 +181,7 @@ fn rows_are_those_of_a_transfer(rt: HostRuntime) {
             },
     );
     holds(&rt, rows.group_number == Some(1) && !rows.is_timed);
+    holds(&rt, rows.have_left(20) && !rows.have_left(21));
     let rows = pace.rows_of(Way::Down, 4);
     holds(&rt, rows.group == OPEN && rows.user == OPEN);
     holds(&rt, rows.group_number.is_none() && !rows.is_timed);

@@ -119,6 +119,7 @@ fn a_listing_is_read_to_its_end(rt: HostRuntime) {
     let octets = b"ab".to_vec(rt.alloc()).expect(&rt, "memory");
     let listing = Listing::new(Octets::new(octets));
     let mut source: Served<Global, Listing<Global>> = Served::Listing(listing);
+    holds(&rt, source.expected() == Some(2));
     let mut buffer = [0u8; 8];
     holds(
         &rt,

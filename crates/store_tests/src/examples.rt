@@ -63,8 +63,24 @@ fn of_a_file(rt: &(impl Abort + AllocGlobal)) {
     virtual_tree(rt, &mut store, &path).expect(rt, "a file");
 }
 
+// What a source has, and what is expected of it before each read.
+fn expectations(rt: &(impl Abort + AllocGlobal)) {
+    let root = VPath::root(rt.alloc());
+    let path = root.child(rt.alloc(), "g").expect(rt, "a path");
+    let mut store = MemStore::new(rt.alloc(), 100).expect(rt, "memory");
+    let mut sink = store.open_write(&path, WriteMode::New, 0).expect(rt, "a file");
+    sink.write(b"all").expect(rt, "room");
+    store.finish(sink, 0).expect(rt, "room");
+    let mut source = store.open_read(&path, 1).expect(rt, "a file");
+    holds(rt, source.expected() == Some(2));
+    let mut buffer = [0u8; 1];
+    holds(rt, source.read(&mut buffer) == Ok(1));
+    holds(rt, source.expected() == Some(1));
+}
+
 #[test]
 fn examples(rt: HostRuntime) {
+    expectations(&rt);
     of_a_directory(&rt);
     of_a_file(&rt);
     test_scarce_memory(rt).expect(&rt, "memory");

@@ -1,4 +1,4 @@
-use Rattle.std.proofs.Common.{◌+◌, ◌≤◌, ℕ, List, arith, get_or, take}
+use Rattle.std.proofs.Common.{◌+◌, ◌≤◌, ℕ, arith, get_or, take}
 use Rattle.std.specs.Prelude.{sum}
 use Rattle.std.proofs.lemmas.List.Sums.{sum_by_more_le}
 use Rattle.lent_parts.proofs.counting.count_all.Goals as goal

@@ -48,6 +48,31 @@ where
     true
 }
 
+// Runs the transfer that waits on a ticket at the first seat that is free. Returns false if none is.
+fn run_at_any<'h, R, S, H, B>(
+    rt: &R,
+    house: &'h House<S, H, B>,
+    ticket: &'h SessionTicket<S>,
+) -> bool
+where
+    R: Wait + Clock + RoundClock + AllocGlobal,
+    S: Store<Global>,
+    H: Drop,
+    B: PartsName,
+    requires clock { IsTestOf R.when B.when }
+{
+    for lane in 0..house.seats.count() {
+        if let Some(seat) = house.seats.seat(lane) {
+            if let Some(mut worker) = seat.try_lock() {
+                if run_at(rt, &*house, &mut *worker, &*ticket) {
+                    return true;
+                }
+            }
+        }
+    }
+    false
+}
+
 /// Runs the download that waits on the ticket with this number to its end, on the thread that calls, at the seat of a lane
 /// that runs none: so no other thread is woken for it, and none wakes this one. Returns false, and leaves it to the lanes,
 /// if no seat is free, or a rate of its user may hold it back: the thread reads nothing of its client meanwhile. The
@@ -60,20 +85,11 @@ where
     B: PartsName,
     requires clock { IsTestOf R.when B.when }
 {
-    let Some(ticket) = house.tickets.get(number as usize) else {
-        return false;
-    };
     if !has_plenty(rt, house, user) {
         return false;
     }
-    for lane in 0..house.seats.count() {
-        if let Some(seat) = house.seats.seat(lane) {
-            if let Some(mut worker) = seat.try_lock() {
-                if run_at(rt, house, &mut *worker, ticket) {
-                    return true;
-                }
-            }
-        }
+    match (&*house).tickets.get(number as usize) {
+        Some(ticket) => run_at_any(rt, &*house, ticket),
+        None => false,
     }
-    false
 }

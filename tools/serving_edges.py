@@ -254,6 +254,35 @@ def a_listing_delays_nobody():
         server.ended()
 
 
+def sleeps(process):
+    """How often each thread of a server has slept so far, by its number."""
+    found = {}
+    for task in os.listdir(f"/proc/{process}/task"):
+        try:
+            with open(f"/proc/{process}/task/{task}/status") as it:
+                found[task] = int(it.read().split("voluntary_ctxt_switches:")[1].split()[0])
+        except OSError:
+            pass
+    return found
+
+
+def a_brief_download_wakes_no_lane():
+    """A session runs it itself: besides the session and the thread of the log, no thread sleeps and wakes for each of many. One that a rate may hold back is run by a lane."""
+    many, files = 200, {"f": b"brief" * 200}
+    for rates, own in (("", True), ("down_rate = 1000000", False)):
+        with Server(root="folder", files=files, rates=rates) as server:
+            client = Client(server)
+            client.retrieve("f")
+            before = sleeps(server.process.pid)
+            for _ in range(many):
+                same(client.retrieve("f"), files["f"], "a file")
+            after = sleeps(server.process.pid)
+            slept = sorted((after[it] - before.get(it, 0) for it in after), reverse=True)
+            want((sum(slept[2:]) < many) == own, f"sleeps of the threads: {slept}")
+            client.quit()
+            server.ended()
+
+
 def files_of_any_length():
     """Files of random lengths, and of those at the edges of buffers, are stored and come back, as octets and as text, in memory and in a folder."""
     chance = random.Random(60)
@@ -314,6 +343,7 @@ ROWS = [
     it_listens_at_its_address_alone,
     time_outs_are_set,
     a_listing_delays_nobody,
+    a_brief_download_wakes_no_lane,
     files_of_any_length,
     four_thousand_users_are_served,
     one_guarantee_comes_back_once,

@@ -36,25 +36,25 @@ where
     P: OwnerSigns,
 {
     fn lanes(&self) -> usize {
-        self.house.seats.count()
+        self.engine.seats.count()
     }
 
     fn keep_rounds(&self) {
-        keep_rounds(&self.rt, &self.house);
+        keep_rounds(&self.rt, &self.house, &self.engine);
     }
 
     // Each lane takes a pass of its own; there is one for each.
     fn work(&self, lane: usize) {
-        let pass = self.house.passes.lock(&self.rt).pop();
-        match (self.house.seats.seat(lane), pass) {
-            (Some(seat), Some(pass)) => work_lane(&self.rt, &self.house, seat, pass),
+        let pass = self.passes.lock(&self.rt).pop();
+        match (self.engine.seats.seat(lane), pass) {
+            (Some(seat), Some(pass)) => work_lane(&self.rt, &self.house, &self.engine, seat, pass),
             _ => {}
         }
     }
 
     fn watch(&self) {
         match &self.signs {
-            Some(signs) => watch(&self.rt, &self.house, signs),
+            Some(signs) => watch(&self.rt, &self.house, &self.engine, signs),
             None => {}
         }
     }
@@ -75,6 +75,6 @@ where
     P: OwnerSigns,
 {
     fn run_here(&self, number: u32, user: u32) -> bool {
-        run_here(&self.rt, &self.house, number, user)
+        run_here(&self.rt, &self.house, &self.engine, number, user)
     }
 }

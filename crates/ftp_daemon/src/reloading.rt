@@ -6,6 +6,7 @@ ghost use Rattle.rate_floors.specs.Carried.{carried};
 ghost use Rattle.round_pace.specs.Changed.{IsChangedTo};
 
 use crate::opening::new_cadence;
+use lane_rounds::Engine;
 use lent_parts::{LentRounds, PartsName};
 use line_rates::Limits;
 use passive_ports::{LimitFault, Registry};
@@ -112,6 +113,7 @@ pub(crate) fn take<R, S, H, B>(
     rt: &R,
     alloc: Global,
     house: &House<S, H, B>,
+    engine: &Engine<B>,
     reload: Reload,
 ) -> Result<(), ReloadFault>
 where
@@ -133,7 +135,7 @@ where
     };
     let mut registry = house.registry.lock(rt);
     let mut floors = house.floors.lock(rt);
-    let mut rounds = house.rounds.lock(rt);
+    let mut rounds = engine.rounds.lock(rt);
     put_in_force(
         alloc,
         &mut *registry,

@@ -21,8 +21,8 @@ use event_word::{EventCount, SharedEventCount};
 use ftpd_program::ServeFault;
 use grant_ledger::Settled;
 use lane_desk::Rounds;
-use lane_rounds::RoundClock;
-use lent_parts::{LentBoard, LentDesk, LentRounds, LentSeats, PartsName};
+use lane_rounds::{Engine, RoundClock};
+use lent_parts::{LentBoard, LentDesk, LentPass, LentRounds, LentSeats, PartsName};
 use paced_rounds::PacedRounds;
 use recorded_store::Recorder;
 use round_cadence::Cadence;
@@ -40,6 +40,9 @@ use virtual_tree::Store;
 pub(crate) struct Server<R: RoundClock, S: Store<Global>, H: Drop, B: PartsName, P: OwnerSigns> {
     pub(crate) rt: R,
     pub(crate) house: House<S, H, B>,
+    pub(crate) engine: Engine<B>,
+    /// The passes with which lanes take transfers: each takes one as it begins.
+    pub(crate) passes: Mutex<Vec<LentPass<B, u32>>>,
     /// The signs of the owner, if there are any.
     pub(crate) signs: Option<P>,
     ghost clock: { IsTestOf R.when B.when },
@@ -153,14 +156,17 @@ where
                     lanes,
                     waker: EventCount::new(),
                     ending: ServerShutdown::new(),
+                };
+                let engine = Engine {
                     desk,
                     rounds: Mutex::new(rounds),
                     seats,
-                    passes: Mutex::new(passes),
                 };
                 Ok(Server {
                     rt: *rt,
                     house,
+                    engine,
+                    passes: Mutex::new(passes),
                     signs,
                 })
             }
@@ -212,9 +218,11 @@ where
     {
         let Server {
             rt,
-            house,
+            house: _,
+            engine,
+            passes: _,
             signs: _,
         } = self;
-        house.settle(&rt)
+        engine.settle(&rt)
     }
 }

@@ -9,7 +9,7 @@ use crate::draining::{Due, next_due};
 use crate::reloading::{ReloadFault, ReloadSign, take};
 use event_word::{has_passed, micros};
 use grant_ledger::MAX_LANES;
-use lane_rounds::look;
+use lane_rounds::{Engine, look};
 use lent_parts::PartsName;
 use round_tally::Tallies;
 use server_house::{
@@ -102,14 +102,14 @@ fn lanes_of(signs: &[LaneSign], tallies: &Tallies) -> [LaneLook; MAX_LANES] {
 }
 
 // Shows the handler what goes on, if no round is in the way.
-fn show<R, S, H, B>(rt: &R, house: &House<S, H, B>)
+fn show<R, S, H, B>(rt: &R, house: &House<S, H, B>, engine: &Engine<B>)
 where
     R: Wait + Clock,
     S: Store<Global>,
     H: ServerHooks,
     B: PartsName,
 {
-    let Some(look) = look(rt, house) else {
+    let Some(look) = look(rt, house, engine) else {
         return;
     };
     let lanes = lanes_of(&house.lanes, &look.tallies);
@@ -167,7 +167,7 @@ where
 }
 
 // Takes the configuration of a sign, if there is one, and tells the handler what came of it.
-fn reload<R, S, H, B, P>(rt: &R, house: &House<S, H, B>, signs: &P)
+fn reload<R, S, H, B, P>(rt: &R, house: &House<S, H, B>, engine: &Engine<B>, signs: &P)
 where
     R: Wait + AllocGlobal,
     S: Store<Global>,
@@ -179,7 +179,7 @@ where
     let outcome = match signs.reload() {
         ReloadSign::Nothing => return,
         ReloadSign::Refused(reason) => Err(reason),
-        ReloadSign::Asked(reload) => match take(rt, rt.alloc(), house, reload) {
+        ReloadSign::Asked(reload) => match take(rt, rt.alloc(), house, engine, reload) {
             Ok(()) => Ok(()),
             Err(fault) => Err(signs.refused(fault)),
         },
@@ -197,7 +197,7 @@ where
 
 /// Checks the signs until the sessions are to end, and shows the handler what goes on, if that is wanted. Drains the
 /// server, or ends its sessions, as is due.
-pub(crate) fn watch<R, S, H, B, P>(rt: &R, house: &House<S, H, B>, signs: &P)
+pub(crate) fn watch<R, S, H, B, P>(rt: &R, house: &House<S, H, B>, engine: &Engine<B>, signs: &P)
 where
     R: ServerRuntime,
     S: Store<Global>,
@@ -229,10 +229,10 @@ where
         if begin(rt, house, next, clients) {
             return;
         }
-        reload(rt, house, signs);
+        reload(rt, house, engine, signs);
         if signs.wants_looks() && has_passed(shown, now, SECOND) {
             shown = shown.saturating_add(SECOND);
-            show(rt, house);
+            show(rt, house, engine);
             signs.looked();
         }
         thread::sleep(rt, Duration::from_millis(LOOK));

@@ -10,6 +10,7 @@ ghost use Rattle.transfer_worker.specs.Transfers.{IsUploadWant};
 use crate::asking::{UploadLooks, account, next_want, want_of};
 use crate::clock::RoundClock;
 use crate::ends::{report_of, reported_of};
+use crate::engine::Engine;
 use crate::rounds::help;
 use data_sockets::{DataConnection, Served};
 use lent_parts::PartsName;
@@ -47,6 +48,7 @@ const GATHER: u64 = 8_000;
 pub(crate) struct LaneGate<'r, 'h, R: RoundClock, S: Store<Global>, H: Drop, B: PartsName> {
     rt: &'r R,
     house: &'h House<S, H, B>,
+    engine: &'h Engine<B>,
     lane: usize,
     run: TicketRun<'h, SessionJob<S>, SessionEnd<S>, LaneEnds>,
     is_upload: bool,
@@ -85,6 +87,7 @@ where
     pub(crate) fn new(
         rt: &'r R,
         house: &'h House<S, H, B>,
+        engine: &'h Engine<B>,
         lane: usize,
         run: TicketRun<'h, SessionJob<S>, SessionEnd<S>, LaneEnds>,
         is_upload: bool,
@@ -96,6 +99,7 @@ where
         LaneGate {
             rt,
             house,
+            engine,
             lane,
             run,
             is_upload,
@@ -147,6 +151,7 @@ where
         let LaneGate {
             rt: _,
             house: _,
+            engine: _,
             lane: _,
             run,
             is_upload,
@@ -203,7 +208,7 @@ where
             return;
         }
         let now = self.rt.moment();
-        let due = help(self.rt.alloc(), self.house, sign, now);
+        let due = help(self.rt.alloc(), self.house, self.engine, sign, now);
         let limit = match due {
             Some(moment) => Duration::from_micros(moment.saturating_sub(now)),
             None => Duration::from_millis(BACKSTOP),

@@ -3,6 +3,7 @@
 ghost use Rattle.lane_rounds.specs.Clocks.{IsTestOf};
 
 use crate::clock::RoundClock;
+use crate::engine::Engine;
 use crate::rounds::try_one;
 use lent_parts::PartsName;
 use server_house::{House, ShutdownStage};
@@ -16,7 +17,7 @@ use virtual_tree::Store;
 const BACKSTOP: u64 = 200;
 
 /// Holds rounds when no lane does, until the lanes are to end. The moments of the clock pass the test of the name.
-pub fn keep_rounds<R, S, H, B>(rt: &R, house: &House<S, H, B>)
+pub fn keep_rounds<R, S, H, B>(rt: &R, house: &House<S, H, B>, engine: &Engine<B>)
 where
     R: Wait + Clock + RoundClock + AllocGlobal,
     S: Store<Global>,
@@ -30,7 +31,7 @@ where
             return;
         }
         let now = rt.moment();
-        let _ = try_one(rt.alloc(), house, None, now);
+        let _ = try_one(rt.alloc(), house, engine, None, now);
         house
             .waker
             .wait(rt, seen, 0, Duration::from_millis(BACKSTOP));

@@ -9,6 +9,7 @@ ghost use Rattle.server_house.specs.Tickets.{is_upload};
 
 use crate::asking::UploadLooks;
 use crate::clock::RoundClock;
+use crate::engine::Engine;
 use crate::gate::LaneGate;
 use data_sockets::DataConnection;
 use lent_parts::{LentPass, LentWorker, PartsName};
@@ -64,6 +65,7 @@ fn sign<R: Source, K: Sink, C: Read + Write + Drop>(sign: &LaneSign, job: &LaneJ
 pub(crate) fn run_transfer<'h, R, S, H, B>(
     rt: &R,
     house: &'h House<S, H, B>,
+    engine: &'h Engine<B>,
     worker: &mut LentWorker<B>,
     ticket: &'h SessionTicket<S>,
 )
@@ -83,10 +85,10 @@ where
         Some(own) => sign(own, &job),
         None => {}
     }
-    let mut gate = LaneGate::new(rt, house, lane, run, is_upload(&job));
+    let mut gate = LaneGate::new(rt, house, engine, lane, run, is_upload(&job));
     gate.set_looks(looks_of(rt.alloc(), &job));
     let before = worker.moved();
-    worker.work(rt, rt.alloc(), &house.desk, job, &mut gate);
+    worker.work(rt, rt.alloc(), &engine.desk, job, &mut gate);
     gate.report(worker.moved().saturating_sub(before));
     match house.lanes.get(lane) {
         Some(own) => own.set_session(None),
@@ -98,6 +100,7 @@ where
 fn run_next<R, S, H, B>(
     rt: &R,
     house: &House<S, H, B>,
+    engine: &Engine<B>,
     worker: &mut LentWorker<B>,
     pass: &mut LentPass<B, u32>,
 ) -> bool
@@ -112,7 +115,7 @@ where
     match house.board.pop(rt, pass) {
         Some(number) => {
             match (&*house).tickets.get(number as usize) {
-                Some(ticket) => run_transfer(rt, &*house, worker, ticket),
+                Some(ticket) => run_transfer(rt, &*house, &*engine, worker, ticket),
                 None => {}
             }
             true
@@ -130,6 +133,7 @@ where
 pub fn work_lane<R, S, H, B>(
     rt: &R,
     house: &House<S, H, B>,
+    engine: &Engine<B>,
     seat: &Mutex<LentWorker<B>>,
     mut pass: LentPass<B, u32>,
 )
@@ -146,7 +150,7 @@ where
         if !worker.is_free() {
             return;
         }
-        let has_run = run_next(rt, house, &mut *worker, &mut pass);
+        let has_run = run_next(rt, house, engine, &mut *worker, &mut pass);
         drop(worker);
         if !has_run {
             if house.ending.has_begun(ShutdownStage::Lanes) {

@@ -1,7 +1,7 @@
 //! The lanes of a server, and the rounds that they hold for each other.
 //!
 //! A lane takes transfers from the board and runs each to its end ([`work_lane`]). If its ask is not answered yet, it
-//! tries the lock of the house's rounds and holds a round itself, for all lanes that have asked and whose transfers'
+//! tries the lock of the [`Engine`]'s rounds and holds a round itself, for all lanes that have asked and whose transfers'
 //! rows are open; nobody waits for that lock. If another thread has the lock, that thread looks at the `waker` after it
 //! has released the lock, and the lane looks again a tick later, so no ask is missed.
 //! A session may run a short download itself, at the seat of a lane that runs none ([`run_here`]).
@@ -14,6 +14,7 @@
 mod asking;
 mod clock;
 mod ends;
+mod engine;
 mod gate;
 mod keeper;
 mod lane;
@@ -22,6 +23,7 @@ mod own_run;
 mod rounds;
 
 pub use clock::RoundClock;
+pub use engine::Engine;
 pub use keeper::keep_rounds;
 pub use lane::work_lane;
 pub use looking::look;

@@ -1,5 +1,6 @@
 //! A look at what rounds have granted.
 
+use crate::engine::Engine;
 use grant_ledger::MAX_LANES;
 use lent_parts::{PartsName, RoundLook};
 use server_house::{House, LaneSign};
@@ -29,7 +30,7 @@ fn running_on(lanes: &[LaneSign]) -> [u64; MAX_LANES] {
 
 /// Looks at the rounds, if nobody holds one at one of several tries. The lock of the rounds is only tried, here too: who
 /// could not get it meanwhile relies on the waker, which is raised.
-pub fn look<R, S, H, B>(rt: &R, house: &House<S, H, B>) -> Option<RoundLook>
+pub fn look<R, S, H, B>(rt: &R, house: &House<S, H, B>, engine: &Engine<B>) -> Option<RoundLook>
 where
     R: Wait + Clock,
     S: Store<Global>,
@@ -38,7 +39,7 @@ where
 {
     for _ in 0..TRIES {
         let running = running_on(&house.lanes);
-        if let Some(guard) = house.rounds.try_lock() {
+        if let Some(guard) = engine.rounds.try_lock() {
             let look = guard.look(&running);
             drop(guard);
             house.waker.signal();

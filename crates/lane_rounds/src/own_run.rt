@@ -4,6 +4,7 @@ ghost use Rattle.std.specs.Prelude.{◌≡◌};
 ghost use Rattle.lane_rounds.specs.Clocks.{IsTestOf};
 
 use crate::clock::RoundClock;
+use crate::engine::Engine;
 use crate::lane::run_transfer;
 use lent_parts::{LentWorker, PartsName};
 use line_rates::Way;
@@ -14,14 +15,12 @@ use std::time::Clock;
 use virtual_tree::Store;
 
 // Returns whether a round that is held now would grant a user's download all that it asks for, if nobody holds one.
-fn has_plenty<R, S, H, B>(rt: &R, house: &House<S, H, B>, user: u32) -> bool
+fn has_plenty<R, B>(rt: &R, engine: &Engine<B>, user: u32) -> bool
 where
     R: RoundClock,
-    S: Store<Global>,
-    H: Drop,
     B: PartsName,
 {
-    match house.rounds.try_lock() {
+    match engine.rounds.try_lock() {
         Some(rounds) => rounds.has_plenty(Way::Down, user, rt.moment()),
         None => false,
     }
@@ -31,6 +30,7 @@ where
 fn run_at<'h, R, S, H, B>(
     rt: &R,
     house: &'h House<S, H, B>,
+    engine: &'h Engine<B>,
     worker: &mut LentWorker<B>,
     ticket: &'h SessionTicket<S>,
 ) -> bool
@@ -44,7 +44,7 @@ where
     if !worker.is_free() {
         return false;
     }
-    run_transfer(rt, house, worker, ticket);
+    run_transfer(rt, house, engine, worker, ticket);
     true
 }
 
@@ -52,6 +52,7 @@ where
 fn run_at_any<'h, R, S, H, B>(
     rt: &R,
     house: &'h House<S, H, B>,
+    engine: &'h Engine<B>,
     ticket: &'h SessionTicket<S>,
 ) -> bool
 where
@@ -61,10 +62,10 @@ where
     B: PartsName,
     requires clock { IsTestOf R.when B.when }
 {
-    for lane in 0..house.seats.count() {
-        if let Some(seat) = house.seats.seat(lane) {
+    for lane in 0..engine.seats.count() {
+        if let Some(seat) = engine.seats.seat(lane) {
             if let Some(mut worker) = seat.try_lock() {
-                if run_at(rt, &*house, &mut *worker, &*ticket) {
+                if run_at(rt, &*house, &*engine, &mut *worker, &*ticket) {
                     return true;
                 }
             }
@@ -77,7 +78,13 @@ where
 /// that runs none: so no other thread is woken for it, and none wakes this one. Returns false, and leaves it to the lanes,
 /// if no seat is free, or a rate of its user may hold it back: the thread reads nothing of its client meanwhile. The
 /// number must not be on the board. The moments of the clock pass the test of the name.
-pub fn run_here<R, S, H, B>(rt: &R, house: &House<S, H, B>, number: u32, user: u32) -> bool
+pub fn run_here<R, S, H, B>(
+    rt: &R,
+    house: &House<S, H, B>,
+    engine: &Engine<B>,
+    number: u32,
+    user: u32,
+) -> bool
 where
     R: Wait + Clock + RoundClock + AllocGlobal,
     S: Store<Global>,
@@ -85,11 +92,11 @@ where
     B: PartsName,
     requires clock { IsTestOf R.when B.when }
 {
-    if !has_plenty(rt, house, user) {
+    if !has_plenty(rt, engine, user) {
         return false;
     }
     match (&*house).tickets.get(number as usize) {
-        Some(ticket) => run_at_any(rt, &*house, ticket),
+        Some(ticket) => run_at_any(rt, &*house, &*engine, ticket),
         None => false,
     }
 }

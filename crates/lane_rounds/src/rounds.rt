@@ -3,9 +3,10 @@
 ghost use Rattle.std.specs.Prelude.{◌≡◌, true};
 ghost use Rattle.lane_rounds.specs.Dues.{sooner};
 
+use crate::engine::Engine;
 use grant_ledger::MAX_LANES;
 use lane_desk::RoundRecord;
-use lent_parts::{LentRounds, PartsName};
+use lent_parts::{LentDesk, LentRounds, PartsName};
 use line_rates::Way;
 use round_pace::{Due, TICK_MICROS};
 use server_house::{House, LaneSign};
@@ -88,6 +89,7 @@ fn report_grants<B: PartsName>(
 fn hold_one<S: Store<Global>, H: Drop, B: PartsName>(
     alloc: Global,
     house: &House<S, H, B>,
+    desk: &LentDesk<B>,
     rounds: &mut LentRounds<B>,
     now: u64,
 )
@@ -95,7 +97,7 @@ fn hold_one<S: Store<Global>, H: Drop, B: PartsName>(
 {
     let given = open_lanes(house, &*rounds, now);
     let transfers = transfers_of(&house.lanes);
-    match rounds.hold(alloc, &house.desk, now, &given, &transfers) {
+    match rounds.hold(alloc, desk, now, &given, &transfers) {
         Ok(record) => {
             report_grants(&house.lanes, &*rounds, &record, now);
             wake_lanes(&house.lanes, record.answered, false);
@@ -156,18 +158,19 @@ fn due_by<S: Store<Global>, H: Drop, B: PartsName>(
 pub(crate) fn try_one<S: Store<Global>, H: Drop, B: PartsName>(
     alloc: Global,
     house: &House<S, H, B>,
+    engine: &Engine<B>,
     sign: Option<&LaneSign>,
     now: u64,
 ) -> Tried
     requires when { B.when now ≡ true }
 {
-    match house.rounds.try_lock() {
+    match engine.rounds.try_lock() {
         None => Tried::ByAnother,
         Some(mut guard) => match due_by(house, &*guard, sign, now) {
             Due::At(moment) => Tried::NotBefore(moment),
             Due::Now => {
                 let seen = house.waker.seen();
-                hold_one(alloc, house, &mut *guard, now);
+                hold_one(alloc, house, &engine.desk, &mut *guard, now);
                 Tried::Held(seen)
             }
         },
@@ -183,13 +186,14 @@ pub(crate) fn try_one<S: Store<Global>, H: Drop, B: PartsName>(
 pub(crate) fn help<S: Store<Global>, H: Drop, B: PartsName>(
     alloc: Global,
     house: &House<S, H, B>,
+    engine: &Engine<B>,
     sign: &LaneSign,
     now: u64,
 ) -> Option<u64>
     requires when { B.when now ≡ true }
 {
     house.waker.raise();
-    let mut seen = match try_one(alloc, house, Some(sign), now) {
+    let mut seen = match try_one(alloc, house, engine, Some(sign), now) {
         Tried::Held(seen) => seen,
         Tried::ByAnother => return Some(now.saturating_add(TICK_MICROS)),
         Tried::NotBefore(moment) => return Some(moment),
@@ -198,7 +202,7 @@ pub(crate) fn help<S: Store<Global>, H: Drop, B: PartsName>(
         if house.waker.seen() == seen {
             return None;
         }
-        match try_one(alloc, house, None, now) {
+        match try_one(alloc, house, engine, None, now) {
             Tried::Held(next) => seen = next,
             Tried::ByAnother | Tried::NotBefore(_) => return None,
         }

@@ -1,7 +1,6 @@
 //! The shared parts of a server.
 
-ghost use Rattle.std.specs.Prelude.{◌≡◌, ◌+◌, ◌<◌, ◌≤◌, IfOk, None, Some, [], ◌∷◌};
-ghost use Rattle.paced_rounds.specs.Seconds.{HasKept};
+ghost use Rattle.std.specs.Prelude.{◌≡◌, ◌<◌, ◌≤◌, IfOk, None, Some, [], ◌∷◌};
 ghost use Rattle.server_house.specs.Settings.{AreSettingsAt, announced};
 
 use crate::ending::ServerShutdown;
@@ -11,19 +10,19 @@ use crate::ticket::SessionTicket;
 use client_patience::Patience;
 use event_word::{EventCount, SharedEventCount};
 use ftp_terms::LineText;
-use grant_ledger::Settled;
-use lent_parts::{LentBoard, LentDesk, LentPass, LentRounds, LentSeats, PartsName};
+use lent_parts::{LentBoard, LentPass, PartsName};
 use passive_ports::{Registry, RestingPorts};
 use rate_floors::Floors;
 use server_config::ServerNumbers;
 use session_table::Settings;
 use std::alloc::{AllocError, Global};
 use std::net::TcpStream;
-use std::sync::{Mutex, Wait};
+use std::sync::Mutex;
 use virtual_tree::Store;
 
 /// The parts that the threads of a server share, with its store `S`, the handler `H` of its owner, and the name `B` of
-/// its desk and board. It cannot be dropped: its desk is settled.
+/// its board.
+#[derive(Drop)]
 pub struct House<S: Store<Global>, H: Drop, B: PartsName> {
     /// The users, and the settings of sessions, which a reload exchanges.
     pub terms: SharedTerms,
@@ -51,13 +50,6 @@ pub struct House<S: Store<Global>, H: Drop, B: PartsName> {
     pub jobs: SharedEventCount,
     /// For each lane, what rounds report to it.
     pub lanes: Vec<LaneSign>,
-    pub desk: LentDesk<B>,
-    /// The rounds of the desk. Whoever needs one tries the lock.
-    pub rounds: Mutex<LentRounds<B>>,
-    /// The seats of the desk: the thread of a lane has the lock of its own.
-    pub seats: LentSeats<B>,
-    /// The passes with which lanes take transfers: each takes one as it begins.
-    pub passes: Mutex<Vec<LentPass<B, u32>>>,
     /// Increased when a lane needs a round.
     pub waker: EventCount,
     pub ending: ServerShutdown,
@@ -78,41 +70,6 @@ impl<S: Store<Global>, H: Drop, B: PartsName> House<S, H, B> {
             Some(place) => &self.own_stores[place],
             None => &self.store,
         }
-    }
-}
-
-impl<S: Store<Global> + Drop, H: Drop, B: PartsName> House<S, H, B> {
-    /// Settles the desk, once no thread has any part of the house: the octets issued are those moved and those given back.
-    /// There is a history of rounds, under rates and at moments that pass the tests of the name, in which each rate was
-    /// kept, and which granted the octets issued beyond those carried.
-    pub fn settle<R: Wait>(self, rt: &R) -> Settled
-        ensures sum { result.issued ≡ result.moved + result.back }
-        ensures kept { HasKept B.rates B.when B.carried result.issued }
-    {
-        let House {
-            terms: _,
-            numbers: _,
-            patience: _,
-            store: _,
-            own_stores: _,
-            arrivals: _,
-            floors: _,
-            handler: _,
-            ports: _,
-            registry: _,
-            tickets: _,
-            board: _,
-            pass: _,
-            jobs: _,
-            lanes: _,
-            waker: _,
-            ending: _,
-            desk,
-            rounds,
-            seats,
-            passes: _,
-        } = self;
-        seats.settle(rt, desk, rounds.into_inner())
     }
 }
 

@@ -106,6 +106,31 @@ fn needs_of<R: Wait + AllocGlobal>(rt: &R, terms: &SharedTerms) -> Option<Sessio
     Some(SessionNeeds { held, no_floors })
 }
 
+// The host of a session at its ticket.
+fn host_at<'h, R, S, H, B, T>(
+    rt: &'h R,
+    house: &'h House<S, H, B>,
+    runs: &'h T,
+    stream: TcpStream,
+    own: ClientSession,
+    owner: TicketOwner<'h, SessionJob<S>, SessionEnd<S>, LaneEnds>,
+    needs: SessionNeeds,
+) -> SocketHost<'h, R, S, H, B, T>
+where
+    R: ServerRuntime,
+    S: Store<Global> + Recorder,
+    H: ServerHooks,
+    B: PartsName,
+    T: OwnRuns,
+    requires idle { owner_view owner ≡ Idle }
+    ensures own { result.own ≡ own }
+{
+    let wanted = wanted_peer(&needs.held.terms().settings, own.peer);
+    let side = SocketSide::new(rt, house, runs, wanted, session_number(own.number), owner);
+    let socket = ControlSocket::new(stream);
+    SocketHost::new(rt, house, socket, side, own, needs)
+}
+
 // Runs a session at its ticket, closes its connection, and leaves the ticket.
 fn run_at<'h, R, S, H, B, T>(
     rt: &'h R,
@@ -124,10 +149,7 @@ where
     T: OwnRuns,
     requires idle { owner_view owner ≡ Idle }
 {
-    let wanted = wanted_peer(&needs.held.terms().settings, own.peer);
-    let side = SocketSide::new(rt, house, runs, wanted, session_number(own.number), owner);
-    let socket = ControlSocket::new(stream);
-    let host = SocketHost::new(rt, house, socket, side, own, needs);
+    let host = host_at(rt, house, runs, stream, own, owner, needs);
     run_whole(&rt.alloc(), host, own.peer);
 }
 

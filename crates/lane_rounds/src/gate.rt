@@ -45,10 +45,10 @@ const GATHER: u64 = 8_000;
 /// The gate of a lane for one transfer. It waits for answers, and holds rounds. It stops the transfer before an ask once
 /// its session wants it to end, or rounds are refused to it: the lane is free then for the next. It cannot be dropped:
 /// it reports the end of its transfer.
-pub(crate) struct LaneGate<'r, 'h, R: RoundClock, S: Store<Global>, H: Drop, B: PartsName> {
+pub(crate) struct LaneGate<'r, 'h, 'e, R: RoundClock, S: Store<Global>, H: Drop, B: PartsName> {
     rt: &'r R,
     house: &'h House<S, H, B>,
-    engine: &'h Engine<B>,
+    engine: &'e Engine<B>,
     lane: usize,
     run: TicketRun<'h, SessionJob<S>, SessionEnd<S>, LaneEnds>,
     is_upload: bool,
@@ -76,7 +76,7 @@ pub(crate) struct LaneGate<'r, 'h, R: RoundClock, S: Store<Global>, H: Drop, B: 
     ghost stops: { (not has_stopped || has_seen (run_view run)) ≡ true },
 }
 
-impl<'r, 'h, R, S, H, B> LaneGate<'r, 'h, R, S, H, B>
+impl<'r, 'h, 'e, R, S, H, B> LaneGate<'r, 'h, 'e, R, S, H, B>
 where
     R: Wait + Clock + RoundClock + AllocGlobal,
     S: Store<Global>,
@@ -87,7 +87,7 @@ where
     pub(crate) fn new(
         rt: &'r R,
         house: &'h House<S, H, B>,
-        engine: &'h Engine<B>,
+        engine: &'e Engine<B>,
         lane: usize,
         run: TicketRun<'h, SessionJob<S>, SessionEnd<S>, LaneEnds>,
         is_upload: bool,
@@ -254,8 +254,8 @@ fn answer(is_before_ask: bool, is_to_stop: bool, is_starved: bool) -> Go
     Go::On
 }
 
-impl<'r, 'h, R, S, H, B> Gate<Ran<Served<Global, S::Source>, S::Sink, DataConnection, Global>>
-    for LaneGate<'r, 'h, R, S, H, B>
+impl<'r, 'h, 'e, R, S, H, B> Gate<Ran<Served<Global, S::Source>, S::Sink, DataConnection, Global>>
+    for LaneGate<'r, 'h, 'e, R, S, H, B>
 where
     R: Wait + Clock + RoundClock + AllocGlobal,
     S: Store<Global>,

@@ -65,7 +65,7 @@ fn sign<R: Source, K: Sink, C: Read + Write + Drop>(sign: &LaneSign, job: &LaneJ
 pub(crate) fn run_transfer<'h, R, S, H, B>(
     rt: &R,
     house: &'h House<S, H, B>,
-    engine: &'h Engine<B>,
+    engine: &Engine<B>,
     worker: &mut LentWorker<B>,
     ticket: &'h SessionTicket<S>,
 )
@@ -115,7 +115,7 @@ where
     match house.board.pop(rt, pass) {
         Some(number) => {
             match (&*house).tickets.get(number as usize) {
-                Some(ticket) => run_transfer(rt, &*house, &*engine, worker, ticket),
+                Some(ticket) => run_transfer(rt, &*house, engine, worker, ticket),
                 None => {}
             }
             true

@@ -30,7 +30,7 @@ where
 fn run_at<'h, R, S, H, B>(
     rt: &R,
     house: &'h House<S, H, B>,
-    engine: &'h Engine<B>,
+    engine: &Engine<B>,
     worker: &mut LentWorker<B>,
     ticket: &'h SessionTicket<S>,
 ) -> bool
@@ -52,7 +52,7 @@ where
 fn run_at_any<'h, R, S, H, B>(
     rt: &R,
     house: &'h House<S, H, B>,
-    engine: &'h Engine<B>,
+    engine: &Engine<B>,
     ticket: &'h SessionTicket<S>,
 ) -> bool
 where
@@ -65,7 +65,7 @@ where
     for lane in 0..engine.seats.count() {
         if let Some(seat) = engine.seats.seat(lane) {
             if let Some(mut worker) = seat.try_lock() {
-                if run_at(rt, &*house, &*engine, &mut *worker, &*ticket) {
+                if run_at(rt, &*house, engine, &mut *worker, &*ticket) {
                     return true;
                 }
             }
@@ -96,7 +96,7 @@ where
         return false;
     }
     match (&*house).tickets.get(number as usize) {
-        Some(ticket) => run_at_any(rt, &*house, &*engine, ticket),
+        Some(ticket) => run_at_any(rt, &*house, engine, ticket),
         None => false,
     }
 }

@@ -257,7 +257,7 @@ where
     S::Source: Send,
     S::Sink: Send,
     H: ServerHooks + Send,
-    B: PartsName + Send + Sync + 'static,
+    B: PartsName + Send + Sync,
     T: OwnRuns + Sync,
 {
     thread::scope(

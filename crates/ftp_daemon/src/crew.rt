@@ -4,7 +4,7 @@ use crate::server::Server;
 use crate::watching::{OwnerSigns, watch};
 use lane_rounds::{RoundClock, keep_rounds, run_here, work_lane};
 use lent_parts::PartsName;
-use server_house::{OwnRuns, ServerHooks, ServerRuntime, ShutdownStage};
+use server_house::{House, OwnRuns, ServerHooks, ServerRuntime, ShutdownStage};
 use std::alloc::Global;
 use virtual_tree::Store;
 
@@ -76,5 +76,24 @@ where
 {
     fn run_here(&self, number: u32, user: u32) -> bool {
         run_here(&self.rt, &self.house, &self.engine, number, user)
+    }
+}
+
+/// The house of a crew. A function that is lent a whole server takes no house beside it: the borrow checker covers no
+/// call with both.
+pub(crate) trait HasHouse<S: Store<Global>, H: Drop, B: PartsName> {
+    fn house(&self) -> &House<S, H, B>;
+}
+
+impl<R, S, H, B, P> HasHouse<S, H, B> for Server<R, S, H, B, P>
+where
+    R: RoundClock,
+    S: Store<Global>,
+    H: Drop,
+    B: PartsName,
+    P: OwnerSigns,
+{
+    fn house(&self) -> &House<S, H, B> {
+        &self.house
     }
 }

@@ -1,9 +1,9 @@
 //! The threads of lanes and rounds.
 
-ghost use Rattle.std.specs.Thread.{IsSync};
+ghost use Rattle.std.specs.Thread.{IsSend, IsSync};
 
 use crate::accepting::accept_all;
-use crate::crew::Crew;
+use crate::crew::{Crew, HasHouse};
 use ftpd_program::ServeFault;
 use lent_parts::PartsName;
 use recorded_store::Recorder;
@@ -22,8 +22,8 @@ const STACK: usize = 262_144;
 /// The line written once clients may connect.
 const READY: &[u8] = b"ready\n";
 
-/// Writes `ready`, and serves clients. Returns once all sessions have ended.
-pub(crate) fn serve_clients<R, S, H, B, T, W>(
+// Writes `ready`, and serves clients. Returns once all sessions have ended.
+fn serve_clients<R, S, H, B, T, W>(
     rt: &R,
     house: &House<S, H, B>,
     runs: &T,
@@ -36,7 +36,7 @@ where
     S::Source: Send,
     S::Sink: Send,
     H: ServerHooks + Send,
-    B: PartsName + Send + Sync + 'static,
+    B: PartsName + Send + Sync,
     T: OwnRuns + Sync,
     W: TextWriter,
 {
@@ -47,9 +47,9 @@ where
     Ok(())
 }
 
-/// Runs lanes and rounds, and checks for the stop sign, while clients are served. Returns once all threads have ended.
-/// Nobody is served if one of these threads could not be started, or `ready` could not be written.
-pub(crate) fn run_threads<R, T, F>(rt: &R, crew: &T, clients: F) -> Result<(), ServeFault>
+// Runs lanes and rounds, and checks for the stop sign, while clients are served. Returns once all threads have ended.
+// Nobody is served if one of these threads could not be started, or `ready` could not be written.
+fn run_threads<R, T, F>(rt: &R, crew: &T, clients: F) -> Result<(), ServeFault>
 where
     R: Threads + Wait,
     T: Crew + Sync,
@@ -88,5 +88,33 @@ where
             crew.end_lanes();
             served
         },
+    )
+}
+
+/// Runs lanes and rounds, and serves the clients of a listener with the parts that the crew works with.
+pub(crate) fn serve_crew<R, S, H, B, T, W>(
+    rt: &R,
+    crew: &T,
+    listener: TcpListener,
+    writer: &mut W,
+) -> Result<(), ServeFault>
+where
+    R: Threads + ServerRuntime + Copy + Send + Sync,
+    S: Store<Global> + Recorder + Send + Drop,
+    S::Source: Send,
+    S::Sink: Send,
+    H: ServerHooks + Send,
+    B: PartsName + Send + Sync,
+    T: Crew + OwnRuns + HasHouse<S, H, B> + Sync,
+    W: TextWriter,
+{
+    let house = crew.house();
+    run_threads(
+        rt,
+        crew,
+        || -> Result<(), ServeFault>
+            requires { IsSync R.row × IsSend R.row × IsSend S.row × IsSend S.Source.row
+                × IsSend S.Sink.row × IsSend H.row × IsSync T.row }
+        { serve_clients(rt, house, crew, listener, writer) },
     )
 }

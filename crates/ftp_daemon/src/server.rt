@@ -1,7 +1,6 @@
 //! One server, from its parts to their settlement.
 
 ghost use Rattle.std.specs.Prelude.{◌≡◌, ◌+◌, true, IfErr, length};
-ghost use Rattle.std.specs.Thread.{IsSend, IsSync};
 ghost use Rattle.lane_rounds.specs.Clocks.{IsTestOf};
 ghost use Rattle.lent_parts.specs.Names.{IsBoardOf, IsNamed};
 ghost use Rattle.lent_parts.specs.Rooms.{HasRoom};
@@ -13,7 +12,7 @@ ghost use Rattle.round_pace.specs.Paced.{IsPacedFrom};
 ghost use Rattle.transfer_worker.specs.Boards.{AreNewPasses};
 ghost use Rattle.ftp_daemon.specs.SameRates.{Permits};
 
-use crate::lanes::{run_threads, serve_clients};
+use crate::lanes::serve_crew;
 use crate::opening::{Allocated, Line, Service, allocate};
 use crate::settling::settle_unlent;
 use crate::watching::{OwnerSigns, wants_looks};
@@ -181,7 +180,7 @@ where
     S::Source: Send,
     S::Sink: Send,
     H: ServerHooks + Send,
-    B: PartsName + Send + Sync + 'static,
+    B: PartsName + Send + Sync,
     P: OwnerSigns + Send + Sync + Drop,
 {
     /// Serves the clients of a listener in threads, until all have ended.
@@ -190,16 +189,7 @@ where
         listener: TcpListener,
         writer: &mut W,
     ) -> Result<(), ServeFault> {
-        let own = &self.rt;
-        let house = &self.house;
-        run_threads(
-            own,
-            self,
-            || -> Result<(), ServeFault>
-                requires { IsSync R.row × IsSend R.row × IsSend S.row × IsSend S.Source.row
-                    × IsSend S.Sink.row × IsSend H.row × IsSync P.row × IsSend P.row }
-            { serve_clients(own, house, self, listener, writer) },
-        )
+        serve_crew(&self.rt, self, listener, writer)
     }
 }
 

@@ -43,7 +43,7 @@ where
     S::Source: Send,
     S::Sink: Send,
     H: ServerHooks + Send,
-    B: PartsName + Send + Sync + 'static,
+    B: PartsName + Send + Sync,
     P: OwnerSigns + Send + Sync + Drop,
     W: TextWriter,
     requires desk { IsNamed B.desk B.lanes line.desk }

@@ -1,6 +1,7 @@
 //! Data connections over the loopback address, and what a session and a lane exchange.
 
 use crate::expect::holds;
+use counted_file::CountedFile;
 use data_sockets::{
     DataConnection, Listing, Outgoing, Progress, Served, TransferName, accept_from, address_octets,
     listen, socket_address,
@@ -126,4 +127,21 @@ fn a_listing_is_read_to_its_end(rt: HostRuntime) {
         source.read(&mut buffer).ok() == Some(2) && buffer[1] == b'b',
     );
     holds(&rt, source.read(&mut buffer).ok() == Some(0));
+}
+
+#[test]
+fn an_end_is_read_and_written_by_counted_calls(rt: HostRuntime) {
+    let mut source = CountedFile::new(&b"abc"[..]);
+    let mut buffer = [0u8; 2];
+    holds(
+        &rt,
+        source.read(&mut buffer).ok() == Some(2) && buffer[1] == b'b',
+    );
+    holds(&rt, source.into_file().len() == 1);
+    let mut sink = CountedFile::new(Vec::new(rt.alloc()));
+    holds(
+        &rt,
+        sink.write_some(b"d").ok() == Some(1) && sink.write(b"ef").is_ok(),
+    );
+    holds(&rt, sink.into_file().len() == 3);
 }

@@ -3,12 +3,12 @@ use Rattle.round_pace.specs.Earned.{tick_of}
 use Rattle.ftp_daemon.proofs.KeptLemmas.{none_kept}
 use Rattle.ftp_daemon.proofs.server.Server.open.Goals as goal
 
-pub lend_line-requires-clause-new : goal.lend_line-requires-clause-new
-lend_line-requires-clause-new g c = (c.args.service.limits, c.allocate.ensures.new)
+pub lend_line-desk-requires-clause-new : goal.lend_line-desk-requires-clause-new
+lend_line-desk-requires-clause-new g c = (c.args.service.limits, c.in-Ok.ensures.new)
 
-pub lend_line-requires-clause-rated : goal.lend_line-requires-clause-rated
-lend_line-requires-clause-rated g c =
-    ap g.B.PartsName.rates (c.histories_keep_rates.ensures.new (tick_of c.in_Ok.made.begun) c.args.service.limits c.in_Ok.made.pace c.allocate.ensures.new) ∙ c.requires.rated
+pub lend_line-desk-requires-clause-rated : goal.lend_line-desk-requires-clause-rated
+lend_line-desk-requires-clause-rated g c =
+    ap g.B.PartsName.rates (c.histories_keep_rates.ensures.new (tick_of c.in-Ok.made.begun) c.args.service.limits c.in-Ok.made.pace c.in-Ok.ensures.new) ∙ c.requires.rated
 
 pub returns-in-Err-clause-kept : goal.returns-in-Err-clause-kept
 returns-in-Err-clause-kept g c =

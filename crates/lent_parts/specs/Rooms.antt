@@ -4,8 +4,7 @@ use Rattle.lent_parts.specs.declared.name.PartsName.{Ghosts}
 use Rattle.lent_parts.specs.declared.seats.LentSeats.{LentSeats}
 
 module _ {B : Type 0} {names : Ghosts B} where
-  -- no seat is lent yet, and as many as these can be lent and gathered
+  -- no seat is lent yet, and as many as these can be
   abbrev pub HasRoom : ℕ → LentSeats B names → Type 0
   HasRoom lanes s =
       (s.seats.items ≡ []) × (lanes ≤ vec_capacity s.seats)
-      × (lanes ≤ vec_capacity s.gathered) × (lanes ≤ vec_capacity s.worked)

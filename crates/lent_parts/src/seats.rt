@@ -14,15 +14,21 @@ use lane_desk::{LaneSeat, Worked};
 use std::alloc::{AllocError, Global};
 use std::sync::{Mutex, Wait};
 
-/// The seats of the desk with a name, in the order of their lanes, each with a lock of its own; and room to gather them.
-/// They cannot be dropped.
-pub struct LentSeats<B: PartsName> {
-    seats: Vec<Mutex<LentWorker<B>>>,
+/// Room to gather this many seats. It cannot be dropped.
+struct SeatRoom<B: PartsName> {
+    lanes: usize,
     gathered: Vec<LentWorker<B>>,
     worked: Vec<Worked<()>>,
     ghost none: { (gathered.items ≡ []) × (worked.items ≡ []) },
-    ghost gathers: { length seats.items ≤ vec_capacity gathered },
-    ghost works: { length seats.items ≤ vec_capacity worked },
+    ghost gathers: { lanes ≤ vec_capacity gathered },
+    ghost works: { lanes ≤ vec_capacity worked },
+}
+
+/// The seats of the desk with a name, in the order of their lanes, each with a lock of its own; and room to gather them,
+/// which nobody locks: a seat may not be seen by two threads, so what could hold one needs a lock. They cannot be dropped.
+pub struct LentSeats<B: PartsName> {
+    seats: Vec<Mutex<LentWorker<B>>>,
+    room: Mutex<SeatRoom<B>>,
 }
 
 // Two lists of seats, which cannot be dropped.
@@ -81,16 +87,21 @@ fn unlocked<B: PartsName>(
 impl<B: PartsName> LentSeats<B> {
     /// Room for the seats of this many lanes, and none yet.
     pub fn open(alloc: Global, lanes: usize) -> Result<LentSeats<B>, AllocError>
-        ensures room { IfOk result (λ s. (s.seats.items ≡ []) × (lanes ≤ vec_capacity s.seats)
-            × (lanes ≤ vec_capacity s.gathered) × (lanes ≤ vec_capacity s.worked)) }
+        ensures room { IfOk result (λ s. (s.seats.items ≡ []) × (lanes ≤ vec_capacity s.seats)) }
     {
         let (seats, gathered) = new_lists(alloc, lanes)?;
         match Vec::with_capacity(alloc, lanes) {
-            Ok(worked) => Ok(LentSeats {
-                seats,
-                gathered,
-                worked,
-            }),
+            Ok(worked) => {
+                let room = SeatRoom {
+                    lanes,
+                    gathered,
+                    worked,
+                };
+                Ok(LentSeats {
+                    seats,
+                    room: Mutex::new(room),
+                })
+            }
             Err(AllocError) => {
                 seats.destroy_empty();
                 gathered.destroy_empty();
@@ -103,9 +114,7 @@ impl<B: PartsName> LentSeats<B> {
     pub fn lend(&mut self, seats: Vec<LaneSeat<()>>, tally: &mut Tally<()>)
         requires seats { AreFresh B.desk B.lanes seats.items }
         requires room { (self.old.seats.items ≡ [])
-            × (length seats.items ≤ vec_capacity self.old.seats)
-            × (length seats.items ≤ vec_capacity self.old.gathered)
-            × (length seats.items ≤ vec_capacity self.old.worked) }
+            × (length seats.items ≤ vec_capacity self.old.seats) }
         ensures tally { tally.new ≡ tally.old }
         ensures all { length self.new.seats.items ≡ length seats.items }
     {
@@ -127,17 +136,24 @@ impl<B: PartsName> LentSeats<B> {
         self.seats.get(lane)
     }
 
-    /// Gathers the seats, once no thread has one any more, and settles the book of their desk, as `settle_lent`.
+    /// Gathers the seats, once no thread has one any more, and settles the book of their desk, as `settle_lent`. More seats
+    /// than there is room for are none of a desk for which these were opened: it would wait for ever with them.
     pub fn settle<R: Wait>(self, rt: &R, desk: LentDesk<B>, rounds: LentRounds<B>) -> Settled
         ensures issued { result.issued ≡ rounds.rounds.rounds.book.issued }
         ensures sum { result.issued ≡ result.moved + result.back }
         ensures kept { HasKept B.rates B.when B.carried result.issued }
     {
-        let LentSeats {
-            seats,
+        let LentSeats { seats, room } = self;
+        let SeatRoom {
+            lanes,
             gathered,
             worked,
-        } = self;
-        settle_lent(rt, desk, rounds, unlocked(seats, gathered), worked)
+        } = room.into_inner();
+        if seats.len() <= lanes {
+            settle_lent(rt, desk, rounds, unlocked(seats, gathered), worked)
+        } else {
+            for _ in rt.forever() {}
+            unreachable!()
+        }
     }
 }

@@ -112,8 +112,8 @@ static TOPPED: [(u64, usize, usize); 4] = [
     (500, 501, 501),
     (1, 500, 1_001),
     (900, 101, 1_001),
-    // none wait: the pump reads the rest, of which there are 97
-    (1_001, 597, 597),
+    // none wait: the pump reads the rest, of XX
+    (1_001, 598, 598),
 ];
 
 #[test]
@@ -157,7 +157,7 @@ static SMALL: [(DataType, Option<u64>, bool); 6] = [
     (DataType::Ascii, None, false),
 ];
 
-// What is expected is asked of the source.
+// The room is for what the source expects, which no clause says of a source whose octets are not known.
 #[test]
 fn a_small_file_needs_little_memory(rt: HostRuntime) {
     let heap = LocalHeap::new(rt.alloc(), 200_000).expect(&rt, "a heap");

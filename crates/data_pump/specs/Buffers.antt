@@ -12,7 +12,7 @@ pub record Waiting : Type 0 where
   -- most octets that may wait at once, the same after all calls
   pub room : ℕ
 
--- Most wire octets that a number of a file's octets may become.
+-- most wire octets that this number of a file's octets may become
 abbrev pub most_sent : DataType → ℕ → ℕ
 most_sent Ascii count = 2 * count
 most_sent Image count = count
@@ -24,7 +24,7 @@ room_for data_type None = MAX_WAITING
 room_for data_type (Some count) =
     min MAX_WAITING (max LEAST_ROOM (most_sent data_type (count + 1)))
 
--- under TYPE A there is room for a text before its conversion, half of that for its wire octets
+-- under TYPE A a text has half as much room, before its conversion, as its wire octets
 abbrev pub HasText : DataType → List ℕ → List ℕ → Type 0
 HasText Ascii text octets = length text ≡ length octets / 2
 HasText Image text octets = Unit {0}

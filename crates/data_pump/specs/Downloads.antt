@@ -87,8 +87,8 @@ abbrev pub is_image : DataType → Bool
 is_image Ascii = false
 is_image Image = true
 
--- A room for as many octets as are expected of a source: of one whose octets are known, their
--- number, or nothing.
+-- The room is that for a number of octets that is expected, or for none. If the octets of the
+-- source are known, a number is theirs.
 pub record IsRoomFor (known : Option (List ℕ)) (data_type : DataType) (room : ℕ) : Type 0 where
   pub expected : Option ℕ
   pub right : IfSome known (λ octets. IfSome expected (λ count. count ≡ length octets))

@@ -78,30 +78,30 @@ fn count_pumps(out: &mut DataOut<Stated<'_>, Outlet<'_>>, funds: &mut Funds) -> 
 }
 
 // The octets have no line end, so each is one on the wire.
-fn expect_room(rt: &(impl Abort + AllocGlobal), text: &[u8], row: Row) {
-    let (data_type, expected, count, first, pumps) = row;
-    let mut funds = Funds::new(rt.alloc(), &[100_000]).expect(rt, "memory");
-    let mut taken = Vec::new(rt.alloc());
+fn expect_room(rt: &(impl Abort + AllocGlobal), row: &Row) {
+    let (data_type, expected, count, first, pumps) = *row;
+    let alloc = rt.alloc();
+    let text = vec![in alloc; b'x'; count].expect(rt, "memory");
+    let mut funds = Funds::new(alloc, &[100_000]).expect(rt, "memory");
+    let mut taken = Vec::new(alloc);
     let outlet = Outlet {
         taken: &mut taken,
         schedule: &[],
     };
-    let source = stated(&text[..count], expected);
-    let out = DataOut::open(rt.alloc(), source, outlet, data_type);
+    let source = stated(&text, expected);
+    let out = DataOut::open(alloc, source, outlet, data_type);
     let mut out = out.expect(rt, "a download");
     holds(rt, out.waiting() == first);
     holds(rt, count_pumps(&mut out, &mut funds) == pumps);
     drop(out);
     holds(rt, funds.settle().moved == count as u64);
-    holds(rt, taken.as_slice() == &text[..count]);
+    holds(rt, taken == text);
 }
 
 #[test]
 fn rooms(rt: HostRuntime) {
-    let alloc = rt.alloc();
-    let text = vec![in alloc; b'x'; 70_000].expect(&rt, "memory");
     for row in &ROOMS {
-        expect_room(&rt, &text, *row);
+        expect_room(&rt, row);
     }
 }
 
@@ -112,7 +112,7 @@ static TOPPED: [(u64, usize, usize); 4] = [
     (500, 501, 501),
     (1, 500, 1_001),
     (900, 101, 1_001),
-    // none wait: the pump reads the rest, of XX
+    // none wait, so the pump reads the rest
     (1_001, 598, 598),
 ];
 

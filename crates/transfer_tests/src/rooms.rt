@@ -30,7 +30,7 @@ impl<'a> Source for Stated<'a> {
     }
 }
 
-fn stated(rest: &[u8], expected: Option<u64>) -> Stated<'_> {
+fn source_of(rest: &[u8], expected: Option<u64>) -> Stated<'_> {
     let octets = Octets {
         rest,
         schedule: &[],
@@ -88,7 +88,7 @@ fn expect_room(rt: &(impl Abort + AllocGlobal), row: &Row) {
         taken: &mut taken,
         schedule: &[],
     };
-    let source = stated(&text, expected);
+    let source = source_of(&text, expected);
     let out = DataOut::open(alloc, source, outlet, data_type);
     let mut out = out.expect(rt, "a download");
     holds(rt, out.waiting() == first);
@@ -122,7 +122,7 @@ fn few_for_the_room(rt: HostRuntime) {
     let text = vec![in alloc; b'x'; 3_000].expect(&rt, "memory");
     let mut funds = Funds::new(alloc, &[3_000]).expect(&rt, "memory");
     let connection: Vec<u8> = Vec::new(alloc);
-    let source = stated(&text, Some(1_000));
+    let source = source_of(&text, Some(1_000));
     let out = DataOut::open(alloc, source, connection, DataType::Image);
     let mut out = out.expect(&rt, "a download");
     for (grant, waiting, topped) in &TOPPED {
@@ -141,7 +141,7 @@ fn opens(heap: &LocalHeap, taken: &mut Vec<u8>, row: (DataType, Option<u64>)) ->
         taken,
         schedule: &[],
     };
-    match DataOut::open(heap, stated(b"a", row.1), outlet, row.0) {
+    match DataOut::open(heap, source_of(b"a", row.1), outlet, row.0) {
         Ok(_) => true,
         Err(fault) => fault != OpenFault::Memory,
     }

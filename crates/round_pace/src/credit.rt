@@ -5,6 +5,7 @@ ghost use Rattle.round_pace.specs.Credits.{IsCredit, refill_row, take_row, is_dr
 ghost use Rattle.round_pace.specs.Earned.{share, begun_in, refilled, most_kept, as_rate};
 ghost use Rattle.round_pace.specs.Changed.{changed_credit};
 ghost use Rattle.round_pace.specs.FloorsFit.{floor_in};
+ghost use Rattle.round_pace.specs.Quiet.{is_full};
 
 use line_rates::MAX_RATE;
 
@@ -127,4 +128,12 @@ pub(crate) fn is_dry(credit: Credit) -> bool
     ensures dry { result ≡ is_dry credit }
 {
     credit.rate != 0 && credit.left == 0
+}
+
+/// Returns whether no refill in the same second changes a credit: all that is kept is left, or there is no rate.
+pub(crate) fn is_full(credit: Credit) -> bool
+    requires credit { IsCredit credit }
+    ensures full { result ≡ is_full credit }
+{
+    credit.rate == 0 || credit.left == most_kept(credit.rate)
 }

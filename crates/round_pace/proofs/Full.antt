@@ -61,11 +61,11 @@ user_parts u full =
     let rows = is_full u.down && is_full u.up in
     let sessions = is_full u.session_down && is_full u.session_up in
     let floors = nat_eq u.row.session_down_floor 0 && nat_eq u.row.session_up_floor 0 in
-    let a = and_parts rows (sessions && floors) full in
-    let b = and_parts sessions floors a.1 in
-    let r = and_parts (is_full u.down) (is_full u.up) a.0 in
-    let s = and_parts (is_full u.session_down) (is_full u.session_up) b.0 in
-    let f = and_parts (nat_eq u.row.session_down_floor 0) (nat_eq u.row.session_up_floor 0) b.1 in
+    let a = and_parts (rows && sessions) floors full in
+    let b = and_parts rows sessions a.0 in
+    let r = and_parts (is_full u.down) (is_full u.up) b.0 in
+    let s = and_parts (is_full u.session_down) (is_full u.session_up) b.1 in
+    let f = and_parts (nat_eq u.row.session_down_floor 0) (nat_eq u.row.session_up_floor 0) a.1 in
     record {
       down = r.0;
       up = r.1;

@@ -22,6 +22,8 @@ invariant_of-result g c =
       are_groups = groups.1;
       are_users = users.1;
       handed = λ q. absurd (cc);
+      groups_quiet = ?;
+      users_quiet = ?;
     }
 
 pub returns : goal.returns

@@ -1,6 +1,8 @@
 use Rattle.std.proofs.Common.{◌≡◌, true}
+use Rattle.round_pace.specs.Quiet.{IsQuietGroup, IsQuietUser}
 use Rattle.round_pace.proofs.Handing.{handed_still}
 use Rattle.round_pace.proofs.Keeping.{groups_taken, users_taken}
+use Rattle.round_pace.proofs.Marks.{marked_kept}
 use Rattle.round_pace.proofs.pace.Pace.took.Goals as goal
 use Rattle.round_pace.proofs.pace.Pace.took.Goals.{then-self, else-self, then-same_groups, else-same_groups}
 
@@ -34,4 +36,6 @@ invariant_of-self g c =
         ]
         | else-same_groups w ↦ (let is = w.self-is in absurd (cc))
       ];
+      groups_quiet = marked_kept (IsQuietGroup c.self-2.inside.offered) c.self-2.inside.quiet_groups.items c.self-2.inside.groups.items c.take_groups-same_groups.new.marks.items c.take_groups-same_groups.new.groups.items c.take_groups-same_groups.ensures.marked kept.groups_quiet;
+      users_quiet = marked_kept (IsQuietUser c.self-2.inside.offered) c.self-2.inside.quiet_users.items c.self-2.inside.users.items c.take_users-same_users.new.marks.items c.take_users-same_users.new.users.items c.take_users-same_users.ensures.marked kept.users_quiet;
     }

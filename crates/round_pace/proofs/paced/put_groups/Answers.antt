@@ -1,5 +1,5 @@
-use Rattle.std.proofs.Common.{◌≡◌, ◌∙◌, ◌+◌, ◌<◌, ◌≤◌, ℕ, List, Bool, true, ap, refl, sym, arith, length, set}
-use Rattle.round_pace.specs.Quiet.{is_full_group, mark_at, AllMarked}
+use Rattle.std.proofs.Common.{◌≡◌, ◌∙◌, ◌<◌, List, Bool, true, ap, refl, sym, arith, length, set}
+use Rattle.round_pace.specs.Quiet.{is_full_group, mark_at}
 use Rattle.round_pace.proofs.Marks.{marked_set, set_before}
 use Rattle.round_pace.proofs.Placed.{groups_more, groups_quiet, groups_there}
 use Rattle.round_pace.proofs.paced.put_groups.Goals as goal

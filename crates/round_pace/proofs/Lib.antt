@@ -14,6 +14,7 @@ mod HandedIn
 mod Marks
 mod Full
 mod Placed
+mod Twice
 mod Handing
 mod Keeping
 mod Credited

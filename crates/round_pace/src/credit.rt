@@ -59,6 +59,9 @@ pub(crate) fn refilled(credit: Credit, begun: u64, tick: u64) -> u64
 {
     let before = begun_in(begun, tick);
     let carried = if before == 0 { 0 } else { credit.left };
+    if credit.rate == 0 {
+        return carried.min(1);
+    }
     let earned = share(credit.rate, tick % TICKS + 1) - share(credit.rate, before);
     carried.saturating_add(earned).min(most_kept(credit.rate))
 }

@@ -56,7 +56,7 @@ fn floor_rate(floor: u64, begun: u64, tick: u64) -> u64
     ensures floor { result ≡ floor_rate floor begun tick }
     ensures most { result ≤ MAX_RATE }
 {
-    if tick < begun {
+    if tick < begun || floor == 0 {
         return 0;
     }
     10 * floor_in(floor, begun, tick)

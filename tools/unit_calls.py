@@ -10,6 +10,9 @@ import subprocess
 import sys
 
 CALL = re.compile(r"^\d+ +(?:<\.\.\. )?(\w+)(?:\(| resumed)")
+# The C library's malloc asks once, when the memory of a thread gets smaller, how the machine hands memory out. Under the unit there is no
+# such file, and malloc then keeps to what is safe in each case (`check_may_shrink_heap` of its arena.c).
+ASKED_BY_MALLOC = "/proc/sys/vm/overcommit_memory"
 DEVICES = {"/dev/null", "/dev/zero", "/dev/full", "/dev/random", "/dev/urandom", "/dev/tty"}
 
 
@@ -43,7 +46,7 @@ def faults(unit, trace, folder):
         is_there = path in DEVICES or not path.startswith("/") or path.startswith((f"{folder}/", "/proc/self/fd/"))
         if re.search("O_WRONLY|O_RDWR|O_CREAT", flags) and not is_there:
             yield f"opened for writing: {path}"
-        if path.startswith("/dev/") and path not in DEVICES or re.match(r"/proc/(?!self/|\d+/)", path):
+        if path.startswith("/dev/") and path not in DEVICES or re.match(r"/proc/(?!self/|\d+/)", path) and path != ASKED_BY_MALLOC:
             yield f"opened: {path}"
     if re.search(r"\bmmap2?\([^\n]*PROT_WRITE\|PROT_EXEC|\bmprotect\([^\n]*PROT_EXEC", trace):
         yield "memory to write and to run"

@@ -14,7 +14,7 @@ use std::sync::Wait;
 use std::time::Clock;
 use virtual_tree::Store;
 
-// Returns whether a round that is held now would grant a user's download all that it asks for, if nobody holds one.
+// Returns whether the rates of a user's downloads have plenty left, and nobody holds a round now.
 fn has_plenty<R, B>(rt: &R, engine: &Engine<B>, user: u32) -> bool
 where
     R: RoundClock,
@@ -76,8 +76,8 @@ where
 
 /// Runs the download that waits on the ticket with this number to its end, on the thread that calls, at the seat of a lane
 /// that runs none: so no other thread is woken for it, and none wakes this one. Returns false, and leaves it to the lanes,
-/// if no seat is free, or a rate of its user may hold it back: the thread reads nothing of its client meanwhile. The
-/// number must not be on the board. The moments of the clock pass the test of the name.
+/// if no seat is free, another thread holds a round, or a rate of its user may hold it back: the thread reads nothing of
+/// its client meanwhile. The number must not be on the board. The moments of the clock pass the test of the name.
 pub fn run_here<R, S, H, B>(
     rt: &R,
     house: &House<S, H, B>,

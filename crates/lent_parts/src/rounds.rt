@@ -82,8 +82,8 @@ impl<B: PartsName> LentRounds<B> {
         self.rounds.is_open(way, user, now)
     }
 
-    /// Returns whether a transfer of a user would be granted all that it asks for in a round at a moment in microseconds,
-    /// as `PacedRounds::has_plenty`.
+    /// Returns whether the rows of a user's transfer are open at a moment in microseconds and have plenty left, as
+    /// `PacedRounds::has_plenty`.
     pub fn has_plenty(&self, way: Way, user: u32, now: u64) -> bool
         ensures plenty { result
             ≡ has_plenty way user self.now.rounds.pace self.now.rounds.cadence now }

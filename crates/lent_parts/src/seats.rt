@@ -136,8 +136,8 @@ impl<B: PartsName> LentSeats<B> {
         self.seats.get(lane)
     }
 
-    /// Gathers the seats, once no thread has one any more, and settles the book of their desk, as `settle_lent`. More seats
-    /// than there is room for are none of a desk for which these were opened: it would wait for ever with them.
+    /// Gathers the seats, once no thread has one any more, and settles the book of their desk, as `settle_lent`. Waits
+    /// for ever if there are more seats than room was made for, which `lend` is not called with.
     pub fn settle<R: Wait>(self, rt: &R, desk: LentDesk<B>, rounds: LentRounds<B>) -> Settled
         ensures issued { result.issued ≡ rounds.rounds.rounds.book.issued }
         ensures sum { result.issued ≡ result.moved + result.back }

@@ -92,8 +92,8 @@ impl<N, A: Allocator> PacedRounds<N, A> {
         self.cadence.opens(way, user, &rows) <= now / TICK_MICROS
     }
 
-    /// Returns whether a transfer of a user would be granted all that it asks for in a round at a moment in microseconds,
-    /// whatever others ask for: its rows are open, and each has [`MOST_ASKED`] octets left.
+    /// Returns whether all rows that a transfer of a user is within are open at a moment in microseconds, and each has
+    /// [`MOST_ASKED`] octets left, so that other asks of a round leave it all that it wants.
     pub fn has_plenty(&self, way: Way, user: u32, now: u64) -> bool
         ensures plenty { result ≡ has_plenty way user self.now.pace self.now.cadence now }
     {

@@ -1,25 +1,38 @@
 -- Waiting wire octets as contracts see them.
-use Rattle.std.specs.Prelude.{◌≡◌, ◌*◌, ◌<◌, ◌≤◌, ◌++◌, ℕ, List, length, Option}
+use Rattle.std.specs.Prelude.{◌≡◌, ◌+◌, ◌*◌, ◌/◌, ◌<◌, ◌≤◌, ◌++◌, ℕ, min, max, List, length, Option, None, Some}
 use Rattle.std.specs.Io.KnownBytes.{Consumes, IsAtEnd}
 use Rattle.ftp_terms.specs.declared.data_type.DataType.{DataType}
 use Rattle.ftp_terms.specs.declared.data_type.DataType.TheVariants.{Ascii, Image}
-use Rattle.data_pump.specs.declared.buffer.TheConstants.{MAX_WAITING}
+use Rattle.data_pump.specs.declared.buffer.TheConstants.{MAX_WAITING, LEAST_ROOM}
 use Rattle.data_pump.specs.WireText.{sent}
 
 pub record Waiting : Type 0 where
   pub data_type : DataType
   pub octets : List ℕ
+  -- most octets that may wait at once, the same after all calls
+  pub room : ℕ
 
--- under TYPE A there is room for a text before its conversion
-abbrev pub HasText : DataType → List ℕ → Type 0
-HasText Ascii text = 0 < length text
-HasText Image text = Unit {0}
+-- most wire octets that this number of a file's octets may become
+abbrev pub most_sent : DataType → ℕ → ℕ
+most_sent Ascii count = 2 * count
+most_sent Image count = count
+
+-- Room of a buffer for the octets that are expected of a source, and for one more, so that a read
+-- of all of them leaves room; the most that there may be if nothing is expected.
+abbrev pub room_for : DataType → Option ℕ → ℕ
+room_for data_type None = MAX_WAITING
+room_for data_type (Some count) =
+    min MAX_WAITING (max LEAST_ROOM (most_sent data_type (count + 1)))
+
+-- under TYPE A a text has half as much room, before its conversion, as its wire octets
+abbrev pub HasText : DataType → List ℕ → List ℕ → Type 0
+HasText Ascii text octets = length text ≡ length octets / 2
+HasText Image text octets = Unit {0}
 
 pub record IsBuffer (data_type : DataType) (text octets : List ℕ) (from to : ℕ) : Type 0 where
-  pub has_text : HasText data_type text
-  pub has_octets : 0 < length octets
-  pub room : 2 * length text ≤ length octets
-  pub most : length octets ≡ MAX_WAITING
+  pub has_text : HasText data_type text octets
+  pub has_octets : 1 < length octets
+  pub most : length octets ≤ MAX_WAITING
   pub in_order : from ≤ to
   pub within : to ≤ length octets
 

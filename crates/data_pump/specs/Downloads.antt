@@ -1,5 +1,5 @@
 -- Downloads as contracts see them, and the effect of a pump.
-use Rattle.std.specs.Prelude.{◌≡◌, ◌⊎◌, ◌↔◌, ◌*◌, ◌<◌, ◌≤◌, ◌++◌, ℕ, nat_lt, min, List, [], length, take, drop, Option, Some, Bool, true, false, ◌&&◌, not, IsTrue}
+use Rattle.std.specs.Prelude.{◌≡◌, ◌⊎◌, ◌↔◌, ◌*◌, ◌<◌, ◌≤◌, ◌++◌, ℕ, nat_lt, min, List, [], length, take, drop, Option, Some, IfSome, Bool, true, false, ◌&&◌, not, IsTrue}
 use Rattle.std.specs.Option.{option_map}
 use Rattle.std.specs.Io.KnownBytes.{Keeps, Appends, Consumes, IsAtEnd}
 use Rattle.ftp_terms.specs.declared.data_type.DataType.{DataType}
@@ -7,7 +7,7 @@ use Rattle.ftp_terms.specs.declared.data_type.DataType.TheVariants.{Ascii, Image
 use Rattle.line_rates.specs.declared.ask.Way.TheVariants.{Down}
 use Rattle.data_pump.specs.WireText.{sent}
 use Rattle.data_pump.specs.Counts.{CallCounts, with_passed, with_failed, IsOnceAtMost, FailsAsReported}
-use Rattle.data_pump.specs.declared.buffer.TheConstants.{MAX_WAITING}
+use Rattle.data_pump.specs.Buffers.{room_for}
 use Rattle.data_pump.specs.declared.pumped.FailedPart.TheVariants.{Connection, Source}
 use Rattle.data_pump.specs.declared.pumped.PumpEnd.{PumpEnd}
 use Rattle.data_pump.specs.declared.pumped.PumpEnd.TheVariants.{Ended, More, ReadFault, WriteFault, Memory}
@@ -22,6 +22,8 @@ pub record OutFlow (S K : Type 0) : Type 0 where
   pub writes : CallCounts
   pub data_type : DataType
   pub waiting : List ℕ
+  -- most octets that may wait at once, the same after all calls
+  pub room : ℕ
   pub is_over : Bool
 
 -- a download: its flow, and the end of the last pump
@@ -79,15 +81,23 @@ pub record MovesOut {S K : Type 0} (remaining : S → Option (List ℕ))
   pub at_end : pumped.end ≡ Ended → IsAtEnd (to_come remaining new)
   pub fault : IsSourceFault pumped.end → new.waiting ≡ []
   pub data_type : new.data_type ≡ old.data_type
+  pub room : new.room ≡ old.room
 
 abbrev pub is_image : DataType → Bool
 is_image Ascii = false
 is_image Image = true
 
--- under TYPE I, fewer than half of the most octets wait, and the source has not ended
+-- The room is that for a number of octets that is expected, or for none. If the octets of the
+-- source are known, a number is theirs.
+pub record IsRoomFor (known : Option (List ℕ)) (data_type : DataType) (room : ℕ) : Type 0 where
+  pub expected : Option ℕ
+  pub right : IfSome known (λ octets. IfSome expected (λ count. count ≡ length octets))
+  pub room_is : room ≡ room_for data_type expected
+
+-- under TYPE I, fewer octets wait than half of the room, and the source has not ended
 abbrev pub is_low : {S K : Type 0} → OutFlow S K → Bool
 is_low flow =
-    is_image flow.data_type && not flow.is_over && nat_lt (2 * length flow.waiting) MAX_WAITING
+    is_image flow.data_type && not flow.is_over && nat_lt (2 * length flow.waiting) flow.room
 
 -- One read of the source passed: its octets wait after the others, and the source has ended exactly
 -- if there are none.
@@ -117,6 +127,7 @@ pub record TopsUp {S K : Type 0} (remaining : S → Option (List ℕ))
   pub come : Keeps (to_come remaining old) (to_come remaining new)
   pub connection : (new.connection ≡ old.connection) × (new.writes ≡ old.writes)
   pub data_type : new.data_type ≡ old.data_type
+  pub room : new.room ≡ old.room
 
 -- A part of a wire text was written after what the connection had before; the rest is to come.
 pub record IsSending {S K : Type 0} (remaining : S → Option (List ℕ))

@@ -3,7 +3,7 @@
 ghost use Rattle.std.specs.Prelude.{◌≡◌, ◌+◌, ◌*◌, ◌<◌, ◌≤◌, ◌-◌, ◌&&◌, nat_lt, [], length, take, drop, slice_range, IfOk, IfErr, OnErr};
 ghost use Rattle.virtual_tree.specs.Calls.{IsEndFault};
 ghost use Rattle.std.specs.Io.KnownBytes.{Keeps};
-ghost use Rattle.data_pump.specs.Buffers.{Fills, FillsUp};
+ghost use Rattle.data_pump.specs.Buffers.{Fills, FillsUp, room_for};
 ghost use Rattle.data_pump.specs.Counts.{Counts};
 ghost use Rattle.data_pump.specs.Downloads.{is_image};
 
@@ -17,6 +17,26 @@ use virtual_tree::{Source, StoreFault};
 /// Most wire octets that may wait at once.
 pub const MAX_WAITING: usize = 65_536;
 
+/// Least room of a buffer, in wire octets.
+pub const LEAST_ROOM: usize = 512;
+
+/// Room of a buffer, in wire octets: for the octets that are expected of a source, each of which may become two under
+/// TYPE A, and for one more, so that a read of all of them leaves room and shows the end. At least `LEAST_ROOM` and at
+/// most `MAX_WAITING`, which it is if nothing is expected.
+pub(crate) fn room_for(data_type: DataType, expected: Option<u64>) -> usize
+    ensures room { result ≡ room_for data_type expected }
+{
+    let count = match expected {
+        Some(count) => count.min(MAX_WAITING as u64) as usize,
+        None => return MAX_WAITING,
+    };
+    let room = match data_type {
+        DataType::Ascii => 2 * (count + 1),
+        DataType::Image => count + 1,
+    };
+    room.max(LEAST_ROOM).min(MAX_WAITING)
+}
+
 /// Waiting wire octets. Under TYPE I a source is read directly into them; under TYPE A it is read into a buffer half
 /// as long, from which they are made.
 #[derive(Drop)]
@@ -29,32 +49,35 @@ pub(crate) struct WireBuffer<A: Allocator> {
 }
 
 impl<A: Allocator> Model for WireBuffer<A> {
-    ghost use Rattle.std.specs.Prelude.{slice_range};
+    ghost use Rattle.std.specs.Prelude.{length, slice_range};
     ghost use Rattle.data_pump.specs.Buffers.{Waiting, IsBuffer};
 
     ghost Value = { Waiting };
 
-    ghost view = { λ b.
-        record { data_type = b.data_type; octets = slice_range b.octets.items b.from b.to } };
+    ghost view = { λ b. record {
+      data_type = b.data_type;
+      octets = slice_range b.octets.items b.from b.to;
+      room = length b.octets.items;
+    } };
 
     ghost invariant = { λ b. IsBuffer b.data_type b.text.items b.octets.items b.from b.to };
 }
 
 impl<A: Allocator> WireBuffer<A> {
-    /// An empty buffer with room for the most octets, of which this is half.
-    pub fn new(alloc: A, data_type: DataType, half: usize) -> Result<WireBuffer<A>, AllocError>
+    /// An empty buffer with this room.
+    pub fn new(alloc: A, data_type: DataType, room: usize) -> Result<WireBuffer<A>, AllocError>
     where
         A: Clone,
-        requires some { 0 < half }
-        requires most { 2 * half ≡ MAX_WAITING }
+        requires some { 1 < room }
+        requires most { room ≤ MAX_WAITING }
         ensures empty { IfOk result
-            (λ buffer. buffer ≡ record { data_type = data_type; octets = [] }) }
+            (λ buffer. buffer ≡ record { data_type = data_type; octets = []; room = room }) }
     {
         let text = match data_type {
-            DataType::Ascii => vec![in alloc.clone()?; 0u8; half]?,
+            DataType::Ascii => vec![in alloc.clone()?; 0u8; room / 2]?,
             DataType::Image => Vec::new(alloc.clone()?),
         };
-        let octets = vec![in alloc; 0u8; 2 * half]?;
+        let octets = vec![in alloc; 0u8; room]?;
         Ok(WireBuffer {
             data_type,
             text,
@@ -72,14 +95,14 @@ impl<A: Allocator> WireBuffer<A> {
         self.to - self.from
     }
 
-    /// Returns whether fewer octets wait than half of the most, under TYPE I.
+    /// Returns whether fewer octets wait than half of the room, under TYPE I.
     pub fn is_low(&self) -> bool
         ensures low { result ≡ (is_image self.now.data_type
-            && nat_lt (2 * length self.now.octets) MAX_WAITING) }
+            && nat_lt (2 * length self.now.octets) self.now.room) }
     {
         match self.data_type {
             DataType::Ascii => false,
-            DataType::Image => 2 * self.len() < MAX_WAITING,
+            DataType::Image => 2 * self.len() < self.octets.len(),
         }
     }
 
@@ -95,6 +118,7 @@ impl<A: Allocator> WireBuffer<A> {
     pub fn consume(&mut self, count: usize)
         requires some { count ≤ length self.old.octets }
         ensures data_type { self.new.data_type ≡ self.old.data_type }
+        ensures room { self.new.room ≡ self.old.room }
         ensures left { self.new.octets ≡ drop count self.old.octets }
     {
         self.from += count;
@@ -104,6 +128,7 @@ impl<A: Allocator> WireBuffer<A> {
     /// wait.
     pub fn fill<S: Source>(&mut self, source: &mut CountedEnd<S>) -> Result<usize, StoreFault>
         ensures data_type { self.new.data_type ≡ self.old.data_type }
+        ensures room { self.new.room ≡ self.old.room }
         ensures count { IfOk result (λ count. count ≡ length self.new.octets) }
         ensures filled { IfOk result
             (λ count. Fills self.old.data_type (S.remaining source.old.end)
@@ -128,8 +153,9 @@ impl<A: Allocator> WireBuffer<A> {
     /// only at the source's end. After a fault the same octets wait, and the source has those that it had.
     pub fn fill_up<S: Source>(&mut self, source: &mut CountedEnd<S>) -> Result<usize, StoreFault>
         requires image { self.old.data_type ≡ DataType.Image }
-        requires room { length self.old.octets < MAX_WAITING }
+        requires room { length self.old.octets < self.old.room }
         ensures data_type { self.new.data_type ≡ self.old.data_type }
+        ensures same_room { self.new.room ≡ self.old.room }
         ensures filled { IfOk result (λ count. FillsUp (S.remaining source.old.end)
             (S.remaining source.new.end) count self.old.octets self.new.octets) }
         ensures left { OnErr result (self.new.octets ≡ self.old.octets) }

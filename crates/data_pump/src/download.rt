@@ -4,7 +4,7 @@ ghost use Rattle.std.specs.Prelude.{◌≡◌, ◌⊎◌, ◌-◌, ◌<◌, ◌�
 ghost use Rattle.grant_ledger.specs.Books.{capped};
 ghost use Rattle.data_pump.specs.Counts.{no_calls, next};
 ghost use Rattle.data_pump.specs.WireText.{sent};
-ghost use Rattle.data_pump.specs.Downloads.{HasEnded, IsReady, MovesOut, TopsUp, IsSending};
+ghost use Rattle.data_pump.specs.Downloads.{HasEnded, IsReady, IsRoomFor, MovesOut, TopsUp, IsSending};
 
 use crate::buffer::MAX_WAITING;
 use crate::outflow::Outflow;
@@ -36,8 +36,8 @@ impl<S: Source, K: Write + Drop, A: Allocator> Model for DataOut<S, K, A> {
 }
 
 impl<S: Source, K: Write + Drop, A: Allocator> DataOut<S, K, A> {
-    /// Begins a download: allocates its buffer, once, and fills it by one read of the source. A refusal drops the
-    /// source and the connection.
+    /// Begins a download: allocates its buffer, once, with room for the octets that are expected of the source, and
+    /// fills it by one read of the source. A refusal drops the source and the connection.
     pub fn open(
         alloc: A,
         source: S,
@@ -50,6 +50,8 @@ impl<S: Source, K: Write + Drop, A: Allocator> DataOut<S, K, A> {
             × (out.flow.data_type ≡ data_type) × (out.last ≡ PumpEnd.More)) }
         ensures calls { IfOk result (λ out. (out.flow.reads.made ≡ next 0)
             × (out.flow.writes ≡ no_calls)) }
+        ensures room { IfOk result
+            (λ out. IsRoomFor (S.remaining source) data_type out.flow.room) }
         ensures filled { IfOk result
             (λ out. (0 < length out.flow.waiting) ⊎ HasEnded out.flow) }
         ensures refused { (octets : List ℕ) → S.remaining source ≡ Some octets
@@ -59,7 +61,8 @@ impl<S: Source, K: Write + Drop, A: Allocator> DataOut<S, K, A> {
             → IfOk result (λ out. IsSending S.remaining K.contents before
             (sent data_type octets) out.flow) }
     {
-        let mut flow = match Outflow::new(alloc, source, connection, data_type) {
+        let expected = source.expected();
+        let mut flow = match Outflow::new(alloc, source, connection, data_type, expected) {
             Ok(flow) => flow,
             Err(_) => return Err(OpenFault::Memory),
         };
@@ -119,10 +122,10 @@ impl<S: Source, K: Write + Drop, A: Allocator> DataOut<S, K, A> {
         }
     }
 
-    /// Reads the source once, and appends the octets to those that wait, if these are fewer than half of the most, under
-    /// TYPE I. So until its end a source that fills what it is lent leaves at least half of the most to ask for. A fault
-    /// is not reported: the octets that wait are sent, and the source is read again by the next call, or by the pump
-    /// after which none wait, which reports it.
+    /// Reads the source once, and appends the octets to those that wait, if under TYPE I these are fewer than half of
+    /// the room. So until its end a source that fills what it is lent leaves at least half of the room to ask for. A
+    /// fault is not reported: the octets that wait are sent, and the source is read again by the next call, or by the
+    /// pump after which none wait, which reports it.
     pub fn top_up(&mut self)
         ensures topped { TopsUp S.remaining self.old.flow self.new.flow }
         ensures last { self.new.last ≡ self.old.last }

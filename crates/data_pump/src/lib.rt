@@ -26,7 +26,7 @@ mod upload;
 mod wire;
 mod writing;
 
-pub use buffer::MAX_WAITING;
+pub use buffer::{LEAST_ROOM, MAX_WAITING};
 pub use download::{DataOut, pump_out};
 pub use inflow::MAX_READ;
 pub use laws::{sent_text_is_received, wire_text_in_pieces};

@@ -4,11 +4,12 @@ ghost use Rattle.std.specs.Prelude.{◌≡◌, ◌≢◌, ◌<◌, ◌≤◌, �
 ghost use Rattle.std.specs.Bool.{OnTrue};
 ghost use Rattle.std.specs.Io.KnownBytes.{Keeps, IsAtEnd};
 ghost use Rattle.line_rates.specs.declared.ask.Way.TheVariants.{Down};
+ghost use Rattle.data_pump.specs.Buffers.{room_for};
 ghost use Rattle.data_pump.specs.Counts.{no_calls, next, IsOnceAtMost, FailsAsReported};
 ghost use Rattle.data_pump.specs.declared.pumped.FailedPart.TheVariants.{Connection, Source};
 ghost use Rattle.data_pump.specs.Downloads.{to_come, HasEnded, MovesOut, IsSourceFault, TopsUp};
 
-use crate::buffer::{MAX_WAITING, WireBuffer};
+use crate::buffer::{MAX_WAITING, WireBuffer, room_for};
 use crate::counted::CountedEnd;
 use crate::pumped::{PumpEnd, Pumped};
 use crate::writing::write_front;
@@ -41,6 +42,7 @@ impl<S: Source, K: Write + Drop, A: Allocator> Model for Outflow<S, K, A> {
       writes = f.connection.calls;
       data_type = f.buffer.data_type;
       waiting = f.buffer.octets;
+      room = f.buffer.room;
       is_over = f.is_over;
     } };
 
@@ -48,12 +50,13 @@ impl<S: Source, K: Write + Drop, A: Allocator> Model for Outflow<S, K, A> {
 }
 
 impl<S: Source, K: Write + Drop, A: Allocator> Outflow<S, K, A> {
-    /// Allocates the buffer, and makes no call.
+    /// Allocates the buffer, with room for the octets that are expected of the source, and makes no call.
     pub fn new(
         alloc: A,
         source: S,
         connection: K,
         data_type: DataType,
+        expected: Option<u64>,
     ) -> Result<Outflow<S, K, A>, AllocError>
     where
         A: Clone,
@@ -65,10 +68,11 @@ impl<S: Source, K: Write + Drop, A: Allocator> Outflow<S, K, A> {
               writes = no_calls;
               data_type = data_type;
               waiting = [];
+              room = room_for data_type expected;
               is_over = false;
             }) }
     {
-        let buffer = WireBuffer::new(alloc, data_type, MAX_WAITING / 2)?;
+        let buffer = WireBuffer::new(alloc, data_type, room_for(data_type, expected))?;
         Ok(Outflow {
             source: CountedEnd::new(source),
             connection: CountedEnd::new(connection),
@@ -95,6 +99,7 @@ impl<S: Source, K: Write + Drop, A: Allocator> Outflow<S, K, A> {
     /// Fills the buffer by one read of the source, if no octets wait and the source has not ended.
     pub fn refill(&mut self) -> PumpEnd
         ensures data_type { self.new.data_type ≡ self.old.data_type }
+        ensures room { self.new.room ≡ self.old.room }
         ensures connection { (self.new.connection ≡ self.old.connection)
             × (self.new.writes ≡ self.old.writes) }
         ensures come { Keeps (to_come S.remaining self.old) (to_come S.remaining self.new) }
@@ -130,8 +135,9 @@ impl<S: Source, K: Write + Drop, A: Allocator> Outflow<S, K, A> {
         }
     }
 
-    /// Reads the source once, and appends the octets to those that wait, if these are fewer than half of the most, under
-    /// TYPE I. If that read fails, its call is counted and the same octets wait; the next call reads the source again.
+    /// Reads the source once, and appends the octets to those that wait, if under TYPE I these are fewer than half of
+    /// the room. If that read fails, its call is counted and the same octets wait; the next call reads the source
+    /// again.
     pub fn top_up(&mut self)
         ensures topped { TopsUp S.remaining self.old self.new }
     {

@@ -11,6 +11,9 @@ mod NewPaces
 mod GroupsIn
 mod UsersIn
 mod HandedIn
+mod Marks
+mod Full
+mod Placed
 mod Handing
 mod Keeping
 mod Credited

@@ -9,6 +9,7 @@ use Rattle.round_pace.specs.declared.paced.UserPace.{UserPace}
 use Rattle.round_pace.specs.Credits.{IsCredit}
 use Rattle.round_pace.specs.Offered.{credit_rate, offer_group, offer_user}
 use Rattle.round_pace.specs.Paced.{group_key, pace_number, IsGroupPace, IsUserPace, AreTheGroups, AreTheUsers}
+use Rattle.round_pace.specs.Quiet.{AllMarked, IsQuietGroup, IsQuietUser}
 
 -- the limits are those of the rows, for each round of a tick that has begun
 abbrev pub AreHanded : ℕ → Credit → Credit → Credit → List GroupPace → List UserPace → Rates
@@ -19,7 +20,8 @@ AreHanded begun server down up groups users offered = (tick : ℕ) → tick < be
 
 -- the rows: those of the rates handed in, sorted by number
 pub record IsPaced (begun : ℕ) (is_handed : Bool) (server down up : Credit)
-    (groups : List GroupPace) (users : List UserPace) (offered : Rates) : Type 0 where
+    (groups : List GroupPace) (users : List UserPace) (quiet_groups quiet_users : List Bool)
+    (offered : Rates) : Type 0 where
   pub server_fits : IsCredit server
   pub down_fits : IsCredit down
   pub up_fits : IsCredit up
@@ -30,3 +32,5 @@ pub record IsPaced (begun : ℕ) (is_handed : Bool) (server down up : Credit)
   pub are_groups : AreTheGroups offered groups
   pub are_users : AreTheUsers offered users
   pub handed : is_handed ≡ true → AreHanded begun server down up groups users offered
+  pub groups_quiet : AllMarked (IsQuietGroup offered) quiet_groups groups
+  pub users_quiet : AllMarked (IsQuietUser offered) quiet_users users

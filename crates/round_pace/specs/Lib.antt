@@ -5,6 +5,7 @@ pub mod Credits
 pub mod PromisesOffered
 pub mod Paced
 pub mod Offered
+pub mod Quiet
 pub mod Handed
 pub mod Taken
 pub mod Spent

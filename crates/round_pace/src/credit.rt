@@ -5,6 +5,7 @@ ghost use Rattle.round_pace.specs.Credits.{IsCredit, refill_row, take_row, is_dr
 ghost use Rattle.round_pace.specs.Earned.{share, begun_in, refilled, most_kept, as_rate};
 ghost use Rattle.round_pace.specs.Changed.{changed_credit};
 ghost use Rattle.round_pace.specs.FloorsFit.{floor_in};
+ghost use Rattle.round_pace.specs.Quiet.{is_full};
 
 use line_rates::MAX_RATE;
 
@@ -58,6 +59,9 @@ pub(crate) fn refilled(credit: Credit, begun: u64, tick: u64) -> u64
 {
     let before = begun_in(begun, tick);
     let carried = if before == 0 { 0 } else { credit.left };
+    if credit.rate == 0 {
+        return carried.min(1);
+    }
     let earned = share(credit.rate, tick % TICKS + 1) - share(credit.rate, before);
     carried.saturating_add(earned).min(most_kept(credit.rate))
 }
@@ -127,4 +131,12 @@ pub(crate) fn is_dry(credit: Credit) -> bool
     ensures dry { result ≡ is_dry credit }
 {
     credit.rate != 0 && credit.left == 0
+}
+
+/// Returns whether no refill in the same second changes a credit: all that is kept is left, or there is no rate.
+pub(crate) fn is_full(credit: Credit) -> bool
+    requires credit { IsCredit credit }
+    ensures full { result ≡ is_full credit }
+{
+    credit.rate == 0 || credit.left == most_kept(credit.rate)
 }

@@ -22,6 +22,7 @@ mod due;
 mod laws;
 mod pace;
 mod paced;
+mod quiet;
 mod rows;
 
 pub use credit::{Credit, MOST_OFFERED, TICK_MICROS, TICKS};

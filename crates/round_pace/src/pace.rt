@@ -17,6 +17,7 @@ use crate::paced::{
     put_groups, put_users, refill_groups, refill_users, take_groups, take_if_down, take_if_up,
     take_users,
 };
+use crate::quiet::begin_second;
 use crate::rows::{TransferRows, group_credit, is_timed, user_credit};
 use line_rates::{GroupRate, Limits, Name, UserRate, Way};
 use std::alloc::{AllocError, Allocator, Global};
@@ -32,6 +33,9 @@ pub struct Pace<A: Allocator = Global> {
     up: Credit,
     groups: Vec<GroupPace, A>,
     users: Vec<UserPace, A>,
+    // marks of quiet rows, each at the place of its row
+    quiet_groups: Vec<bool, A>,
+    quiet_users: Vec<bool, A>,
     offered: Limits<A>,
     // the limits are those of the rows for each round of a tick that has begun
     is_handed: bool,
@@ -57,7 +61,7 @@ impl<A: Allocator> Model for Pace<A> {
     } };
 
     ghost invariant = { λ p. IsPaced p.begun p.is_handed p.server p.down p.up p.groups.items
-        p.users.items p.offered };
+        p.users.items p.quiet_groups.items p.quiet_users.items p.offered };
 }
 
 fn new_groups<A: Allocator>(alloc: A, rows: &[GroupRate]) -> Result<Vec<GroupPace, A>, AllocError>
@@ -114,7 +118,9 @@ impl<A: Allocator + Clone> Pace<A> {
         ensures rates { IfOk result (λ p. IsPacedFrom (tick_of now) limits p) }
     {
         let groups = new_groups(alloc.clone()?, limits.groups())?;
-        let users = new_users(alloc, limits.users())?;
+        let users = new_users(alloc.clone()?, limits.users())?;
+        let quiet_groups = vec![in alloc.clone()?; false; groups.len()]?;
+        let quiet_users = vec![in alloc; false; users.len()]?;
         let server = limits.rate(Name::Server);
         let down = limits.rate(Name::Direction(Way::Down));
         let up = limits.rate(Name::Direction(Way::Up));
@@ -132,6 +138,8 @@ impl<A: Allocator + Clone> Pace<A> {
             up: Credit { rate: up, left: 0 },
             groups,
             users,
+            quiet_groups,
+            quiet_users,
             offered: limits,
             is_handed: false,
         })
@@ -143,7 +151,9 @@ impl<A: Allocator + Clone> Pace<A> {
         ensures changed { IfOk result (λ p. IsChangedTo limits self.now p) }
     {
         let groups = changed_groups(alloc.clone()?, &self.groups, limits.groups())?;
-        let users = changed_users(alloc, &self.users, limits.users())?;
+        let users = changed_users(alloc.clone()?, &self.users, limits.users())?;
+        let quiet_groups = vec![in alloc.clone()?; false; groups.len()]?;
+        let quiet_users = vec![in alloc; false; users.len()]?;
         let server = changed_credit(limits.rate(Name::Server), self.server);
         let down = changed_credit(limits.rate(Name::Direction(Way::Down)), self.down);
         let up = changed_credit(limits.rate(Name::Direction(Way::Up)), self.up);
@@ -155,6 +165,8 @@ impl<A: Allocator + Clone> Pace<A> {
             up,
             groups,
             users,
+            quiet_groups,
+            quiet_users,
             offered: limits,
             is_handed: false,
         })
@@ -175,8 +187,10 @@ impl<A: Allocator> Pace<A> {
         self.server = refill_row(self.server, begun, tick);
         self.down = refill_row(self.down, begun, tick);
         self.up = refill_row(self.up, begun, tick);
-        refill_groups(&mut self.groups, begun, tick);
-        refill_users(&mut self.users, begun, tick);
+        begin_second(&mut self.quiet_groups, begun, tick);
+        begin_second(&mut self.quiet_users, begun, tick);
+        refill_groups(&mut self.groups, &self.quiet_groups, begun, tick);
+        refill_users(&mut self.users, &self.quiet_users, begun, tick);
         self.begun = tick + 1;
         self.is_handed = false;
     }
@@ -192,8 +206,14 @@ impl<A: Allocator> Pace<A> {
             credit_rate(self.down),
             credit_rate(self.up),
         );
-        put_groups(&mut self.offered, &self.groups);
-        put_users(&mut self.offered, &self.users, begun, tick);
+        put_groups(&mut self.offered, &self.groups, &mut self.quiet_groups);
+        put_users(
+            &mut self.offered,
+            &self.users,
+            &mut self.quiet_users,
+            begun,
+            tick,
+        );
         self.is_handed = begun == self.begun;
         self.moment = self.moment.saturating_add(1_000);
     }
@@ -244,8 +264,8 @@ impl<A: Allocator> Pace<A> {
     {
         let group = group_of(&self.users, user);
         self.take_line(way, octets);
-        let same_groups = take_groups(&mut self.groups, group, way, octets);
-        let same_users = take_users(&mut self.users, user, way, octets);
+        let same_groups = take_groups(&mut self.groups, &mut self.quiet_groups, group, way, octets);
+        let same_users = take_users(&mut self.users, &mut self.quiet_users, user, way, octets);
         self.is_handed = self.is_handed && same_groups && same_users;
     }
 

@@ -6,11 +6,13 @@ ghost use Rattle.line_rates.specs.Put.{FindsPlace};
 ghost use Rattle.line_rates.specs.Stated.{FitsGroup, FitsUser, IsRising};
 ghost use Rattle.round_pace.specs.Credits.{IsCredit};
 ghost use Rattle.round_pace.specs.Offered.{refill_group, refill_user, credit_rate, floor_rate, offer_group, offer_user, put_groups, put_users};
-ghost use Rattle.round_pace.specs.Paced.{group_key, pace_number, IsGroupPace, IsUserPace};
+ghost use Rattle.round_pace.specs.Paced.{group_key, pace_number, IsGroupPace, IsUserPace, AreTheGroups, AreTheUsers};
+ghost use Rattle.round_pace.specs.Quiet.{AllMarked, IsQuietGroup, IsQuietUser, KeepMarked};
 ghost use Rattle.round_pace.specs.Spent.{credit_of, session_of, is_spent, is_user_spent, is_group_spent};
 ghost use Rattle.round_pace.specs.Taken.{take_if_down, take_if_up, take_group, take_user, group_of, take_users, take_groups};
 
 use crate::credit::{Credit, as_rate, floor_in, is_dry, refill_row, take_row};
+use crate::quiet::{is_full_group, is_full_user, is_marked, set_mark};
 use line_rates::{GroupRate, Limits, MAX_RATE, UserRate, Way};
 use std::alloc::Allocator;
 
@@ -54,7 +56,7 @@ fn floor_rate(floor: u64, begun: u64, tick: u64) -> u64
     ensures floor { result ≡ floor_rate floor begun tick }
     ensures most { result ≤ MAX_RATE }
 {
-    if tick < begun {
+    if tick < begun || floor == 0 {
         return 0;
     }
     10 * floor_in(floor, begun, tick)
@@ -117,52 +119,90 @@ fn refill_user(user: UserPace, begun: u64, tick: u64) -> UserPace
     }
 }
 
-/// Refills the rows of groups as a tick begins.
-pub(crate) fn refill_groups<A: Allocator>(groups: &mut Vec<GroupPace, A>, begun: u64, tick: u64)
+/// Refills the rows of groups as a tick begins. A refill does not change those with a mark.
+pub(crate) fn refill_groups<A: Allocator>(
+    groups: &mut Vec<GroupPace, A>,
+    marks: &[bool],
+    begun: u64,
+    tick: u64,
+)
     requires paces { All IsGroupPace groups.old.items }
     requires later { begun ≤ tick }
+    requires marked { AllMarked (λ g. refill_group begun tick g ≡ g) marks.now groups.old.items }
     ensures rows { groups.new.items ≡ map (refill_group begun tick) groups.old.items }
     ensures paces { All IsGroupPace groups.new.items }
 {
     for place in 0..groups.len() {
-        groups[place] = refill_group(groups[place], begun, tick);
+        if !is_marked(marks, place) {
+            groups[place] = refill_group(groups[place], begun, tick);
+        }
     }
 }
 
-/// Refills the rows of users as a tick begins.
-pub(crate) fn refill_users<A: Allocator>(users: &mut Vec<UserPace, A>, begun: u64, tick: u64)
+/// Refills the rows of users as a tick begins. A refill does not change those with a mark.
+pub(crate) fn refill_users<A: Allocator>(
+    users: &mut Vec<UserPace, A>,
+    marks: &[bool],
+    begun: u64,
+    tick: u64,
+)
     requires paces { All IsUserPace users.old.items }
     requires later { begun ≤ tick }
+    requires marked { AllMarked (λ u. refill_user begun tick u ≡ u) marks.now users.old.items }
     ensures rows { users.new.items ≡ map (refill_user begun tick) users.old.items }
     ensures paces { All IsUserPace users.new.items }
 {
     for place in 0..users.len() {
-        users[place] = refill_user(users[place], begun, tick);
+        if !is_marked(marks, place) {
+            users[place] = refill_user(users[place], begun, tick);
+        }
     }
 }
 
-/// Writes the rows of groups into the limits: each at its own index, if these have the same rows.
-pub(crate) fn put_groups<L: Allocator>(offered: &mut Limits<L>, groups: &[GroupPace])
+/// Writes the rows of groups into the limits: each at its own index, if these have the same rows. Those with a mark are
+/// there; those that are full get one.
+pub(crate) fn put_groups<L: Allocator, A: Allocator>(
+    offered: &mut Limits<L>,
+    groups: &[GroupPace],
+    marks: &mut Vec<bool, A>,
+)
     requires paces { All IsGroupPace groups.now }
+    requires rising { IsRising group_key groups.now }
+    requires rows { AreTheGroups offered.old groups.now }
+    requires marked { AllMarked (IsQuietGroup offered.old) marks.old.items groups.now }
     ensures put { offered.new ≡ put_groups offered.old groups.now }
+    ensures marked { AllMarked (IsQuietGroup offered.new) marks.new.items groups.now }
 {
     for place in 0..groups.len() {
-        offered.put_group(offer_group(groups[place]), place);
+        if !is_marked(marks, place) {
+            let group = groups[place];
+            offered.put_group(offer_group(group), place);
+            set_mark(marks, place, is_full_group(group));
+        }
     }
 }
 
 /// Writes the rows of users into the limits, likewise.
-pub(crate) fn put_users<L: Allocator>(
+pub(crate) fn put_users<L: Allocator, A: Allocator>(
     offered: &mut Limits<L>,
     users: &[UserPace],
+    marks: &mut Vec<bool, A>,
     begun: u64,
     tick: u64,
 )
     requires paces { All IsUserPace users.now }
+    requires rising { IsRising pace_number users.now }
+    requires rows { AreTheUsers offered.old users.now }
+    requires marked { AllMarked (IsQuietUser offered.old) marks.old.items users.now }
     ensures put { offered.new ≡ put_users begun tick offered.old users.now }
+    ensures marked { AllMarked (IsQuietUser offered.new) marks.new.items users.now }
 {
     for place in 0..users.len() {
-        offered.put_user(offer_user(users[place], begun, tick), place);
+        if !is_marked(marks, place) {
+            let user = users[place];
+            offered.put_user(offer_user(user, begun, tick), place);
+            set_mark(marks, place, is_full_user(user));
+        }
     }
 }
 
@@ -249,9 +289,11 @@ pub(crate) fn group_of(users: &[UserPace], user: u32) -> Option<u32>
     }
 }
 
-/// Subtracts octets from the row of a user, if they have one. Returns true only if that changed nothing.
+/// Subtracts octets from the row of a user, if they have one, and takes its mark away. Returns true only if that changed
+/// no row.
 pub(crate) fn take_users<A: Allocator>(
     users: &mut Vec<UserPace, A>,
+    marks: &mut Vec<bool, A>,
     user: u32,
     way: Way,
     octets: u64,
@@ -261,12 +303,14 @@ pub(crate) fn take_users<A: Allocator>(
     ensures taken { users.new.items ≡ take_users way user octets users.old.items }
     ensures paces { All IsUserPace users.new.items }
     ensures same { result ≡ true → users.new.items ≡ users.old.items }
+    ensures marked { KeepMarked marks.old.items users.old.items marks.new.items users.new.items }
 {
     match find_user(users, user) {
         Some(place) => {
             let before = users[place];
             let after = take_user(before, way, octets);
             users[place] = after;
+            set_mark(marks, place, false);
             after == before
         }
         None => true,
@@ -275,6 +319,7 @@ pub(crate) fn take_users<A: Allocator>(
 
 fn take_from_group<A: Allocator>(
     groups: &mut Vec<GroupPace, A>,
+    marks: &mut Vec<bool, A>,
     group: u32,
     way: Way,
     octets: u64,
@@ -284,21 +329,25 @@ fn take_from_group<A: Allocator>(
     ensures taken { groups.new.items ≡ take_groups way (Some group) octets groups.old.items }
     ensures paces { All IsGroupPace groups.new.items }
     ensures same { result ≡ true → groups.new.items ≡ groups.old.items }
+    ensures marked { KeepMarked marks.old.items groups.old.items marks.new.items groups.new.items }
 {
     match find_group(groups, group) {
         Some(place) => {
             let before = groups[place];
             let after = take_group(before, way, octets);
             groups[place] = after;
+            set_mark(marks, place, false);
             after == before
         }
         None => true,
     }
 }
 
-/// Subtracts octets from the row of a group, if there is one. Returns true only if that changed nothing.
+/// Subtracts octets from the row of a group, if there is one, and takes its mark away. Returns true only if that changed
+/// no row.
 pub(crate) fn take_groups<A: Allocator>(
     groups: &mut Vec<GroupPace, A>,
+    marks: &mut Vec<bool, A>,
     group: Option<u32>,
     way: Way,
     octets: u64,
@@ -308,9 +357,10 @@ pub(crate) fn take_groups<A: Allocator>(
     ensures taken { groups.new.items ≡ take_groups way group octets groups.old.items }
     ensures paces { All IsGroupPace groups.new.items }
     ensures same { result ≡ true → groups.new.items ≡ groups.old.items }
+    ensures marked { KeepMarked marks.old.items groups.old.items marks.new.items groups.new.items }
 {
     match group {
-        Some(group) => take_from_group(groups, group, way, octets),
+        Some(group) => take_from_group(groups, marks, group, way, octets),
         None => true,
     }
 }

@@ -19,6 +19,8 @@ mod ports;
 #[cfg(test)]
 mod registries;
 #[cfg(test)]
+mod rooms;
+#[cfg(test)]
 mod shortages;
 #[cfg(test)]
 mod uploads;

@@ -8,7 +8,7 @@ use Rattle.data_pump.specs.declared.pumped.PumpEnd.{PumpEnd}
 use Rattle.data_pump.specs.declared.pumped.PumpEnd.TheVariants.{More}
 use Rattle.data_pump.specs.declared.pumped.Pumped.{Pumped}
 use Rattle.data_pump.specs.WireText.{sent}
-use Rattle.data_pump.specs.Downloads.{OutView, HasEnded, MovesOut, TopsUp, IsSending}
+use Rattle.data_pump.specs.Downloads.{OutView, HasEnded, IsRoomFor, MovesOut, TopsUp, IsSending}
 use Rattle.data_pump.specs.Uploads.{InView, MovesIn}
 use Rattle.transfer_worker.specs.declared.job.LaneJob.{LaneJob}
 use Rattle.transfer_worker.specs.declared.job.LaneJob.TheVariants.{Send, Take}
@@ -81,6 +81,7 @@ module _ {R K C : Type 0} where
       (out : OutView R C) : Type 0 where
     pub connection_is : out.flow.connection ≡ connection
     pub type_is : out.flow.data_type ≡ data_type
+    pub room_is : IsRoomFor (k.remaining source) data_type out.flow.room
     pub more : out.last ≡ More
     pub filled : (0 < length out.flow.waiting) ⊎ HasEnded out.flow
     pub sending : (before octets : List ℕ) → k.contents connection ≡ Some before

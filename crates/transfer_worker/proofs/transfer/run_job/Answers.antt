@@ -13,7 +13,7 @@ returns-in-Ok-clause-run g c =
     let j = c.in-Send in
     let e = c.in-Ok.ensures in
     let o = opened k g.G.Gate.may_want (Send j.user j.session j.source j.connection j.data_type) (Sending c.in-Ok.out) c.run_transfer.result _ _ refl
-    (record { connection_is = e.connection.0; type_is = e.connection.1; more = e.connection.2; filled = e.filled; sending = λ before octets f h. e.sending before octets f h }) c.run_transfer.ensures.run in
+    (record { connection_is = e.connection.0; type_is = e.connection.1; room_is = e.room; more = e.connection.2; filled = e.filled; sending = λ before octets f h. e.sending before octets f h }) c.run_transfer.ensures.run in
     (o.0, o.1 ∙ search rules, o.2, o.3)
 
 pub returns-in-Err-clause-run : goal.returns-in-Err-clause-run

@@ -45,6 +45,7 @@ returns-then-moved-count g c =
         at_end = λ e. absurd (cc e);
         fault = λ e. elim e [ inl p ↦ absurd (cc p) | inr p ↦ absurd (cc p) ];
         data_type = c.consume.ensures.data_type;
+        room = c.consume.ensures.room;
       });
     }
 
@@ -96,5 +97,6 @@ returns g c =
         at_end = λ e. (c.refill.ensures.ended e).1;
         fault = c.refill.ensures.fault;
         data_type = c.refill.ensures.data_type ∙ c.consume.ensures.data_type;
+        room = c.refill.ensures.room ∙ c.consume.ensures.room;
       });
     }

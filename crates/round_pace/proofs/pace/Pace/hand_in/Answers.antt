@@ -1,11 +1,15 @@
-use Rattle.std.proofs.Common.{◌≡◌, ◌∙◌, ℕ, ◌<◌, true, ap, arith, subst}
+use Rattle.std.proofs.Common.{◌≡◌, ◌∙◌, ℕ, ◌<◌, true, ap, arith, refl, subst, sym}
 use Rattle.std.specs.Prelude.{nat_eq}
 use Rattle.std.proofs.lemmas.Bool.{eqb-true}
+use Rattle.line_rates.specs.Rates.{Rates}
 use Rattle.round_pace.specs.Offered.{left_rates}
 use Rattle.round_pace.specs.Paced.{Paced}
+use Rattle.round_pace.proofs.GroupsIn.{other_rates as other_than_groups}
 use Rattle.round_pace.proofs.HandedIn.{hands_rows_in}
 use Rattle.round_pace.proofs.Handing.{handed_begun}
 use Rattle.round_pace.proofs.Keeping.{offered_all, groups_offered, users_offered}
+use Rattle.round_pace.proofs.Placed.{groups_quiet_with, users_quiet_with, users_with}
+use Rattle.round_pace.proofs.UsersIn.{other_rates as other_than_users}
 use Rattle.round_pace.proofs.pace.Pace.hand_in.Goals as goal
 
 pub invariant_of-self : goal.invariant_of-self
@@ -37,6 +41,9 @@ invariant_of-self g c =
       are_groups = groups_offered c.args.begun c.args.tick p c.put_users.new.offered rates;
       are_users = users_offered c.args.begun c.args.tick p c.put_users.new.offered rates;
       handed = λ q. handed_begun p.begun c.args.tick p.server p.down p.up p.groups p.users c.put_users.new.offered later (subst (λ (b : ℕ). c.put_users.new.offered ≡ left_rates b c.args.tick p) (here q) rates);
+      groups_quiet = groups_quiet_with c.put_groups.new.offered c.put_users.new.offered c.put_groups.new.marks.items c.deref.result.now c.self.inside.groups.items
+          (ap (λ (r : Rates). r.groups) c.put_users.ensures.put ∙ (other_than_users c.args.begun c.args.tick c.put_groups.new.offered c.deref-2.result.now).3) (sym c.deref.ensures.value) c.put_groups.ensures.marked;
+      users_quiet = users_quiet_with c.put_users.new.offered c.put_users.new.offered c.put_users.new.marks.items c.deref-2.result.now c.self.inside.users.items refl (sym c.deref-2.ensures.value) c.put_users.ensures.marked;
     }
 
 pub returns-clause-handed : goal.returns-clause-handed
@@ -55,3 +62,15 @@ returns-clause-handed g c =
     let put = offered_all c.args.begun c.args.tick p c.credit_rate.result c.credit_rate-2.result c.credit_rate-3.result c.put_line.new.self c.put_groups.new.offered c.put_users.new.offered c.deref.result.now c.deref-2.result.now
     c.credit_rate.ensures.rate c.credit_rate-2.ensures.rate c.credit_rate-3.ensures.rate c.put_line.ensures.put c.deref.ensures.value c.put_groups.ensures.put c.deref-2.ensures.value c.put_users.ensures.put in
     put ∙ hands_rows_in c.args.begun c.args.tick p kept.groups_rise kept.users_rise kept.are_groups kept.are_users
+
+pub put_users-requires-clause-rows : goal.put_users-requires-clause-rows
+put_users-requires-clause-rows g c =
+    let same : c.put_groups.new.offered.users ≡ c.self.inside.offered.users =
+    ap (λ (r : Rates). r.users) c.put_groups.ensures.put ∙ ((other_than_groups c.put_line.new.self c.deref.result.now).3 ∙ ap (λ (r : Rates). r.users) c.put_line.ensures.put) in
+    users_with c.self.inside.offered c.put_groups.new.offered c.self.inside.users.items c.deref-2.result.now same c.deref-2.ensures.value c.self.invariant.are_users
+
+pub put_users-requires-clause-marked : goal.put_users-requires-clause-marked
+put_users-requires-clause-marked g c =
+    let same : c.put_groups.new.offered.users ≡ c.self.inside.offered.users =
+    ap (λ (r : Rates). r.users) c.put_groups.ensures.put ∙ ((other_than_groups c.put_line.new.self c.deref.result.now).3 ∙ ap (λ (r : Rates). r.users) c.put_line.ensures.put) in
+    users_quiet_with c.self.inside.offered c.put_groups.new.offered c.self.inside.quiet_users.items c.self.inside.users.items c.deref-2.result.now same c.deref-2.ensures.value c.self.invariant.users_quiet

@@ -4,6 +4,8 @@ use Rattle.line_rates.specs.Stated.{FitsGroup, FitsUser}
 use Rattle.round_pace.specs.Paced.{IsGroupPace, IsUserPace, new_group, new_user}
 use Rattle.round_pace.proofs.Keeping.{groups_new, users_new}
 use Rattle.round_pace.proofs.NewPaces.{credit_new, group_new, user_new, same_paced}
+use Rattle.round_pace.specs.Quiet.{IsQuietGroup, IsQuietUser}
+use Rattle.round_pace.proofs.Marks.{none_marked}
 use Rattle.round_pace.proofs.pace.Pace.of.Goals as goal
 use Rattle.rate_floors.proofs.PlaceLemmas.{all_mapped}
 
@@ -22,6 +24,8 @@ invariant_of-result g c =
       are_groups = groups.1;
       are_users = users.1;
       handed = λ q. absurd (cc);
+      groups_quiet = none_marked (IsQuietGroup c.args.limits) _ c.in_ok-quiet_groups.quiet_groups.items c.in_ok-groups.groups.items (c.in_ok-quiet_groups.ensures.items_if_clones_equal (λ y h. h));
+      users_quiet = none_marked (IsQuietUser c.args.limits) _ c.in_ok-quiet_users.quiet_users.items c.in_ok-users.users.items (c.in_ok-quiet_users.ensures.items_if_clones_equal (λ y h. h));
     }
 
 pub returns : goal.returns

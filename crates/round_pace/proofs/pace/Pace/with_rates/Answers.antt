@@ -6,6 +6,8 @@ use Rattle.round_pace.specs.declared.paced.UserPace.{UserPace}
 use Rattle.round_pace.specs.Changed.{changed_group, changed_user, IsChangedTo}
 use Rattle.round_pace.specs.Paced.{Paced, IsGroupPace, IsUserPace}
 use Rattle.round_pace.proofs.Changing.{groups_made, users_made, group_changed, user_changed, same_changed}
+use Rattle.round_pace.specs.Quiet.{IsQuietGroup, IsQuietUser}
+use Rattle.round_pace.proofs.Marks.{none_marked}
 use Rattle.round_pace.proofs.pace.Pace.with_rates.Goals as goal
 use Rattle.rate_floors.proofs.PlaceLemmas.{all_mapped}
 
@@ -24,6 +26,8 @@ invariant_of-result g c =
       are_groups = groups.1;
       are_users = users.1;
       handed = λ q. absurd (cc);
+      groups_quiet = none_marked (IsQuietGroup c.args.limits) _ c.in_ok-quiet_groups.quiet_groups.items c.in_ok-groups.groups.items (c.in_ok-quiet_groups.ensures.items_if_clones_equal (λ y h. h));
+      users_quiet = none_marked (IsQuietUser c.args.limits) _ c.in_ok-quiet_users.quiet_users.items c.in_ok-users.users.items (c.in_ok-quiet_users.ensures.items_if_clones_equal (λ y h. h));
     }
 
 pub returns : goal.returns

@@ -4,14 +4,13 @@ ghost use Rattle.std.specs.Prelude.{◌≡◌, ◌≢◌, ◌≤◌, ◌↔◌, 
 ghost use Rattle.std.specs.Thread.{IsSend, IsSync};
 ghost use Rattle.ftp_daemon.specs.Accepting.{is_reported, refusal};
 
-use data_sockets::address_octets;
 use event_word::{has_passed, micros};
 use lent_parts::PartsName;
 use passive_ports::AdmitFault;
 use recorded_store::Recorder;
 use server_house::{
     ClientSession, House, NotServed, OwnRuns, ServerEvent, ServerHooks, ServerRuntime,
-    ShutdownStage,
+    ShutdownStage, address_octets,
 };
 use socket_host::serve_session;
 use std::alloc::Global;

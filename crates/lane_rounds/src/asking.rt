@@ -9,7 +9,7 @@ ghost use Rattle.lane_rounds.specs.Gates.{is_to_look, left_after, want_of};
 ghost use Rattle.transfer_worker.specs.Transfers.{IsUploadWant};
 
 use data_pump::MAX_READ;
-use data_sockets::DataConnection;
+use server_house::DataConnection;
 use std::alloc::Global;
 
 /// An upload looks before an ask if fewer octets than this are known to be there: half of a read.

@@ -5,7 +5,7 @@ ghost use Rattle.lane_rounds.specs.Ends.{bound_end, bound_sink, lacks_sink, rece
 ghost use Rattle.server_house.specs.Tickets.{HasSinkOf};
 ghost use Rattle.session_table.specs.declared.inputs.End.TheVariants.{Aborted};
 
-use data_sockets::TransferEnd;
+use server_house::TransferEnd;
 use session_table::End;
 use std::alloc::Allocator;
 use std::io::{Read, Write};

@@ -1,3 +1,7 @@
+pub mod Names
+pub mod Peers
 pub mod Settings
+pub mod Sockets
+pub mod Sources
 pub mod Stages
 pub mod Tickets

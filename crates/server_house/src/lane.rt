@@ -2,7 +2,7 @@
 
 ghost use Rattle.std.specs.Prelude.{◌≡◌, ◌+◌, ◌-◌, ◌^◌, None, IfSome, false, min, true};
 
-use data_sockets::TransferName;
+use crate::transfer_name::TransferName;
 use event_word::EventCount;
 use std::sync::atomic::{AtomicU64, Ordering};
 

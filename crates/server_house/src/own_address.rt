@@ -1,9 +1,9 @@
 //! The addresses that a server listens on.
 
 ghost use Rattle.std.specs.Prelude.{◌≡◌};
-ghost use Rattle.data_sockets.specs.Peers.{IsAddress};
+ghost use Rattle.server_house.specs.Peers.{IsAddress};
 
-use data_sockets::socket_address;
+use crate::passive::socket_address;
 use server_config::ServerNumbers;
 use std::net::SocketAddr;
 

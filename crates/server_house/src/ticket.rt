@@ -1,6 +1,8 @@
 //! The ticket of a session, by which it hands its transfers to the lanes.
 
-use data_sockets::{DataConnection, Served, TransferEnd};
+use crate::connection::DataConnection;
+use crate::served::Served;
+use crate::transfer_end::TransferEnd;
 use std::alloc::Global;
 use std::io::{Read, Write};
 use transfer_ticket::{EndRule, Ticket};

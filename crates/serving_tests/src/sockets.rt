@@ -2,11 +2,11 @@
 
 use crate::expect::holds;
 use counted_file::CountedFile;
-use data_sockets::{
+use line_rates::Way;
+use server_house::{
     DataConnection, Listing, Outgoing, Progress, Served, TransferName, accept_from, address_octets,
     listen, socket_address,
 };
-use line_rates::Way;
 use session_table::{End, Octets};
 use std::alloc::Global;
 use std::io::{Read, Write};
@@ -18,7 +18,7 @@ use virtual_tree::Source;
 const LOOPBACK: [u8; 4] = [127, 0, 0, 1];
 
 #[test]
-fn data_sockets(rt: HostRuntime) {
+fn transfer_names(rt: HostRuntime) {
     let name = TransferName::new();
     holds(&rt, name.get() == (Way::Down, 0));
     name.set(Way::Up, 7);

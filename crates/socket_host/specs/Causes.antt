@@ -1,7 +1,7 @@
 -- Reasons for the ends of transfers.
 use Rattle.std.specs.Prelude.{◌≡◌, ⊤, Bool, true, false, IsTrue, Option, Some, None}
 use Rattle.std.specs.declared.io.Error.{Error}
-use Rattle.data_sockets.specs.declared.end.TransferEnd.{TransferEnd}
+use Rattle.server_house.specs.declared.transfer_end.TransferEnd.{TransferEnd}
 use Rattle.server_house.specs.declared.cause.EndCause.{EndCause}
 use Rattle.server_house.specs.declared.cause.EndCause.TheVariants as cause
 use Rattle.session_core.specs.declared.events.DataEvent.{DataEvent}

@@ -1,10 +1,10 @@
 -- The job of a transfer, as its lane has it.
 use Rattle.std.specs.Prelude.{◌≡◌, ℕ, ◌/◌, Bool, true, false, nat_le, List, length, Option, Some, None}
 use Rattle.std.specs.declared.alloc.Global.{Global}
-use Rattle.data_sockets.specs.declared.connection.DataConnection.{DataConnection}
-use Rattle.data_sockets.specs.declared.connection.TheConstants.{FIRST_WRITE}
-use Rattle.data_sockets.specs.declared.served.Served.{Served}
-use Rattle.data_sockets.specs.declared.served.Served.TheVariants.{Listing, File}
+use Rattle.server_house.specs.declared.connection.DataConnection.{DataConnection}
+use Rattle.server_house.specs.declared.connection.TheConstants.{FIRST_WRITE}
+use Rattle.server_house.specs.declared.served.Served.{Served}
+use Rattle.server_house.specs.declared.served.Served.TheVariants.{Listing, File}
 use Rattle.ftp_terms.specs.declared.data_type.DataType.{DataType}
 use Rattle.ftp_terms.specs.declared.data_type.DataType.TheVariants.{Ascii, Image}
 use Rattle.session_table.specs.declared.actions.Job.{Job}

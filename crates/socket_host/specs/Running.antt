@@ -2,9 +2,9 @@
 use Rattle.std.specs.Prelude.{◌≡◌, ◌⊎◌, ⊤, ℕ, ◌+◌, ◌/◌, ◌<◌, max, min, Bool, true, false, not, ◌||◌, IsTrue, Option, Some, None}
 use Rattle.std.specs.declared.alloc.Global.{Global}
 use Rattle.std.specs.declared.net.tcp.TcpListener.{TcpListener}
-use Rattle.data_sockets.specs.declared.connection.DataConnection.{DataConnection}
-use Rattle.data_sockets.specs.declared.end.TransferEnd.{TransferEnd}
-use Rattle.data_sockets.specs.declared.served.Served.{Served}
+use Rattle.server_house.specs.declared.connection.DataConnection.{DataConnection}
+use Rattle.server_house.specs.declared.transfer_end.TransferEnd.{TransferEnd}
+use Rattle.server_house.specs.declared.served.Served.{Served}
 use Rattle.server_house.specs.Tickets.{HasSinkOf}
 use Rattle.server_house.specs.Tickets as house
 use Rattle.session_core.specs.declared.events.DataEvent.{DataEvent}

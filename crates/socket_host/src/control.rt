@@ -7,9 +7,8 @@ ghost use Rattle.socket_host.specs.Texts.{is_pause, octets_in, time_out_of};
 
 use crate::replying::write_reply;
 use control_session::Piece;
-use data_sockets::address_octets;
 use line_mender::Mender;
-use server_house::ServerShutdown;
+use server_house::{ServerShutdown, address_octets};
 use std::io;
 use std::io::{ErrorKind, Read};
 use std::net::{Shutdown, TcpStream};

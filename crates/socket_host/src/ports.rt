@@ -1,9 +1,8 @@
 //! The passive ports of a server, for one of its sessions.
 
-use data_sockets::listen;
 use passive_ports::{PortHost, RestingPorts};
 use server_config::ServerNumbers;
-use server_house::OwnAddress;
+use server_house::{OwnAddress, listen};
 use std::io;
 use std::net::{Net, TcpListener, TcpStream};
 use std::sync::{Mutex, Wait};

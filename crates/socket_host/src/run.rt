@@ -7,8 +7,7 @@ ghost use Rattle.transfer_ticket.specs.Views.{owner_view};
 ghost use Rattle.transfer_ticket.specs.declared.view.TicketView.TheVariants.{Idle};
 
 use crate::running::{Running, over, taken_back};
-use data_sockets::{DataConnection, TransferEnd};
-use server_house::{LaneEnds, SessionEnd, SessionJob};
+use server_house::{DataConnection, LaneEnds, SessionEnd, SessionJob, TransferEnd};
 use session_table::End;
 use std::alloc::Global;
 use std::net::TcpListener;

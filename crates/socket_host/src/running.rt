@@ -4,9 +4,9 @@ ghost use Rattle.std.specs.Prelude.{◌≡◌};
 ghost use Rattle.socket_host.specs.Jobs.{IsBrief, fits_first_write, is_upload, lane_job, sink_of};
 ghost use Rattle.socket_host.specs.Running.{over, taken_back};
 
-use data_sockets::{DataConnection, FIRST_WRITE, Listing, Outgoing, Served, TransferEnd};
 use ftp_terms::DataType;
 use ftp_wire::HostPort;
+use server_house::{DataConnection, FIRST_WRITE, Listing, Outgoing, Served, TransferEnd};
 use session_table::{End, Job};
 use std::alloc::Global;
 use std::net::TcpListener;

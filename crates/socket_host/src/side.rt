@@ -13,12 +13,14 @@ ghost use Rattle.transfer_ticket.specs.declared.view.TicketView.TheVariants.{Idl
 use crate::ports::SharedPorts;
 use crate::run::{SessionRun, Taken};
 use crate::running::{Prepared, Running, is_brief, is_upload, lane_job, over};
-use data_sockets::{DataConnection, Outgoing, Progress, TransferEnd, accept_from, socket_address};
 use event_word::{has_passed, micros};
 use ftp_wire::HostPort;
 use lent_parts::PartsName;
 use passive_ports::{MOST_TRIES, open_passive};
-use server_house::{EndCause, House, LaneEnds, OwnRuns, ServerRuntime, SessionEnd, SessionJob};
+use server_house::{
+    DataConnection, EndCause, House, LaneEnds, Outgoing, OwnRuns, Progress, ServerRuntime,
+    SessionEnd, SessionJob, TransferEnd, accept_from, socket_address,
+};
 use session_core::DataEvent;
 use session_table::{End, Job};
 use std::alloc::Global;

@@ -67,7 +67,7 @@ pub enum Served<A: Allocator, R: Source> {
 }
 
 impl<A: Allocator, R: Source> Source for Served<A, R> {
-    ghost use Rattle.data_sockets.specs.Sources.{left_of};
+    ghost use Rattle.server_house.specs.Sources.{left_of};
 
     ghost remaining = { left_of R.remaining };
 

@@ -1,7 +1,7 @@
 //! Connections to a client's port, which nobody waits for.
 
 ghost use Rattle.std.specs.Prelude.{◌≡◌};
-ghost use Rattle.data_sockets.specs.Sockets.{fault_in};
+ghost use Rattle.server_house.specs.Sockets.{fault_in};
 
 use mio::net::TcpStream as PendingStream;
 use std::io;

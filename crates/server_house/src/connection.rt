@@ -1,8 +1,8 @@
 //! A data connection that a lane moves octets on, and that its session may shut down.
 
 ghost use Rattle.std.specs.Prelude.{◌≡◌, ◌<◌, ◌≤◌, ◌↔◌, IfOk, IsTrue, OnErr, false, length};
-ghost use Rattle.data_sockets.specs.Sockets.{socket_of};
-ghost use Rattle.data_sockets.specs.declared.connection.Writes.TheVariants.{Nothing, One, Prepared};
+ghost use Rattle.server_house.specs.Sockets.{socket_of};
+ghost use Rattle.server_house.specs.declared.connection.Writes.TheVariants.{Nothing, One, Prepared};
 
 use counted_file::CountedFile;
 use last_fault::{fault_of, fault_word};

@@ -1,7 +1,7 @@
 //! Passive ports: listening, and accepting the peer.
 
 ghost use Rattle.std.specs.Prelude.{◌↔◌, IsTrue};
-ghost use Rattle.data_sockets.specs.Peers.{IsAddress, IsFrom, IsOctetsOf, IsWanted};
+ghost use Rattle.server_house.specs.Peers.{IsAddress, IsFrom, IsOctetsOf, IsWanted};
 
 use std::io;
 use std::net::{Ipv4Addr, Net, SocketAddr, SocketAddrV4, TcpListener, TcpStream};

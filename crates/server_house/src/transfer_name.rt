@@ -2,7 +2,7 @@
 
 ghost use Rattle.std.specs.Prelude.{◌≡◌, ◌≤◌, ◌<◌, ◌^◌, ℕ};
 ghost use Rattle.line_rates.specs.declared.ask.Way.{Way};
-ghost use Rattle.data_sockets.specs.Names.{name_word};
+ghost use Rattle.server_house.specs.Names.{name_word};
 
 use line_rates::Way;
 use std::sync::atomic::{AtomicU64, Ordering};

@@ -3,7 +3,7 @@ use Rattle.std.specs.Prelude.{Option, Some, Result, Ok, Err}
 use Rattle.std.specs.Arc.{arc_value}
 use Rattle.std.specs.declared.io.Error.{Error}
 use Rattle.std.specs.declared.net.tcp.TcpStream.{TcpStream}
-use Rattle.data_sockets.specs.declared.connection.DataConnection.{DataConnection}
+use Rattle.server_house.specs.declared.connection.DataConnection.{DataConnection}
 
 -- the socket, which all handles of a connection have
 abbrev pub socket_of : DataConnection → TcpStream

@@ -1,4 +1,0 @@
-pub mod Names
-pub mod Peers
-pub mod Sockets
-pub mod Sources

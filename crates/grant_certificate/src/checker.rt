@@ -156,7 +156,9 @@ fn flaw_of_few<A: Allocator>(
     flaw_by(tree, grants, entries, &mut wants, &mut floors)
 }
 
-/// `flaw_by` with tables for the most leaves that a tree may have.
+/// `flaw_by` with tables for the most leaves that a tree may have. They are 64 KB on the stack: part of a frame of its own,
+/// and of no caller's, each thread that checks few leaves does without them.
+#[inline(never)]
 fn flaw_of_many<A: Allocator>(
     tree: &Tree<A>,
     grants: &[u64],

@@ -1,9 +1,7 @@
 -- A lane's gate: its answers, and the knowledge of the lane that runs a transfer.
-use Rattle.std.specs.Prelude.{ℕ, ◌+◌, ◌-◌, ◌*◌, ◌^◌, max, min, nat_le, nat_lt, Bool, true, false, ◌&&◌, ◌||◌, not, if◌then◌else◌, Option, None, Some}
+use Rattle.std.specs.Prelude.{ℕ, ◌+◌, ◌-◌, max, min, nat_le, nat_lt, Bool, true, false, ◌&&◌, ◌||◌, not, if◌then◌else◌, Option, None, Some}
 use Rattle.data_pump.specs.declared.inflow.TheConstants.{MAX_READ}
 use Rattle.lane_rounds.specs.declared.asking.TheConstants.{FEW}
-use Rattle.grant_ledger.specs.declared.ledger.TheConstants.{MAX_LANES}
-use Rattle.lane_rounds.specs.declared.gate.TheConstants.{APART}
 use Rattle.line_rates.specs.declared.ask.Way.{Way}
 use Rattle.line_rates.specs.declared.ask.Way.TheVariants.{Down, Up}
 use Rattle.round_cadence.specs.declared.intervals.TheConstants.{WORTH, WORTH_UP}
@@ -20,10 +18,6 @@ use Rattle.transfer_worker.specs.declared.job.LaneJob.TheVariants.{Send, Take}
 abbrev pub answer : Bool → Bool → Bool → Go
 answer is_before_ask is_to_stop is_starved =
     if is_before_ask && (is_to_stop || is_starved) then Stop else On
-
--- how long a lane waits before it looks again at a moment, by its number
-abbrev pub wait_until : ℕ → ℕ → ℕ → ℕ
-wait_until moment now lane = min (moment - now + APART * min lane MAX_LANES) (2 ^ 64 - 1)
 
 -- The number of small reads of an upload, after a read of these octets: they are counted while no
 -- rate holds it back, from the last large read on.

@@ -2,7 +2,7 @@
 
 ghost use Rattle.std.specs.Prelude.{◌≡◌, ◌||◌, not, true};
 ghost use Rattle.lane_rounds.specs.Clocks.{IsTestOf};
-ghost use Rattle.lane_rounds.specs.Gates.{answer, dribbles_after, has_seen, runs_upload, wait_until};
+ghost use Rattle.lane_rounds.specs.Gates.{answer, dribbles_after, has_seen, runs_upload};
 ghost use Rattle.transfer_ticket.specs.Tickets.{is_runner};
 ghost use Rattle.transfer_ticket.specs.Views.{run_view};
 ghost use Rattle.transfer_worker.specs.Transfers.{IsUploadWant};
@@ -12,7 +12,6 @@ use crate::clock::RoundClock;
 use crate::ends::{report_of, reported_of};
 use crate::engine::Engine;
 use crate::rounds::help;
-use grant_ledger::MAX_LANES;
 use lent_parts::PartsName;
 use round_cadence::{WORTH, WORTH_UP};
 use server_house::{DataConnection, House, LaneEnds, LaneSign, Served, SessionEnd, SessionJob};
@@ -34,9 +33,6 @@ const PATIENCE: u64 = 20;
 
 /// The wait after a grant of 0 octets, in microseconds: half a tick of the pace.
 const PAUSE: u64 = 1_000;
-
-/// The time between the looks of two neighbouring lanes, in microseconds, if both wait for the same moment.
-const APART: u64 = 15;
 
 /// The number of small reads after which an upload dribbles: of fewer octets than it is to have in a round.
 const DRIBBLES: u8 = 8;
@@ -213,7 +209,7 @@ where
         let now = self.rt.moment();
         let due = help(self.rt.alloc(), self.house, self.engine, sign, now);
         let limit = match due {
-            Some(moment) => Duration::from_micros(wait_until(moment, now, self.lane)),
+            Some(moment) => Duration::from_micros(moment.saturating_sub(now)),
             None => Duration::from_millis(BACKSTOP),
         };
         sign.answered.wait(self.rt, seen, PATIENCE, limit);
@@ -232,16 +228,6 @@ where
             None => {}
         }
     }
-}
-
-// The time for which a lane waits for an answer before it looks again at a moment, in microseconds. A higher lane looks a
-// little later than a lower one: this one holds the round of all whose rows open at that moment, and answers the others
-// before they wake.
-fn wait_until(moment: u64, now: u64, lane: usize) -> u64
-    ensures wait { result ≡ wait_until moment now lane }
-{
-    let later = APART * lane.min(MAX_LANES) as u64;
-    moment.saturating_sub(now).saturating_add(later)
 }
 
 // The number of small reads after a read, of a transfer that is an upload which no rate held back, or another.

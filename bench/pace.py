@@ -164,6 +164,7 @@ CASES = {
     "a session's rate of 2 MB alone": session(2_000_000),
     "a session's rate of 15 MB alone": session(15_000_000),
     "a session's rate of 30 MB alone": session(30_000_000),
+    "64 sessions' rates of 31,250": ("", (("ann", "session_down_rate = 31250"),), [("ann", DOWN)] * 64, [31_250] * 64),
     "four sessions' rates of 2 MB": ("", (("ann", "session_down_rate = 2000000"),), [("ann", DOWN)] * 4, [2_000_000] * 4),
     "a guarantee of 1 MiB in 4 MiB, under 12 others": (f"rate = {LINE}", (("ann", f"session_down_floor = {MEGABYTE}"), ("bob", "")), [("ann", DOWN)] + [("bob", DOWN)] * 12, [MEGABYTE] + [MEGABYTE / 4] * 12),
     "1 MB: a download beside five uploads that dribble": ("rate = 1000000", (("ann", ""), ("bob", "")), [("bob", DOWN), *DRIBBLES], [500_000] + [100_000] * 5),

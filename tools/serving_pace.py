@@ -62,17 +62,18 @@ def three_transfers_under_a_hundred():
 
 
 def segments_are_whole():
-    """Sixteen downloads under 200,000 octets a second send hundreds of octets in a segment, and not some dozens."""
-    with Server(sessions=16, root="folder", files={"big": MUCH}, server="rate = 200000\nlanes = 16", passive=32) as server:
-        clients, datas = started(server, 16)
-        had = read_until(datas, 600_000)
-        count = 0
-        for it in datas:
-            told = it.socket.getsockopt(socket.IPPROTO_TCP, socket.TCP_INFO, 256)
-            count += int.from_bytes(told[SEGMENTS_IN : SEGMENTS_IN + 4], "little")
-        want(0 < count < sum(had) / 150, f"segments: {count} for {sum(had)} octets")
-        for it in [*datas, *clients]:
-            it.close()
+    """Sixteen downloads under 200,000 octets a second, or under 12,500 of each session, send hundreds of octets in a segment, and not some dozens."""
+    for server_rate, user_rate in (("rate = 200000\n", ""), ("", "session_down_rate = 12500")):
+        with Server(sessions=16, root="folder", files={"big": MUCH}, server=f"{server_rate}lanes = 16", rates=user_rate, passive=32) as server:
+            clients, datas = started(server, 16)
+            had = read_until(datas, 600_000)
+            count = 0
+            for it in datas:
+                told = it.socket.getsockopt(socket.IPPROTO_TCP, socket.TCP_INFO, 256)
+                count += int.from_bytes(told[SEGMENTS_IN : SEGMENTS_IN + 4], "little")
+            want(0 < count < sum(had) / 150, f"segments: {count} for {sum(had)} octets")
+            for it in [*datas, *clients]:
+                it.close()
 
 
 def stored(server):

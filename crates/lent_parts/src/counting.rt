@@ -1,11 +1,35 @@
 //! Counting the grants of a round.
 
-ghost use Rattle.std.specs.Prelude.{◌≡◌, ◌+◌, ◌<◌, ◌^◌, sum};
+ghost use Rattle.std.specs.Prelude.{◌≡◌, ◌+◌, ◌<◌, ◌^◌, None, slice_get, slice_index_or, sum};
+ghost use Rattle.lent_parts.specs.Counting.{held_of};
 ghost use Rattle.round_tally.specs.Counts.{tallied};
 
 use grant_ledger::MAX_LANES;
-use paced_rounds::HeldNames;
-use round_tally::{RoundGrant, Tallies};
+use line_rates::{Ask, Name};
+use paced_rounds::{HeldNames, PacedRounds};
+use round_tally::{RoundGrant, Tallies, held_back};
+
+/// The limits of a round that was held at a moment, and what it left of their rows.
+pub(crate) struct RoundLimits<'a> {
+    pub names: &'a HeldNames,
+    pub rounds: &'a PacedRounds<()>,
+    pub asks: &'a [Ask],
+    pub now: u64,
+}
+
+impl<'a> RoundLimits<'a> {
+    // What held back a leaf: the limit that was used up, or an inner one whose row the round left closed.
+    fn held(&self, leaf: usize) -> Option<Name>
+        ensures held { result ≡ held_of (slice_index_or self.now.names.now.names leaf None)
+            (slice_get self.now.asks.now leaf) self.now.rounds.now.pace
+            self.now.rounds.now.cadence self.now.now }
+    {
+        match self.asks.get(leaf) {
+            Some(ask) => held_back(self.names.of(leaf), self.rounds.closed_by(*ask, self.now)),
+            None => None,
+        }
+    }
+}
 
 // The lane of a leaf. There are at most MAX_LANES lanes.
 fn lane_of(lanes: &[u8], leaf: usize) -> usize
@@ -23,7 +47,7 @@ pub(crate) fn count_all(
     tallies: &mut Tallies,
     lanes: &[u8],
     grants: &[u64],
-    names: &HeldNames,
+    limits: &RoundLimits,
     transfers: &[u64; MAX_LANES],
     window: u64,
 )
@@ -34,7 +58,7 @@ pub(crate) fn count_all(
         let octets = grants[leaf];
         if octets > 0 {
             let lane = lane_of(lanes, leaf);
-            let held = names.of(leaf);
+            let held = limits.held(leaf);
             let grant = RoundGrant {
                 octets,
                 held,

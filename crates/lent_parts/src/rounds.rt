@@ -17,7 +17,7 @@ ghost use Rattle.paced_rounds.specs.HeldLeaves.{AreHeld};
 ghost use Rattle.paced_rounds.specs.Beating.{has_plenty, is_open, due_open};
 ghost use Rattle.paced_rounds.specs.Seconds.{AreAt, AreAllowed, HasKept};
 
-use crate::counting::count_all;
+use crate::counting::{RoundLimits, count_all};
 use crate::desk::LentDesk;
 use crate::look::RoundLook;
 use crate::name::PartsName;
@@ -149,11 +149,17 @@ impl<B: PartsName> LentRounds<B> {
             .hold(alloc, desk.desk(), now, given, &mut self.names);
         let _ = self.rounds.issued();
         if let Ok(made) = &result {
+            let limits = RoundLimits {
+                names: &self.names,
+                rounds: &self.rounds,
+                asks: &made.asks,
+                now,
+            };
             count_all(
                 &mut self.tallies,
                 &made.lanes,
                 made.sealed.grants(),
-                &self.names,
+                &limits,
                 transfers,
                 now / WINDOW,
             );

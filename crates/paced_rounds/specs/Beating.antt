@@ -1,6 +1,7 @@
 -- The beats of rows after rounds, and the moments of rounds by them.
-use Rattle.std.specs.Prelude.{ℕ, ◌*◌, ◌-◌, ◌^◌, min, Bool, ◌&&◌, nat_lt, nat_le, if◌then◌else◌, List, [], ◌∷◌, Result, Ok, Err}
+use Rattle.std.specs.Prelude.{ℕ, ◌*◌, ◌-◌, ◌^◌, min, Bool, ◌&&◌, nat_lt, nat_le, if◌then◌else◌, List, [], ◌∷◌, Option, Result, Ok, Err}
 use Rattle.line_rates.specs.declared.ask.Ask.{Ask}
+use Rattle.line_rates.specs.declared.ask.Name.{Name}
 use Rattle.line_rates.specs.declared.ask.Way.{Way}
 use Rattle.line_rates.specs.Granted.{Granted}
 use Rattle.lane_desk.specs.declared.record.RoundRecord.{RoundRecord}
@@ -12,6 +13,7 @@ use Rattle.round_pace.specs.Paced.{Paced}
 use Rattle.round_pace.specs.Rows.{have_left, rows_of}
 use Rattle.round_pace.specs.Spent.{due_for_in}
 use Rattle.round_cadence.specs.Cadences.{Beats, opens_of, add_to, settle_of}
+use Rattle.round_cadence.specs.Closed.{closed_by}
 use Rattle.paced_rounds.specs.History.{leaves}
 use Rattle.round_pace.specs.declared.credit.TheConstants.{TICK_MICROS}
 use Rattle.paced_rounds.specs.declared.rounds.TheConstants.{MOST_ASKED}
@@ -55,3 +57,7 @@ due_open way user p c now =
     if nat_lt (tick_of now) (opens_in way user p c)
     then At (min (opens_in way user p c * TICK_MICROS) (2 ^ 64 - 1))
     else due_for_in way user p now
+
+-- the innermost row that an ask's transfer is within and that is closed at a moment
+abbrev pub closed_in : Ask → Paced → Beats → ℕ → Option Name
+closed_in a p c now = closed_by a (rows_of a.way a.user p) (tick_of now) c

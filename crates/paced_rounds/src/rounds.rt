@@ -15,14 +15,14 @@ ghost use Rattle.round_pace.specs.Histories.{rates_of, after};
 ghost use Rattle.round_pace.specs.Stretches.{StretchesKeep};
 ghost use Rattle.paced_rounds.specs.History.{round_at, history, ended_in, stretch_under, stretches, octets_in, IsRun};
 ghost use Rattle.paced_rounds.specs.HeldLeaves.{AreHeld};
-ghost use Rattle.paced_rounds.specs.Beating.{beats_after, has_plenty, is_open, due_open};
+ghost use Rattle.paced_rounds.specs.Beating.{beats_after, closed_in, has_plenty, is_open, due_open};
 
 use crate::beats::beat;
 use crate::charge::charge;
 use crate::held::{HeldNames, see};
 use grant_ledger::{MAX_LANES, Tally};
 use lane_desk::{Desk, RoundFault, RoundRecord, Rounds};
-use line_rates::{Ask, Limits, Way, grants_keep_names};
+use line_rates::{Ask, Limits, Name, Way, grants_keep_names};
 use proof_log::ProofLog;
 use round_cadence::Cadence;
 use round_pace::{Due, Pace, TICK_MICROS, histories_keep_rates, stretches_keep_rates};
@@ -112,6 +112,15 @@ impl<N, A: Allocator> PacedRounds<N, A> {
             return Due::At(opens.saturating_mul(TICK_MICROS));
         }
         self.pace.due_for(way, user, now)
+    }
+
+    /// The name of the innermost row that an ask's transfer is within and that is closed at a moment in microseconds; none
+    /// if all are open.
+    pub fn closed_by(&self, ask: Ask, now: u64) -> Option<Name>
+        ensures closed { result ≡ closed_in ask self.now.pace self.now.cadence now }
+    {
+        let rows = self.pace.rows_of(ask.way, ask.user);
+        self.cadence.closed_by(ask, &rows, now / TICK_MICROS)
     }
 
     /// Holds a round of the given lanes (those with `true` in their place) at a moment in microseconds; one before that

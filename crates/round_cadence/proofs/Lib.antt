@@ -1,2 +1,3 @@
 mod Openings
 mod LeastIntervals
+mod Soon

@@ -31,6 +31,18 @@ added grant worth b = record {
   is_asked = true;
 }
 
+-- a beat after an ask of a transfer of the current round that shares the rate with no other: no
+-- grant is a part of that rate, so the row has one sharer
+abbrev pub asked : ℕ → Beat → Beat
+asked worth b = record {
+  opens = b.opens;
+  sharers = b.sharers;
+  granted = b.granted;
+  greatest = b.greatest;
+  worth = min b.worth worth;
+  is_asked = true;
+}
+
 -- a quotient, rounded up
 abbrev pub div_up : ℕ → ℕ → ℕ
 div_up x y = x / y + min 1 (x % y)

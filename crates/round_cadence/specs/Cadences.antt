@@ -7,14 +7,16 @@ use Rattle.round_cadence.specs.declared.intervals.TheConstants.{WORTH, WORTH_UP}
 use Rattle.round_pace.specs.declared.rows.TransferRows.{TransferRows}
 use Rattle.round_cadence.specs.declared.beat.Beat.{Beat}
 use Rattle.round_cadence.specs.declared.beat.WayBeats.{WayBeats}
-use Rattle.round_cadence.specs.Beats.{new_beat, new_beats, added, settled, in_way, change, beat_code, beats_code as way_beats_code}
+use Rattle.round_cadence.specs.Beats.{new_beat, new_beats, added, asked, settled, in_way, change, beat_code, beats_code as way_beats_code}
 
--- the beats of the server and the directions, and those of groups and users by their numbers
+-- the beats of the server and the directions, those of groups and users by their numbers, and those
+-- of the sessions of each user, which have one beat in common, by the user's number
 pub record Beats : Type 0 where
   pub server : Beat
   pub ways : WayBeats
   pub groups : List WayBeats
   pub users : List WayBeats
+  pub sessions : List WayBeats
 
 abbrev pub new_cadence : ℕ → ℕ → Beats
 new_cadence users groups = record {
@@ -22,9 +24,10 @@ new_cadence users groups = record {
   ways = new_beats;
   groups = replicate groups new_beats;
   users = replicate users new_beats;
+  sessions = replicate users new_beats;
 }
 
--- the octets that a transfer is to have in a round: any, if it is timed
+-- the octets that a transfer is to have in a round: any, if its session has a guarantee
 abbrev pub worth_of : Way → Bool → ℕ
 worth_of way true = 0
 worth_of Down false = WORTH
@@ -42,7 +45,8 @@ opens_for way beats (Some number) = opens_at way beats number
 abbrev pub opens_of : Way → ℕ → TransferRows → Beats → ℕ
 opens_of way user rows c =
     max (max c.server.opens (in_way way c.ways).opens)
-    (max (opens_for way c.groups rows.group_number) (opens_at way c.users user))
+    (max (opens_for way c.groups rows.group_number)
+    (max (opens_at way c.users user) (opens_at way c.sessions user)))
 
 -- the beat of a number and a direction is changed, and no other; that of a greater number is none
 abbrev pub change_at : Way → (Beat → Beat) → ℕ → List WayBeats → List WayBeats
@@ -53,13 +57,15 @@ abbrev pub change_for : Way → (Beat → Beat) → Option ℕ → List WayBeats
 change_for way f None beats = beats
 change_for way f (Some number) beats = change_at way f number beats
 
--- the beats after a grant of the current round to a user's transfer
+-- the beats after a grant of the current round to a user's transfer; each session has its rate to
+-- itself
 abbrev pub add_to : Way → ℕ → TransferRows → ℕ → Beats → Beats
 add_to way user rows grant c = record {
-  server = added grant (worth_of way rows.is_timed) c.server;
-  ways = change way (added grant (worth_of way rows.is_timed)) c.ways;
-  groups = change_for way (added grant (worth_of way rows.is_timed)) rows.group_number c.groups;
-  users = change_at way (added grant (worth_of way rows.is_timed)) user c.users;
+  server = added grant (worth_of way rows.has_floor) c.server;
+  ways = change way (added grant (worth_of way rows.has_floor)) c.ways;
+  groups = change_for way (added grant (worth_of way rows.has_floor)) rows.group_number c.groups;
+  users = change_at way (added grant (worth_of way rows.has_floor)) user c.users;
+  sessions = change_at way (asked (worth_of way rows.has_floor)) user c.sessions;
 }
 
 -- the beats after a round in a tick that left these credits, for a user's transfer
@@ -69,13 +75,22 @@ settle_of way user rows tick c = record {
   ways = change way (settled tick rows.way) c.ways;
   groups = change_for way (settled tick rows.group) rows.group_number c.groups;
   users = change_at way (settled tick rows.user) user c.users;
+  sessions = change_at way (settled tick rows.session) user c.sessions;
 }
 
 -- a code, by which proofs distinguish values
 abbrev pub beats_code : Coded Beats
 beats_code =
-    code_by ((Beat × WayBeats) × (List WayBeats × List WayBeats))
+    code_by ((Beat × WayBeats) × (List WayBeats × (List WayBeats × List WayBeats)))
     (coded× (coded× beat_code way_beats_code)
-    (coded× (coded_list way_beats_code) (coded_list way_beats_code)))
-    (λ c. ((c.server, c.ways), (c.groups, c.users)))
-    (λ p. record { server = p.0.0; ways = p.0.1; groups = p.1.0; users = p.1.1 }) (λ _. refl)
+    (coded× (coded_list way_beats_code)
+    (coded× (coded_list way_beats_code) (coded_list way_beats_code))))
+    (λ c. ((c.server, c.ways), (c.groups, (c.users, c.sessions))))
+    (λ p. record {
+      server = p.0.0;
+      ways = p.0.1;
+      groups = p.1.0;
+      users = p.1.1.0;
+      sessions = p.1.1.1;
+    })
+    (λ _. refl)

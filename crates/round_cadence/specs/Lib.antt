@@ -1,3 +1,4 @@
 pub mod Intervals
 pub mod Beats
 pub mod Cadences
+pub mod Closed

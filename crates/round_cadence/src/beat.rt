@@ -2,7 +2,7 @@
 
 ghost use Rattle.std.specs.Prelude.{◌≡◌, ◌≤◌, ◌+◌, false, true};
 ghost use Rattle.round_cadence.specs.declared.intervals.TheConstants.{LONGEST};
-ghost use Rattle.round_cadence.specs.Beats.{new_beat, new_beats, added, parts_of, sharers_after, is_drained, opens_after, settled, in_way, change};
+ghost use Rattle.round_cadence.specs.Beats.{new_beat, new_beats, added, asked, parts_of, sharers_after, is_drained, opens_after, settled, in_way, change};
 
 use crate::intervals::{WORTH, interval, next_opening};
 use line_rates::Way;
@@ -61,11 +61,22 @@ impl Beat {
     pub fn add(self, grant: u64, worth: u64) -> Beat
         ensures added { result ≡ added grant worth self }
     {
+        let mut beat = self.ask(worth);
+        beat.granted = self.granted.saturating_add(grant);
+        beat.greatest = self.greatest.max(grant);
+        beat
+    }
+
+    /// Adds an ask of the current round, of a transfer that shares the rate with no other and is to have `worth` octets in
+    /// a round.
+    pub fn ask(self, worth: u64) -> Beat
+        ensures asked { result ≡ asked worth self }
+    {
         Beat {
             opens: self.opens,
             sharers: self.sharers,
-            granted: self.granted.saturating_add(grant),
-            greatest: self.greatest.max(grant),
+            granted: self.granted,
+            greatest: self.greatest,
             worth: self.worth.min(worth),
             is_asked: true,
         }
@@ -93,11 +104,13 @@ impl Beat {
 
     /// The beat after the current round, which was held in `tick` and left this credit. If nothing was added in it,
     /// nothing changes. If it drained the row, this is closed to the next tick of its interval, at most [`LONGEST`] ticks
-    /// later; otherwise it is open.
+    /// later; otherwise it is open. A beat of asks alone keeps its one sharer.
     pub fn settle(self, credit: Credit, tick: u64) -> Beat
         ensures settled { result ≡ settled tick credit self }
         ensures done { result.is_asked ≡ false }
         ensures soon { self.is_asked ≡ true → result.opens ≤ tick + LONGEST }
+        ensures alone { self.granted ≡ 0 → self.sharers ≡ 1
+            → (result.granted ≡ 0) × (result.sharers ≡ 1) }
     {
         if !self.is_asked {
             return self;
@@ -146,6 +159,22 @@ impl WayBeats {
             Way::Up => WayBeats {
                 down: self.down,
                 up: self.up.add(grant, worth),
+            },
+        }
+    }
+
+    /// Adds an ask of the current round to the beat of a direction whose rate no transfer shares with another.
+    pub fn ask(self, way: Way, worth: u64) -> WayBeats
+        ensures asked { result ≡ change way (asked worth) self }
+    {
+        match way {
+            Way::Down => WayBeats {
+                down: self.down.ask(worth),
+                up: self.up,
+            },
+            Way::Up => WayBeats {
+                down: self.down,
+                up: self.up.ask(worth),
             },
         }
     }

@@ -1,17 +1,20 @@
 //! The beats of all rows of a line.
 
-ghost use Rattle.std.specs.Prelude.{◌≡◌, replicate, IfOk};
-ghost use Rattle.round_cadence.specs.Beats.{new_beats, added, settled};
+ghost use Rattle.std.specs.Prelude.{◌≡◌, ◌≤◌, ◌+◌, replicate, IfOk};
+ghost use Rattle.round_cadence.specs.declared.intervals.TheConstants.{LONGEST};
+ghost use Rattle.round_cadence.specs.Beats.{new_beats, added, asked, settled};
+ghost use Rattle.round_cadence.specs.Closed.{closed_by, closed_group, closed_line};
 ghost use Rattle.round_cadence.specs.Cadences.{worth_of, new_cadence, opens_at, opens_for, change_at, change_for, opens_of, add_to, settle_of};
 
 use crate::beat::{Beat, WayBeats};
-use crate::intervals::{WORTH, WORTH_UP};
-use line_rates::Way;
+use crate::intervals::{LONGEST, WORTH, WORTH_UP};
+use line_rates::{Ask, Name, Way};
 use round_pace::{Credit, TransferRows};
 use std::alloc::{AllocError, Allocator, Global};
 use std::marker::Model;
 
-/// The beats of the server, of each direction, and of each group and each user, by their numbers.
+/// The beats of the server, of each direction, of each group and each user, by their numbers, and of the sessions of each
+/// user: each has a rate of its own, and they have one beat in common.
 ///
 /// In a round, the caller adds each ask with its grant, and then settles each ask: the first settles its rows, and
 /// others within the same rows change nothing.
@@ -21,6 +24,8 @@ pub struct Cadence<A: Allocator = Global> {
     ways: WayBeats,
     groups: Vec<WayBeats, A>,
     users: Vec<WayBeats, A>,
+    // of the sessions of the user with that number
+    sessions: Vec<WayBeats, A>,
 }
 
 impl<A: Allocator> Model for Cadence<A> {
@@ -35,16 +40,17 @@ impl<A: Allocator> Model for Cadence<A> {
       ways = c.ways;
       groups = c.groups.items;
       users = c.users.items;
+      sessions = c.sessions.items;
     } };
 }
 
-// The octets that a transfer is to have in a round: any, if its session's rate or guarantee is earned from one round to
-// the next.
-fn worth_of(way: Way, is_timed: bool) -> u64
-    ensures worth { result ≡ worth_of way is_timed }
+// The octets that a transfer is to have in a round: any, if its session has a guarantee, which is earned from one round
+// to the next.
+fn worth_of(way: Way, has_floor: bool) -> u64
+    ensures worth { result ≡ worth_of way has_floor }
 {
     match way {
-        _ if is_timed => 0,
+        _ if has_floor => 0,
         Way::Down => WORTH,
         Way::Up => WORTH_UP,
     }
@@ -76,6 +82,15 @@ fn add_at<A: Allocator>(beats: &mut Vec<WayBeats, A>, number: u32, way: Way, gra
     }
 }
 
+fn ask_at<A: Allocator>(beats: &mut Vec<WayBeats, A>, number: u32, way: Way, worth: u64)
+    ensures asked { beats.new.items ≡ change_at way (asked worth) number beats.old.items }
+{
+    let place = number as usize;
+    if place < beats.len() {
+        beats[place] = beats[place].ask(way, worth);
+    }
+}
+
 fn settle_at<A: Allocator>(
     beats: &mut Vec<WayBeats, A>,
     number: u32,
@@ -92,24 +107,27 @@ fn settle_at<A: Allocator>(
 }
 
 impl<A: Allocator + Clone> Cadence<A> {
-    /// Beats of the server, the directions, and the users and groups with numbers below these. All rows are open. A
-    /// group or a user with a greater number has no beat, and is never closed.
+    /// Beats of the server, the directions, the users with their sessions, and the groups, with numbers below these. All
+    /// rows are open. A group or a user with a greater number has no beat, and is never closed.
     pub fn new(alloc: A, users: usize, groups: usize) -> Result<Cadence<A>, AllocError>
         ensures new { IfOk result (λ c. c ≡ new_cadence users groups) }
     {
         let of_groups = open_beats(alloc.clone()?, groups)?;
-        let of_users = open_beats(alloc, users)?;
+        let of_users = open_beats(alloc.clone()?, users)?;
+        let of_sessions = open_beats(alloc, users)?;
         Ok(Cadence {
             server: Beat::new(),
             ways: WayBeats::new(),
             groups: of_groups,
             users: of_users,
+            sessions: of_sessions,
         })
     }
 }
 
 impl<A: Allocator> Cadence<A> {
-    /// The first tick in which all rows that a user's transfer is within are open; 0 if they are open now.
+    /// The first tick in which all rows that a user's transfer is within are open, those of its session too; 0 if they are
+    /// open now.
     pub fn opens(&self, way: Way, user: u32, rows: &TransferRows) -> u64
         ensures opens { result ≡ opens_of way user rows.now self.now }
     {
@@ -118,26 +136,70 @@ impl<A: Allocator> Cadence<A> {
             Some(group) => opens_at(&self.groups, group, way),
             None => 0,
         };
-        line.max(group.max(opens_at(&self.users, user, way)))
+        let own = opens_at(&self.users, user, way).max(opens_at(&self.sessions, user, way));
+        line.max(group.max(own))
     }
 
-    /// Adds a grant of the current round to the rows that a user's transfer is within. No memory.
+    // The direction or the server, if its row is closed at a tick; the inner one if both are.
+    fn closed_line(&self, way: Way, tick: u64) -> Option<Name>
+        ensures closed { result ≡ closed_line way tick self.now }
+    {
+        if tick < self.ways.beat(way).opens {
+            return Some(Name::Direction(way));
+        }
+        if tick < self.server.opens {
+            return Some(Name::Server);
+        }
+        None
+    }
+
+    // The group, if there is one and its row is closed at a tick.
+    fn closed_group(&self, way: Way, group: Option<u32>, tick: u64) -> Option<Name>
+        ensures closed { result ≡ closed_group way tick group self.now }
+    {
+        match group {
+            Some(group) if tick < opens_at(&self.groups, group, way) => {
+                Some(Name::Group(way, group))
+            }
+            _ => None,
+        }
+    }
+
+    /// The name of the innermost row that an ask's transfer is within and that is closed at a tick; none if all are open.
+    pub fn closed_by(&self, ask: Ask, rows: &TransferRows, tick: u64) -> Option<Name>
+        ensures closed { result ≡ closed_by ask rows.now tick self.now }
+    {
+        if tick < opens_at(&self.sessions, ask.user, ask.way) {
+            return Some(Name::Session(ask.way, ask.user, ask.session));
+        }
+        if tick < opens_at(&self.users, ask.user, ask.way) {
+            return Some(Name::User(ask.way, ask.user));
+        }
+        let group = self.closed_group(ask.way, rows.group_number, tick);
+        group.or(self.closed_line(ask.way, tick))
+    }
+
+    /// Adds a grant of the current round to the rows that a user's transfer is within, and its ask to the beat of the
+    /// user's sessions, of which each has its rate to itself. No memory.
     pub fn add(&mut self, way: Way, user: u32, rows: &TransferRows, grant: u64)
         ensures added { self.new ≡ add_to way user rows.now grant self.old }
     {
-        let worth = worth_of(way, rows.is_timed);
+        let worth = worth_of(way, rows.has_floor);
         self.server = self.server.add(grant, worth);
         self.ways = self.ways.add(way, grant, worth);
         if let Some(group) = rows.group_number {
             add_at(&mut self.groups, group, way, grant, worth);
         }
         add_at(&mut self.users, user, way, grant, worth);
+        ask_at(&mut self.sessions, user, way, worth);
     }
 
-    /// Settles the rows that a user's transfer is within, after a round that was held in `tick` and left these credits.
-    /// No memory.
+    /// Settles the rows that a user's transfer is within, those of its session too, after a round that was held in `tick`
+    /// and left these credits. They open at most [`LONGEST`] ticks later. No memory.
     pub fn settle(&mut self, way: Way, user: u32, rows: &TransferRows, tick: u64)
         ensures settled { self.new ≡ settle_of way user rows.now tick self.old }
+        ensures soon { opens_of way user rows.now self.old ≤ tick + LONGEST
+            → opens_of way user rows.now self.new ≤ tick + LONGEST }
     {
         self.server = self.server.settle(rows.server, tick);
         self.ways = self.ways.settle(way, rows.way, tick);
@@ -145,5 +207,6 @@ impl<A: Allocator> Cadence<A> {
             settle_at(&mut self.groups, group, way, rows.group, tick);
         }
         settle_at(&mut self.users, user, way, rows.user, tick);
+        settle_at(&mut self.sessions, user, way, rows.session, tick);
     }
 }

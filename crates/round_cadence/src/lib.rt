@@ -2,8 +2,10 @@
 //!
 //! In each tick of 2 ms a rate earns little, which many transfers would share in tiny parts. So a row (the server, a
 //! direction, a group or a user) that a round has drained is closed until it has earned something worth sending:
-//! [`WORTH`] octets for each download that shares it, [`WORTH_UP`] for uploads, in at most [`LONGEST`] ticks. A transfer is in a round only if
-//! each row that it is within is open. What the rows earn, and the laws of their rates, are those of `round_pace`.
+//! [`WORTH`] octets for each download that shares it, [`WORTH_UP`] for uploads, in at most [`LONGEST`] ticks. The
+//! sessions of a user, each of which may have a rate of its own that it shares with no other, are such a row with one
+//! sharer. A transfer is in a round only if each row that it is within is open. What the rows earn, and the laws of
+//! their rates, are those of `round_pace`.
 //!
 //! ```text
 //! let mut cadence = Cadence::new(rt.alloc(), 8, 0)?; // of users with numbers below 8

@@ -10,7 +10,7 @@ use Rattle.round_pace.specs.declared.paced.GroupPace.{GroupPace}
 use Rattle.round_pace.specs.declared.paced.UserPace.{UserPace}
 use Rattle.round_pace.specs.declared.rows.TransferRows.{TransferRows}
 use Rattle.round_pace.specs.Paced.{Paced, group_key, pace_number, no_credit}
-use Rattle.round_pace.specs.Spent.{credit_of, session_of}
+use Rattle.round_pace.specs.Spent.{credit_of}
 use Rattle.round_pace.specs.Taken.{group_of}
 
 -- the credit of a user and a way; without a row it has a rate of 0, which is no limit
@@ -45,15 +45,13 @@ abbrev pub floor_of : Way → UserRate → ℕ
 floor_of Down row = row.session_down_floor
 floor_of Up row = row.session_up_floor
 
--- Each session of the user has a rate, which they have in common, or a guarantee, which is earned
--- from one round to the next.
-abbrev pub is_row_timed : Way → Option UserPace → Bool
-is_row_timed way None = false
-is_row_timed way (Some u) =
-    not (nat_eq (session_of way u.row) 0) || not (nat_eq (floor_of way u.row) 0)
+-- each session of the user has a guarantee, which is earned from one round to the next
+abbrev pub has_row_floor : Way → Option UserPace → Bool
+has_row_floor way None = false
+has_row_floor way (Some u) = not (nat_eq (floor_of way u.row) 0)
 
-abbrev pub is_timed : Way → List UserPace → ℕ → Bool
-is_timed way users user = is_row_timed way (finite.get (by_number pace_number users) user)
+abbrev pub has_floor : Way → List UserPace → ℕ → Bool
+has_floor way users user = has_row_floor way (finite.get (by_number pace_number users) user)
 
 -- the credits that a user's transfer is within
 abbrev pub rows_of : Way → ℕ → Paced → TransferRows
@@ -62,16 +60,17 @@ rows_of way user p = record {
   way = credit_of way p.down p.up;
   group = group_credit way p.groups (group_of p.users user);
   user = user_credit way p.users user;
+  session = session_credit way p.users user;
   group_number = group_of p.users user;
-  is_timed = is_timed way p.users user;
+  has_floor = has_floor way p.users user;
 }
 
 -- a rate has at least this number of octets left; 0 is no limit
 abbrev pub has_left : Credit → ℕ → Bool
 has_left c octets = nat_eq c.rate 0 || nat_le octets c.left
 
--- each rate has, and none is that of a session
+-- each rate has, that of a session too, and sessions have no guarantee
 abbrev pub have_left : TransferRows → ℕ → Bool
 have_left r octets =
-    not r.is_timed && has_left r.server octets && has_left r.way octets
-    && has_left r.group octets && has_left r.user octets
+    not r.has_floor && has_left r.server octets && has_left r.way octets
+    && has_left r.group octets && has_left r.user octets && has_left r.session octets

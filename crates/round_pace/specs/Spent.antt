@@ -3,7 +3,6 @@ use Rattle.std.specs.Prelude.{ℕ, ◌*◌, ◌-◌, ◌^◌, Bool, false, ◌||
 use Rattle.std.specs.FinMap as finite
 use Rattle.line_rates.specs.declared.ask.Way.{Way}
 use Rattle.line_rates.specs.declared.ask.Way.TheVariants.{Down, Up}
-use Rattle.line_rates.specs.declared.row.UserRate.{UserRate}
 use Rattle.line_rates.specs.Stated.{by_number}
 use Rattle.round_pace.specs.declared.credit.Credit.{Credit}
 use Rattle.round_pace.specs.declared.due.Due.{Due}
@@ -20,10 +19,6 @@ use Rattle.round_pace.specs.declared.credit.TheConstants.{TICK_MICROS}
 abbrev pub credit_of : Way → Credit → Credit → Credit
 credit_of Down down up = down
 credit_of Up down up = up
-
-abbrev pub session_of : Way → UserRate → ℕ
-session_of Down row = row.session_down
-session_of Up row = row.session_up
 
 -- Nothing is left of the user, or of their sessions.
 abbrev pub is_spent : Way → UserPace → Bool

@@ -18,7 +18,7 @@ use crate::paced::{
     take_users,
 };
 use crate::quiet::begin_second;
-use crate::rows::{TransferRows, group_credit, is_timed, user_credit};
+use crate::rows::{TransferRows, group_credit, has_floor, session_credit, user_credit};
 use line_rates::{GroupRate, Limits, Name, UserRate, Way};
 use std::alloc::{AllocError, Allocator, Global};
 use std::marker::Model;
@@ -313,8 +313,9 @@ impl<A: Allocator> Pace<A> {
             way: credit_of(self.down, self.up, way),
             group: group_credit(&self.groups, group_number, way),
             user: user_credit(&self.users, user, way),
+            session: session_credit(&self.users, user, way),
             group_number,
-            is_timed: is_timed(&self.users, user, way),
+            has_floor: has_floor(&self.users, user, way),
         }
     }
 }

@@ -8,7 +8,7 @@ ghost use Rattle.round_pace.specs.Credits.{IsCredit};
 ghost use Rattle.round_pace.specs.Offered.{refill_group, refill_user, credit_rate, floor_rate, offer_group, offer_user, put_groups, put_users};
 ghost use Rattle.round_pace.specs.Paced.{group_key, pace_number, IsGroupPace, IsUserPace, AreTheGroups, AreTheUsers};
 ghost use Rattle.round_pace.specs.Quiet.{AllMarked, IsQuietGroup, IsQuietUser, KeepMarked};
-ghost use Rattle.round_pace.specs.Spent.{credit_of, session_of, is_spent, is_user_spent, is_group_spent};
+ghost use Rattle.round_pace.specs.Spent.{credit_of, is_spent, is_user_spent, is_group_spent};
 ghost use Rattle.round_pace.specs.Taken.{take_if_down, take_if_up, take_group, take_user, group_of, take_users, take_groups};
 
 use crate::credit::{Credit, as_rate, floor_in, is_dry, refill_row, take_row};
@@ -372,16 +372,6 @@ pub(crate) fn credit_of(down: Credit, up: Credit, way: Way) -> Credit
     match way {
         Way::Down => down,
         Way::Up => up,
-    }
-}
-
-/// The rate of each session of a user.
-pub(crate) fn session_of(row: UserRate, way: Way) -> u64
-    ensures session { result ≡ session_of way row }
-{
-    match way {
-        Way::Down => row.session_down,
-        Way::Up => row.session_up,
     }
 }
 

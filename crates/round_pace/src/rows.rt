@@ -3,10 +3,10 @@
 ghost use Rattle.std.specs.Prelude.{◌≡◌};
 ghost use Rattle.line_rates.specs.Stated.{IsRising};
 ghost use Rattle.round_pace.specs.Paced.{group_key, pace_number, no_credit};
-ghost use Rattle.round_pace.specs.Rows.{floor_of, user_credit, session_credit, group_credit, has_left, have_left, is_timed};
+ghost use Rattle.round_pace.specs.Rows.{floor_of, user_credit, session_credit, group_credit, has_left, have_left, has_floor};
 
 use crate::credit::Credit;
-use crate::paced::{GroupPace, UserPace, credit_of, find_group, find_user, session_of};
+use crate::paced::{GroupPace, UserPace, credit_of, find_group, find_user};
 use line_rates::{UserRate, Way};
 
 /// The credits of the rates that a transfer is within. If there is no such rate, the credit has a rate of 0, which is
@@ -21,11 +21,13 @@ pub struct TransferRows {
     pub group: Credit,
     /// The credit of the user and the direction.
     pub user: Credit,
+    /// The credit that each session of the user has at least for the direction.
+    pub session: Credit,
     /// The number of the user's group, if they are in one.
     pub group_number: Option<u32>,
-    /// True if each session of the user has a rate or a guarantee of this direction: sessions have their rate's credit in
-    /// common, and a guarantee is earned from one round to the next and not kept.
-    pub is_timed: bool,
+    /// True if each session of the user has a guarantee of this direction, which is earned from one round to the next and
+    /// not kept.
+    pub has_floor: bool,
 }
 
 // Returns whether a rate has at least this number of octets left; 0 is no limit.
@@ -36,16 +38,18 @@ fn has_left(credit: Credit, octets: u64) -> bool
 }
 
 impl TransferRows {
-    /// Returns whether each of the rates has at least this number of octets left, and no rate or guarantee is that of a
-    /// session: if all asks of a round want no more than that together, the transfer is granted all that it asks for.
+    /// Returns whether each of the rates, that of a session too, has at least this number of octets left, and sessions of
+    /// the user have no guarantee: if all asks of a round want no more than that together, the transfer is granted all that
+    /// it asks for.
     pub fn have_left(&self, octets: u64) -> bool
         ensures left { result ≡ have_left self.now octets }
     {
-        !self.is_timed
+        !self.has_floor
             && has_left(self.server, octets)
             && has_left(self.way, octets)
             && has_left(self.group, octets)
             && has_left(self.user, octets)
+            && has_left(self.session, octets)
     }
 }
 
@@ -101,15 +105,13 @@ pub(crate) fn group_credit(groups: &[GroupPace], group: Option<u32>, way: Way) -
     }
 }
 
-/// Returns whether each session of a user has a rate or a guarantee of one way.
-pub(crate) fn is_timed(users: &[UserPace], user: u32, way: Way) -> bool
+/// Returns whether each session of a user has a guarantee of one way.
+pub(crate) fn has_floor(users: &[UserPace], user: u32, way: Way) -> bool
     requires rising { IsRising pace_number users.now }
-    ensures timed { result ≡ is_timed way users.now user }
+    ensures floor { result ≡ has_floor way users.now user }
 {
     match find_user(users, user) {
-        Some(place) => {
-            session_of(users[place].row, way) != 0 || floor_of(users[place].row, way) != 0
-        }
+        Some(place) => floor_of(users[place].row, way) != 0,
         None => false,
     }
 }

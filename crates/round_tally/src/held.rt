@@ -1,7 +1,7 @@
 //! Numbers of rounds, by what held a transfer back.
 
 ghost use Rattle.std.specs.Prelude.{◌≡◌};
-ghost use Rattle.round_tally.specs.Counts.{depth, held_more, held_sum, innermost};
+ghost use Rattle.round_tally.specs.Counts.{depth, held_back, held_more, held_sum, innermost};
 
 use line_rates::Name;
 
@@ -44,6 +44,17 @@ pub(crate) fn innermost(one: Option<Name>, other: Option<Name>) -> Option<Name>
         other
     } else {
         one
+    }
+}
+
+/// The limit that held a transfer back in a round: the inner of that which was used up, and that whose row the round left
+/// closed, which has the transfer wait for the next. Nothing did if no limit was used up.
+pub fn held_back(used_up: Option<Name>, closed: Option<Name>) -> Option<Name>
+    ensures held { result ≡ held_back used_up closed }
+{
+    match used_up {
+        None => None,
+        Some(_) => innermost(used_up, closed),
     }
 }
 

@@ -16,5 +16,5 @@
 mod held;
 mod tallies;
 
-pub use held::HeldTally;
+pub use held::{HeldTally, held_back};
 pub use tallies::{LaneTally, RoundGrant, Tallies};

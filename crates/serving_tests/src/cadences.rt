@@ -43,8 +43,9 @@ fn rows_of(rate: u64, left: u64, user: Credit) -> TransferRows {
         way: OPEN,
         group: OPEN,
         user,
+        session: OPEN,
         group_number: None,
-        is_timed: false,
+        has_floor: false,
     }
 }
 
@@ -115,14 +116,94 @@ fn beats_count_sharers(rt: HostRuntime) {
     beat = beat.add(4_000, WORTH).settle(left(2_001), 15);
     holds(&rt, beat.sharers == 7 && beat.opens == 0); // more than a thousandth is left
     beat = beat.add(0, 0).settle(left(0), 16);
-    holds(&rt, beat.sharers == 6 && beat.opens == 17); // a session's rate is earned in each tick
+    holds(&rt, beat.sharers == 6 && beat.opens == 17); // a guarantee is earned in each tick
     let beats = WayBeats::new().add(Way::Up, 10, WORTH_UP);
     let beats = beats.settle(Way::Up, left(0), 0);
     holds(&rt, beats.beat(Way::Down) == Beat::new());
     holds(&rt, beats.beat(Way::Up).opens == 1);
+    let beat = Beat::new().ask(WORTH).ask(WORTH_UP).settle(left(0), 0);
+    holds(&rt, beat.sharers == 1 && beat.opens == 1); // 1 tick earns 256 octets
+    let beats = WayBeats::new().ask(Way::Down, WORTH);
+    let beats = beats.settle(Way::Down, left(0), 1);
+    holds(&rt, beats.beat(Way::Up) == Beat::new());
+    holds(&rt, beats.beat(Way::Down).opens == 3); // 2 ticks earn 4,096 octets
 }
 
-// A group with a rate of downloads, and a user in it with a rate of uploads and a guarantee of downloads.
+// The rows of a transfer whose session has this credit, within the server's rate.
+fn session_rows(server: Credit, session: Credit, has_floor: bool) -> TransferRows {
+    TransferRows {
+        server,
+        way: OPEN,
+        group: OPEN,
+        user: OPEN,
+        session,
+        group_number: None,
+        has_floor,
+    }
+}
+
+// The rate of a session, of which nothing is left.
+fn drained(rate: u64) -> Credit {
+    Credit { rate, left: 0 }
+}
+
+// The first tick in which the rows of a user are open, after a round in `tick` of 64 such transfers of user 2.
+fn opens_after(
+    rt: &(impl Abort + AllocGlobal),
+    way: Way,
+    rows: &TransferRows,
+    tick: u64,
+    user: u32,
+) -> u64 {
+    let mut cadence = Cadence::new(rt.alloc(), 3, 0).expect(rt, "memory");
+    for _ in 0..64 {
+        cadence.add(way, 2, rows, 62);
+    }
+    cadence.settle(way, 2, rows, tick);
+    cadence.opens(way, user, rows)
+}
+
+/// The rate of each of 64 sessions, whether they have a guarantee, the tick of the round that drained it, and the next in
+/// which they are open.
+static SESSIONS: [(u64, bool, u64, u64); 9] = [
+    (31_250, false, 0, 31),
+    (31_250, false, 40, 63),
+    (31_250, false, 63, 95),
+    (31_250, true, 40, 41),
+    (2_000_000, false, 0, 1),
+    (2_000_000, false, 1, 3),
+    (15_000_000, false, 1, 2),
+    (0, false, 40, 0),
+    (0, true, 40, 0),
+];
+
+#[test]
+fn sessions_have_a_beat_in_common(rt: HostRuntime) {
+    for (rate, has_floor, tick, opens) in &SESSIONS {
+        let rows = session_rows(OPEN, drained(*rate), *has_floor);
+        let next = opens_after(&rt, Way::Down, &rows, *tick, 2);
+        holds(&rt, next == *opens);
+        holds(&rt, opens_after(&rt, Way::Down, &rows, *tick, 1) == 0); // of another user
+    }
+    let slow = session_rows(OPEN, drained(31_250), false);
+    holds(&rt, opens_after(&rt, Way::Up, &slow, 0, 2) == 7); // 8 ticks earn 256 octets
+    // beside it, the server's rate is shared by 64 in 32 ticks, and with a guarantee divided in each
+    let rows = session_rows(left(0), drained(31_250), false);
+    holds(&rt, opens_after(&rt, Way::Down, &rows, 0, 1) == 31);
+    let rows = session_rows(left(0), drained(31_250), true);
+    holds(&rt, opens_after(&rt, Way::Down, &rows, 0, 1) == 1);
+}
+
+#[test]
+fn sessions_have_enough_left(rt: HostRuntime) {
+    let seven = Credit { rate: 50, left: 7 };
+    let rows = session_rows(OPEN, seven, false);
+    holds(&rt, rows.have_left(7) && !rows.have_left(8));
+    holds(&rt, session_rows(OPEN, OPEN, false).have_left(u64::MAX));
+    holds(&rt, !session_rows(OPEN, OPEN, true).have_left(0)); // a guarantee
+}
+
+// A group with a rate of downloads, and a user in it with rates of uploads and a guarantee of downloads.
 fn pace_of_a_group(rt: &(impl Abort + AllocGlobal)) -> Pace {
     let mut groups = Vec::new(rt.alloc());
     let group = GroupRate {
@@ -138,7 +219,7 @@ fn pace_of_a_group(rt: &(impl Abort + AllocGlobal)) -> Pace {
         down: 0,
         up: 10_000,
         session_down: 0,
-        session_up: 0,
+        session_up: 12_500,
         session_down_floor: 500,
         session_up_floor: 0,
     };
@@ -169,7 +250,8 @@ fn rows_are_those_of_a_transfer(rt: HostRuntime) {
                 left: 10,
             },
     );
-    holds(&rt, rows.group_number == Some(1) && rows.is_timed);
+    holds(&rt, rows.group_number == Some(1) && rows.has_floor);
+    holds(&rt, rows.session == OPEN);
     let rows = pace.rows_of(Way::Up, 3);
     holds(&rt, rows.way == OPEN && rows.group == OPEN);
     holds(
@@ -180,11 +262,19 @@ fn rows_are_those_of_a_transfer(rt: HostRuntime) {
                 left: 20,
             },
     );
-    holds(&rt, rows.group_number == Some(1) && !rows.is_timed);
+    holds(
+        &rt,
+        rows.session
+            == Credit {
+                rate: 12_500,
+                left: 25,
+            },
+    );
+    holds(&rt, rows.group_number == Some(1) && !rows.has_floor);
     holds(&rt, rows.have_left(20) && !rows.have_left(21));
     let rows = pace.rows_of(Way::Down, 4);
     holds(&rt, rows.group == OPEN && rows.user == OPEN);
-    holds(&rt, rows.group_number.is_none() && !rows.is_timed);
+    holds(&rt, rows.group_number.is_none() && !rows.has_floor);
 }
 
 // The rows of a user in group 1, with this credit of both.
@@ -194,8 +284,9 @@ fn grouped(credit: Credit) -> TransferRows {
         way: OPEN,
         group: credit,
         user: credit,
+        session: OPEN,
         group_number: Some(1),
-        is_timed: false,
+        has_floor: false,
     }
 }
 

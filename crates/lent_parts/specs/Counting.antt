@@ -1,4 +1,4 @@
--- What held back the leaves of a round.
+-- The limits that held back the leaves of a round.
 use Rattle.std.specs.Prelude.{ℕ, List, Option, Some, None, slice_get, slice_index_or}
 use Rattle.line_rates.specs.declared.ask.Ask.{Ask}
 use Rattle.line_rates.specs.declared.ask.Name.{Name}

@@ -18,15 +18,18 @@ pub(crate) struct RoundLimits<'a> {
 }
 
 impl<'a> RoundLimits<'a> {
-    // What held back a leaf: the limit that was used up, or an inner one whose row the round left closed.
+    // The limit that held back a leaf: that which was used up, or an inner one whose row the round left closed.
     fn held(&self, leaf: usize) -> Option<Name>
         ensures held { result ≡ held_of (slice_index_or self.now.names.now.names leaf None)
             (slice_get self.now.asks.now leaf) self.now.rounds.now.pace
             self.now.rounds.now.cadence self.now.now }
     {
-        match self.asks.get(leaf) {
-            Some(ask) => held_back(self.names.of(leaf), self.rounds.closed_by(*ask, self.now)),
-            None => None,
+        match (self.names.of(leaf), self.asks.get(leaf)) {
+            (Some(name), Some(ask)) => {
+                let closed = self.rounds.closed_by(*ask, self.now);
+                held_back(Some(name), closed)
+            }
+            _ => None,
         }
     }
 }

@@ -47,8 +47,8 @@ depth (Some (Session way user session)) = 5
 abbrev pub innermost : Option Name → Option Name → Option Name
 innermost one other = if nat_lt (depth one) (depth other) then other else one
 
--- what held a transfer back in a round, by the limit that was used up and the one whose row the
--- round left closed; nothing did if none was used up
+-- the limit that held a transfer back in a round, by that which was used up and the one whose row
+-- the round left closed; none did if none was used up
 abbrev pub held_back : Option Name → Option Name → Option Name
 held_back None closed = None
 held_back (Some name) closed = innermost (Some name) closed

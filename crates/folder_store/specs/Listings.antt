@@ -1,6 +1,6 @@
 -- The listing of a directory: the names that the machine gives, and what it shows of each. M is the
 -- type of machines, F of open files, D of open directories.
-use Rattle.std.specs.Prelude.{◌≡◌, ◌≢◌, ◌⊎◌, ◌++◌, ◌-◌, ℕ, ℤ, Bool, true, false, if◌then◌else◌, nat_eq, List, [], ◌∷◌, length, map, slice_get, Option, Some, None, Result, Ok, Err, IsPermutation, IsUtf8}
+use Rattle.std.specs.Prelude.{◌≡◌, ◌≢◌, ◌⊎◌, ◌++◌, ◌-◌, ℕ, ℤ, false, if◌then◌else◌, nat_eq, List, [], ◌∷◌, length, slice_get, Option, Some, None, Result, Ok, Err, IsPermutation, IsUtf8}
 use Rattle.std.specs.Cmp.Lexicographic.{slice_cmp}
 use Rattle.std.specs.IoError.{error_kind}
 use Rattle.std.specs.List.Sorted.{IsSorted}

@@ -11,8 +11,8 @@ struct NoTime {
     spare: i32,
 }
 
-/// What is laid out as the answer of statx(2): the kit gives no value of that type, and the names of its spare fields are
-/// refused by the gate.
+/// A value laid out as the answer of statx(2). The kit has none of that type to begin with, and the names of its spare
+/// fields cannot be written here: the gate refuses names with two underscores.
 #[repr(C)]
 #[derive(Drop)]
 struct Blank {
@@ -42,7 +42,7 @@ struct Blank {
     rest: [u64; 12],
 }
 
-/// The same octets.
+/// The same octets, as the call takes them.
 fn as_statx(blank: Blank) -> statx {
     let place = &raw const blank as *const statx;
     unsafe { place.read() }

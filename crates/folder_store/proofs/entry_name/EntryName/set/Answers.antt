@@ -1,4 +1,4 @@
-use Rattle.std.proofs.Common.{◌≡◌, ◌<◌, ◌++◌, length, drop, set, sym, ap, arith, ◌∙◌}
+use Rattle.std.proofs.Common.{◌<◌, ◌++◌, length, drop, set, ap, arith, ◌∙◌}
 use Rattle.folder_store.specs.EntryNames.{c_text}
 use Rattle.folder_store.proofs.EntryNames.{set_name}
 use Rattle.folder_store.proofs.entry_name.EntryName.set.Goals as goal

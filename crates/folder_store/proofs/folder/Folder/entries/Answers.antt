@@ -1,11 +1,10 @@
-use Rattle.std.proofs.Common.{rules, ◌≡◌, ◌++◌, [], ◌∷◌, List, Some, inl, inr, map, refl, string_bytes, sym, ap, subst, ◌∙◌}
+use Rattle.std.proofs.Common.{rules, ◌≡◌, ◌++◌, [], ◌∷◌, Some, inl, inr, map, refl, string_bytes, sym, ap, subst, ◌∙◌}
 use Rattle.std.proofs.lemmas.List.{map-append}
 use Rattle.std.specs.Cmp.Lexicographic.{slice_cmp}
 use Rattle.std.specs.List.Sorted.{IsStrictlySortedBy}
 use Rattle.std.specs.Option.{IfSome, option_map}
 use Rattle.std.specs.Ordering.{nat_cmp}
-use Rattle.virtual_tree.specs.Calls.{Entry, entries_of, entry_of, names_of}
-use Rattle.virtual_tree.specs.declared.listed.ListedEntry.{ListedEntry}
+use Rattle.virtual_tree.specs.Calls.{entries_of, entry_of, names_of}
 use Rattle.folder_store.specs.Listings.{ComesLast, IsListedBefore, ListsNames, ShowsEntry}
 use Rattle.folder_store.proofs.Rising.{rising_none, rising_push}
 use Rattle.folder_store.proofs.folder.Folder.entries.Goals as goal

@@ -2,5 +2,6 @@ pub mod Places
 pub mod Rising
 pub mod Walking
 pub mod Names
+pub mod EntryNames
 pub mod Entries
 pub mod Serving

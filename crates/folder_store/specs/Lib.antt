@@ -1,9 +1,11 @@
 pub mod MachinePaths
 pub mod Refusals
 pub mod Times
+pub mod Statx
 pub mod Looks
 pub mod Ends
 pub mod Options
+pub mod EntryNames
 pub mod MachineCalls
 pub mod Opening
 pub mod Moving

@@ -1,6 +1,6 @@
 -- The listing of a directory: the names that the machine gives, and what it shows of each. M is the
 -- type of machines, F of open files, D of open directories.
-use Rattle.std.specs.Prelude.{◌≡◌, ◌≢◌, ◌⊎◌, ◌++◌, ◌-◌, ℕ, ℤ, Bool, true, false, if◌then◌else◌, nat_eq, List, [], ◌∷◌, length, map, slice_get, Option, Some, None, Result, Ok, Err, IsPermutation, IsUtf8}
+use Rattle.std.specs.Prelude.{◌≡◌, ◌≢◌, ◌⊎◌, ◌++◌, ◌-◌, ℕ, ℤ, false, if◌then◌else◌, nat_eq, List, [], ◌∷◌, length, slice_get, Option, Some, None, Result, Ok, Err, IsPermutation, IsUtf8}
 use Rattle.std.specs.Cmp.Lexicographic.{slice_cmp}
 use Rattle.std.specs.IoError.{error_kind}
 use Rattle.std.specs.List.Sorted.{IsSorted}
@@ -15,8 +15,8 @@ use Rattle.virtual_tree.specs.Calls.{Entry}
 use Rattle.virtual_tree.specs.declared.listed.ListedEntry.{ListedEntry}
 use Rattle.folder_store.specs.Looks.{meta_of}
 use Rattle.folder_store.specs.MachineCalls.{MachineCall}
-use Rattle.folder_store.specs.MachineCalls.MachineCall.{Enters, Looks, Reads}
-use Rattle.folder_store.specs.Walks.{GoesInto, Walker, WalksTo, walker}
+use Rattle.folder_store.specs.MachineCalls.MachineCall.{Enters, LooksIn, Reads}
+use Rattle.folder_store.specs.Walks.{Walker, WalksTo}
 use Rattle.folder_store.specs.declared.looked.Looked.{Looked}
 
 -- the name is greater than that of the last entry, octet by octet
@@ -82,15 +82,15 @@ abbrev pub IsUnshown : Result Looked Error → Type 0
 IsUnshown answer = ((looked : Looked) × (answer ≡ Ok looked) × (meta_of looked ≡ None))
     ⊎ ((error : Error) × (answer ≡ Err error) × (error_kind error ≡ NotFound))
 
--- The entry with a name in a folder is examined and found, with what the machine shows of it; or
--- nothing is shown of it, or no path may have its name, and it is not examined.
-abbrev pub ShowsEntry : {M F D : Type 0} → (M → MachineCall F D → M → Type 0) → M → List ℕ
-    → List ℕ → Option Entry → M → Type 0
-ShowsEntry Does old folder name (Some entry) new = (entry.0 ≡ name)
-    × ((answer : Result Looked Error) × Does old (Looks (folder ++ 47 ∷ name) answer) new
+-- The entry with a name in an open directory is examined and found, with what the machine shows of
+-- it; or nothing is shown of it, or no path may have its name, and it is not examined.
+abbrev pub ShowsEntry : {M F D : Type 0} → (M → MachineCall F D → M → Type 0) → M → D → List ℕ
+    → Option Entry → M → Type 0
+ShowsEntry Does old directory name (Some entry) new = (entry.0 ≡ name)
+    × ((answer : Result Looked Error) × Does old (LooksIn directory name answer) new
     × IsShown answer entry.1)
-ShowsEntry Does old folder name None new = ((is_name name ≡ false) × (new ≡ old))
-    ⊎ ((answer : Result Looked Error) × Does old (Looks (folder ++ 47 ∷ name) answer) new
+ShowsEntry Does old directory name None new = ((is_name name ≡ false) × (new ≡ old))
+    ⊎ ((answer : Result Looked Error) × Does old (LooksIn directory name answer) new
     × IsUnshown answer)
 
 abbrev pub and_found : List Entry → Option Entry → List Entry
@@ -98,13 +98,13 @@ and_found listed None = listed
 and_found listed (Some entry) = listed ++ entry ∷ []
 
 -- of each name that was not listed before, what is found is listed after the entries before
-abbrev pub ListsNames : {M F D : Type 0} → (M → MachineCall F D → M → Type 0) → M → List ℕ
+abbrev pub ListsNames : {M F D : Type 0} → (M → MachineCall F D → M → Type 0) → M → D
     → List (List ℕ) → List Entry → List Entry → M → Type 0
-ListsNames Does old folder [] listed entries new = (entries ≡ listed) × (new ≡ old)
-ListsNames {M} Does old folder (name ∷ names) listed entries new =
-    (IsListedBefore listed name × ListsNames Does old folder names listed entries new)
-    ⊎ ((found : Option Entry) × (mid : M) × ShowsEntry Does old folder name found mid
-    × ListsNames Does mid folder names (and_found listed found) entries new)
+ListsNames Does old directory [] listed entries new = (entries ≡ listed) × (new ≡ old)
+ListsNames {M} Does old directory (name ∷ names) listed entries new =
+    (IsListedBefore listed name × ListsNames Does old directory names listed entries new)
+    ⊎ ((found : Option Entry) × (mid : M) × ShowsEntry Does old directory name found mid
+    × ListsNames Does mid directory names (and_found listed found) entries new)
 
 -- ---- the directory
 
@@ -114,23 +114,14 @@ abbrev pub entrance : Path → List ℕ → List ℕ
 entrance [] place = place ++ 47 ∷ []
 entrance (name ∷ names) place = place
 
--- the place by which the entries of an open directory are examined
-abbrev pub LooksInto : {M F D : Type 0} → (M → MachineCall F D → M → Type 0) → (D → Option ℤ)
-    → Path → Walker M → D → List ℕ → List ℕ → Walker M → Type 0
-LooksInto Does number [] old directory place inside new = (inside ≡ place) × (new ≡ old)
-LooksInto Does number (name ∷ names) old directory place inside new =
-    GoesInto Does number old directory place inside new
-
 -- The entries at a path below a folder: the walk there, and the directory, opened through no link;
--- its names, read to the end; and what the machine shows of each.
+-- its names, read to the end; and what the machine shows of each in that very directory.
 abbrev pub ListsDirectory : {M F D : Type 0} → (M → MachineCall F D → M → Type 0) → (D → Option ℤ)
     → Walker M → List ℕ → Path → List Entry → Walker M → Type 0
-ListsDirectory {M} {D = D} Does number old folder path entries new = (place inside : List ℕ)
-    × (directory : D) × (names : List (List ℕ)) × (there within : Walker M) × (opened read : M)
+ListsDirectory {M} {D = D} Does number old folder path entries new = (place : List ℕ)
+    × (directory : D) × (names : List (List ℕ)) × (there : Walker M) × (opened read : M)
     × WalksTo Does number old folder path place there
     × Does there.machine (Enters (entrance path place) (Ok directory)) opened
     × ReadsSorted Does opened directory names read
-    × LooksInto Does number path (walker read there.numbered) directory (entrance path place)
-    inside within
-    × ListsNames Does within.machine inside names [] entries new.machine
-    × (new.numbered ≡ within.numbered)
+    × ListsNames Does read directory names [] entries new.machine
+    × (new.numbered ≡ there.numbered)

@@ -12,6 +12,8 @@ pub data MachineCall (F D : Type 0) : Type 0 where
   Enters : List ℕ → Result D Error → MachineCall F D
   -- an entry was examined, through no link at the end of its path
   Looks : List ℕ → Result Looked Error → MachineCall F D
+  -- the entry with a name in an open directory was examined; a link was not followed
+  LooksIn : D → List ℕ → Result Looked Error → MachineCall F D
   -- an entry was examined, through links
   Follows : List ℕ → Result Looked Error → MachineCall F D
   -- an open file was examined

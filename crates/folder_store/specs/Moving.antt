@@ -1,13 +1,12 @@
 -- The machine's calls by which an entry is moved: only over an empty entry that was created before,
 -- at a path without an entry.
-use Rattle.std.specs.Prelude.{◌≡◌, ◌⊎◌, ℕ, List, Result, Ok, Err, IsErr, MatchResult}
+use Rattle.std.specs.Prelude.{◌⊎◌, ℕ, List, Result, Ok, Err, IsErr, MatchResult}
 use Rattle.std.specs.declared.io.Error.{Error}
 use Rattle.ftp_terms.specs.declared.entries.EntryKind.{EntryKind}
 use Rattle.ftp_terms.specs.declared.entries.EntryKind.TheVariants.{Directory, File}
 use Rattle.folder_store.specs.MachineCalls.{MachineCall}
-use Rattle.folder_store.specs.MachineCalls.MachineCall.{Opens, Looks, MakesDirectory, RemovesDirectory, RemovesFile, Renames}
+use Rattle.folder_store.specs.MachineCalls.MachineCall.{Opens, MakesDirectory, RemovesDirectory, RemovesFile, Renames}
 use Rattle.folder_store.specs.Options.{creating}
-use Rattle.folder_store.specs.declared.looked.Looked.{Looked}
 
 -- an empty entry of a kind was created at a path without an entry
 abbrev pub Reserves : {M F D : Type 0} → (M → MachineCall F D → M → Type 0) → M → EntryKind

@@ -1,6 +1,6 @@
 -- The machine's calls by which a file is opened: which options, which offset, and that the file is
 -- the very one that was examined. M is the type of machines, F of open files, D of directories.
-use Rattle.std.specs.Prelude.{◌≡◌, ◌⊎◌, ◌-◌, ◌≤◌, ℕ, List, Result, Ok, Err, IfOk}
+use Rattle.std.specs.Prelude.{◌≡◌, ◌⊎◌, ◌-◌, ◌≤◌, ℕ, List, Result, Ok, Err}
 use Rattle.std.specs.declared.fs.options.OpenOptions.{OpenOptions}
 use Rattle.std.specs.declared.io.Error.{Error}
 use Rattle.virtual_tree.specs.declared.mode.WriteMode.{WriteMode}

@@ -15,7 +15,7 @@ use Rattle.folder_store.specs.MachineCalls.{MachineCall}
 use Rattle.folder_store.specs.MachineCalls.MachineCall.{Flushes, Follows, Looks, MakesDirectory, RemovesDirectory, RemovesFile}
 use Rattle.folder_store.specs.Moving.{MovesToFree}
 use Rattle.folder_store.specs.Opening.{LooksAtFile, OpensToRead, OpensToWrite}
-use Rattle.folder_store.specs.Walks.{Walker, WalksTo, walker}
+use Rattle.folder_store.specs.Walks.{Walker, WalksTo}
 use Rattle.folder_store.specs.declared.fault.MachineFault.{MachineFault}
 use Rattle.folder_store.specs.declared.looked.Looked.{Looked}
 

@@ -1,7 +1,9 @@
 //! The machine that a program runs on.
 
+use crate::entry_name::EntryName;
 use crate::looked::Looked;
 use crate::machine::FolderMachine;
+use crate::statx::no_answer;
 use std::fs::{OpenFile, OpenOptions};
 use std::io::{Seek, SeekFrom, Write};
 use std::os::fd::{AsRawFd, RawFd};
@@ -35,6 +37,21 @@ fn last_error() -> io::Error {
     io::Error::from_raw_os_error(os::errno())
 }
 
+/// Examines the entry with a name in the directory that is open under a number. The system call walks no path, and a link is
+/// not followed.
+fn examine_in(directory: i32, name: &EntryName) -> io::Result<Looked> {
+    let mut found = no_answer();
+    let path = name.c_string();
+    let flags = libc::AT_SYMLINK_NOFOLLOW;
+    let status = unsafe {
+        libc::statx(directory, path, flags, libc::STATX_BASIC_STATS, &mut found)
+    };
+    if status < 0 {
+        return Err(last_error());
+    }
+    Ok(Looked::of_statx(&found))
+}
+
 impl<R: Files + Alloc> FolderMachine for R {
     ghost use Rattle.folder_store.specs.MachineCalls.{AnyMachineCall};
 
@@ -58,6 +75,10 @@ impl<R: Files + Alloc> FolderMachine for R {
 
     fn look(&mut self, place: &str) -> io::Result<Looked> {
         Ok(Looked::of_metadata(&fs::symlink_metadata(self, place)?))
+    }
+
+    fn look_in(&mut self, directory: &OpenDirectory, name: &EntryName) -> io::Result<Looked> {
+        examine_in(directory.number, name)
     }
 
     fn follow(&mut self, place: &str) -> io::Result<Looked> {

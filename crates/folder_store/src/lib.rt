@@ -33,6 +33,7 @@
 
 mod changes;
 mod count;
+mod entry_name;
 mod fault;
 mod files;
 mod files_machine;
@@ -46,8 +47,10 @@ mod moving;
 mod open;
 mod opening;
 mod options;
+mod statx;
 mod store;
 
+pub use entry_name::EntryName;
 pub use fault::MachineFault;
 pub use files_machine::OpenDirectory;
 pub use looked::{Looked, LookedKind};

@@ -1,17 +1,18 @@
 //! Listings of a folder's directories.
 
-ghost use Rattle.std.specs.Prelude.{◌≡◌, ◌++◌, ◌∷◌, ◌+◌, ◌≤◌, [], ℕ, drop, false, length, map, IsTrue, IfOk, IfSome, List, MatchOption, OnOk, Result, string_bytes};
+ghost use Rattle.std.specs.Prelude.{◌≡◌, ◌++◌, ◌+◌, ◌≤◌, [], ℕ, drop, false, length, map, IsTrue, IfOk, IfSome, List, MatchOption, OnOk, Result, string_bytes};
 ghost use Rattle.std.specs.Cmp.Lexicographic.{slice_cmp};
 ghost use Rattle.std.specs.List.Sorted.{IsStrictlySortedBy};
 ghost use Rattle.std.specs.Option.{option_map};
 ghost use Rattle.std.specs.Ordering.{nat_cmp};
 ghost use Rattle.std.specs.declared.io.Error.{Error};
 ghost use Rattle.virtual_tree.specs.Calls.{entries_of, entry_of, names_of};
-ghost use Rattle.folder_store.specs.Listings.{AddsName, AreThoseInUtf8, ComesLast, IsListedBefore, IsShown, IsUnshown, ListsDirectory, ListsNames, LooksInto, ReadsNames, ReadsSorted, ShowsEntry, entrance, names_in};
-ghost use Rattle.folder_store.specs.MachineCalls.MachineCall.{Looks};
+ghost use Rattle.folder_store.specs.Listings.{AddsName, AreThoseInUtf8, ComesLast, IsListedBefore, IsShown, IsUnshown, ListsDirectory, ListsNames, ReadsNames, ReadsSorted, ShowsEntry, entrance, names_in};
+ghost use Rattle.folder_store.specs.MachineCalls.MachineCall.{LooksIn};
 ghost use Rattle.folder_store.specs.Walks.{walker};
 ghost use Rattle.folder_store.specs.declared.looked.Looked.{Looked};
 
+use crate::entry_name::EntryName;
 use crate::fault::MachineFault;
 use crate::folder::Folder;
 use crate::look::{fault_of, listing_fault, meta_of};
@@ -45,27 +46,7 @@ impl<M: FolderMachine + Drop> Folder<M> {
             Err(error) => return Err(self.not_opened(place.text(), &error)),
         };
         let names = self.names(&directory)?;
-        self.look_into(path, &mut place, directory)?;
-        self.entries(place.text(), names)
-    }
-
-    /// Continues through an open directory, unless it is the folder itself.
-    fn look_into(
-        &mut self,
-        path: &VPath<M::A>,
-        place: &mut MachinePath<M::Directory, M::A>,
-        directory: M::Directory,
-    ) -> Result<(), MachineFault>
-        ensures path { self.new.path ≡ self.old.path }
-        ensures into { OnOk result (LooksInto M.Does
-            (λ directory. M.Directory.raw_fd directory) path.now
-            (walker self.old.machine self.old.has_proc) directory place.old place.new
-            (walker self.new.machine self.new.has_proc)) }
-    {
-        if path.is_root() {
-            return Ok(());
-        }
-        self.go_on(place, directory)
+        self.entries(&directory, names)
     }
 
     /// The fault of a directory that could not be opened to list it.
@@ -130,25 +111,25 @@ impl<M: FolderMachine + Drop> Folder<M> {
         Err(MachineFault::Device(io::Error::from(ErrorKind::TimedOut)))
     }
 
-    /// The entries with these names in a folder of the machine, each name once.
+    /// The entries with these names in an open directory, each name once.
     #[tactic(auto, using(crate::proofs::Rising::rising_push))]
     fn entries(
         &mut self,
-        folder: &str,
+        directory: &M::Directory,
         names: Vec<String<M::A>, M::A>,
     ) -> Result<Vec<ListedEntry<M::A>, M::A>, MachineFault>
         ensures rising { IfOk result
             (λ listed. IsStrictlySortedBy (slice_cmp nat_cmp) (names_of listed)) }
         ensures path { self.new.path ≡ self.old.path }
         ensures proc { self.new.has_proc ≡ self.old.has_proc }
-        ensures listed { IfOk result (λ listed. ListsNames M.Does self.old.machine folder.now
+        ensures listed { IfOk result (λ listed. ListsNames M.Does self.old.machine directory.now
             (map string_bytes names.items) [] (entries_of listed) self.new.machine) }
     {
-        let mut place = String::new(self.machine.alloc());
+        let mut room = EntryName::new();
         let mut listed = Vec::new(self.machine.alloc());
         for name in names {
             if comes_last(listed.as_slice(), name.as_str()) {
-                if let Some(entry) = self.entry(folder, &mut place, name)? {
+                if let Some(entry) = self.entry(directory, &mut room, name)? {
                     if listed.push(entry).is_err() {
                         return Err(MachineFault::Memory);
                     }
@@ -158,40 +139,44 @@ impl<M: FolderMachine + Drop> Folder<M> {
         Ok(listed)
     }
 
-    /// An entry of a folder of the machine, whose path is made in `place`. `None` if no path can name it, if it is neither a
+    /// An entry of an open directory, whose name is set in `room`. `None` if no path can name it, if it is neither a
     /// directory nor a file, or if it is gone by now. Any other refusal by the machine is a fault of the device.
     fn entry(
         &mut self,
-        folder: &str,
-        place: &mut String<M::A>,
+        directory: &M::Directory,
+        room: &mut EntryName,
         name: String<M::A>,
     ) -> Result<Option<ListedEntry<M::A>>, MachineFault>
         ensures name { IfOk result
             (λ found. IfSome found (λ entry. string_bytes entry.name ≡ string_bytes name)) }
         ensures path { self.new.path ≡ self.old.path }
         ensures proc { self.new.has_proc ≡ self.old.has_proc }
-        ensures shown { IfOk result (λ found. ShowsEntry M.Does self.old.machine folder.now
+        ensures shown { IfOk result (λ found. ShowsEntry M.Does self.old.machine directory.now
             (string_bytes name) (option_map entry_of found) self.new.machine) }
     {
         if !is_name(name.as_str()) {
             return Ok(None);
         }
-        put_path(place, folder, name.as_str())?;
-        match self.listed_meta(place.as_str())? {
+        room.set(name.as_str());
+        match self.listed_meta(directory, room)? {
             Some(meta) => Ok(Some(ListedEntry { name, meta })),
             None => Ok(None),
         }
     }
 
     /// The metadata of an entry of a listing; `None` if it is neither a directory nor a file, or gone by now.
-    fn listed_meta(&mut self, place: &str) -> Result<Option<Meta>, MachineFault>
+    fn listed_meta(
+        &mut self,
+        directory: &M::Directory,
+        name: &EntryName,
+    ) -> Result<Option<Meta>, MachineFault>
         ensures path { self.new.path ≡ self.old.path }
         ensures proc { self.new.has_proc ≡ self.old.has_proc }
         ensures shown { IfOk result (λ shown. (answer : Result Looked Error)
-            × M.Does self.old.machine (Looks place.now answer) self.new.machine
+            × M.Does self.old.machine (LooksIn directory.now name.now answer) self.new.machine
             × MatchOption shown (IsUnshown answer) (IsShown answer)) }
     {
-        match self.machine.look(place) {
+        match self.machine.look_in(directory, name) {
             Ok(looked) => Ok(meta_of(&looked)),
             Err(error) => match listing_fault(&error) {
                 MachineFault::NotFound => Ok(None),
@@ -213,16 +198,6 @@ fn add_slash<D: Drop, A: Allocator>(
         place.push("")?;
     }
     Ok(())
-}
-
-/// The path of an entry of a folder, in the room of the one before.
-fn put_path<A: Allocator>(place: &mut String<A>, folder: &str, name: &str) -> Result<(), AllocError>
-    ensures path { OnOk result (string_bytes place.new ≡ folder.now ++ 47 ∷ name.now) }
-{
-    place.clear();
-    place.push_str(folder)?;
-    place.push('/')?;
-    place.push_str(name)
 }
 
 /// A buffer of this size.

@@ -2,7 +2,9 @@
 
 ghost use Rattle.std.specs.Prelude.{◌≡◌, ◌↔◌};
 ghost use Rattle.std.specs.Fs.{file_type, metadata_len, IsDir, IsFile};
+ghost use Rattle.folder_store.specs.Statx.{device_number, type_of_mode};
 
+use libc::types::{statx, statx_timestamp};
 use std::fs::Metadata;
 use std::os::unix::fs::MetadataExt;
 
@@ -42,6 +44,26 @@ impl Looked {
             number: metadata.ino(),
         }
     }
+
+    /// The machine's answer to statx(2), as `of_metadata` has it.
+    pub(crate) fn of_statx(found: &statx) -> Looked
+        ensures directory { result.kind ≡ LookedKind.Directory
+            ↔ IsDir (type_of_mode found.now.stx_mode) }
+        ensures file { result.kind ≡ LookedKind.File ↔ IsFile (type_of_mode found.now.stx_mode) }
+        ensures length { result.length ≡ found.now.stx_size }
+        ensures modified { result.modified ≡ found.now.stx_mtime.tv_sec }
+        ensures device { result.device
+            ≡ device_number found.now.stx_dev_major found.now.stx_dev_minor }
+        ensures number { result.number ≡ found.now.stx_ino }
+    {
+        Looked {
+            kind: kind_of_mode(found.stx_mode),
+            length: found.stx_size,
+            modified: found.stx_mtime.tv_sec,
+            device: device_number(found.stx_dev_major, found.stx_dev_minor),
+            number: found.stx_ino,
+        }
+    }
 }
 
 fn kind_of(metadata: &Metadata) -> LookedKind
@@ -55,4 +77,30 @@ fn kind_of(metadata: &Metadata) -> LookedKind
         return LookedKind::File;
     }
     LookedKind::Other
+}
+
+/// The kind in the mode of an entry.
+fn kind_of_mode(mode: u16) -> LookedKind
+    ensures directory { result ≡ LookedKind.Directory ↔ IsDir (type_of_mode mode) }
+    ensures file { result ≡ LookedKind.File ↔ IsFile (type_of_mode mode) }
+{
+    let bits = u32::from(mode) & libc::S_IFMT;
+    if bits == libc::S_IFDIR {
+        return LookedKind::Directory;
+    }
+    if bits == libc::S_IFREG {
+        return LookedKind::File;
+    }
+    LookedKind::Other
+}
+
+/// The number of a device, as makedev(3) makes it.
+fn device_number(major: u32, minor: u32) -> u64
+    ensures { result ≡ device_number major minor }
+{
+    let (major, minor) = (u64::from(major), u64::from(minor));
+    (major / 4_096) * 17_592_186_044_416
+        + (major % 4_096) * 256
+        + (minor / 256) * 1_048_576
+        + minor % 256
 }

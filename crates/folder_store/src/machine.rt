@@ -2,8 +2,9 @@
 
 ghost use Rattle.std.specs.Prelude.{◌≤◌, length, IfOk};
 ghost use Rattle.folder_store.specs.MachineCalls.{names_read};
-ghost use Rattle.folder_store.specs.MachineCalls.MachineCall.{Opens, Enters, Looks, Follows, Examines, Cuts, Goes, Flushes, Reads, MakesDirectory, RemovesDirectory, RemovesFile, Renames};
+ghost use Rattle.folder_store.specs.MachineCalls.MachineCall.{Opens, Enters, Looks, LooksIn, Follows, Examines, Cuts, Goes, Flushes, Reads, MakesDirectory, RemovesDirectory, RemovesFile, Renames};
 
+use crate::entry_name::EntryName;
 use crate::looked::Looked;
 use std::fs::OpenOptions;
 use std::io;
@@ -37,6 +38,10 @@ pub trait FolderMachine: Alloc {
     /// Examines an entry; a link at the end of the place is not followed.
     fn look(&mut self, place: &str) -> io::Result<Looked>
         ensures { Does self.old (Looks place.now result) self.new };
+
+    /// Examines the entry with a name in an open directory; a link is not followed.
+    fn look_in(&mut self, directory: &Self::Directory, name: &EntryName) -> io::Result<Looked>
+        ensures { Does self.old (LooksIn directory.now name.now result) self.new };
 
     /// Examines an entry that may be reached through links.
     fn follow(&mut self, place: &str) -> io::Result<Looked>

@@ -1,7 +1,7 @@
 //! Properties of a folder of the machine: times, permissions, and files that are open twice.
 
-use crate::expect::{comes_out_in, fresh_folder, no_error, place_in, take_away};
-use folder_store::DirStore;
+use crate::expect::{comes_out_in, fresh_folder, holds, no_error, place_in, take_away};
+use folder_store::{DirStore, EntryName, FolderMachine, Looked};
 use std::alloc::Global;
 use std::fs::Permissions;
 use std::os::fd::AsRawFd;
@@ -10,7 +10,7 @@ use std::process::Abort;
 use std::rt::Files;
 use std::time::{Duration, UNIX_EPOCH};
 use std::{fs, io};
-use virtual_path::VPath;
+use virtual_path::{VPath, is_name};
 use virtual_tree::{Sink, Store, WriteMode};
 
 /// Makes a file with this modification time; 0 seconds if the time is out of range.
@@ -65,6 +65,33 @@ where
     comes_out_in(rt, *rt, folder, "read /g = abcdef");
 }
 
+/// Returns whether two answers are alike.
+fn is_alike(one: &Looked, other: &Looked) -> bool {
+    one.kind == other.kind
+        && one.length == other.length
+        && one.modified == other.modified
+        && one.device == other.device
+        && one.number == other.number
+}
+
+/// An entry is examined alike by its path and by its name in its open directory.
+fn check_examined<R>(rt: &R, folder: &str, entry: &str)
+where
+    R: Abort + Files + AllocGlobal + Copy + Drop,
+    R::File: AsRawFd,
+{
+    let mut machine = *rt;
+    let place = place_in(rt, folder, entry);
+    let by_path = machine.look(place.as_str()).expect(rt, "an entry");
+    let directory = machine.enter(folder).expect(rt, "a directory");
+    let mut name = EntryName::new();
+    if is_name(entry) {
+        name.set(entry);
+    }
+    let by_name = machine.look_in(&directory, &name).expect(rt, "an entry");
+    holds(rt, is_alike(&by_path, &by_name));
+}
+
 /// The calls on one folder, in which a file `f` was modified at a moment.
 fn check_folder<R>(rt: &R, folder: &str)
 where
@@ -74,6 +101,9 @@ where
     comes_out_in(rt, *rt, folder, "modified /f = 951827696");
     check_permissions(rt, folder);
     check_two_appends(rt, folder);
+    for entry in ["d", "f", "g"] {
+        check_examined(rt, folder, entry);
+    }
     take_away(rt, folder);
 }
 

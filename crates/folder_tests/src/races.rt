@@ -178,6 +178,27 @@ where
     take_away(rt, above.as_str());
 }
 
+/// A file that becomes a link after the names were read is not listed, and the link is not followed.
+fn check_listed_link<R>(rt: &R)
+where
+    R: Abort + Env + Files + AllocGlobal + Copy + Drop,
+    R::File: AsRawFd,
+{
+    let above = fresh_folder(rt, "listed_link");
+    comes_out_in(rt, *rt, above.as_str(), LAID_OUT);
+    let entry = place_in(rt, above.as_str(), "served/d/a");
+    let machine = Racing {
+        rt: *rt,
+        act: Act::LinkListed,
+        swapped: (entry.as_str(), "../../elsewhere/a"),
+        is_read: false,
+    };
+    let folder = place_in(rt, above.as_str(), "served");
+    comes_out_in(rt, machine, folder.as_str(), "names /d = b\nfaults = 0");
+    holds(rt, fs::read_link(rt, entry.as_str()).is_ok());
+    take_away(rt, above.as_str());
+}
+
 static SWAPPED: [(Act, &str); 2] = [
     (Act::SwapLate, BELOW_SWAPPED),
     (Act::SwapAtOnce, INTO_SWAPPED),
@@ -186,6 +207,7 @@ static SWAPPED: [(Act, &str); 2] = [
 #[test]
 fn links_and_swaps(rt: HostRuntime) {
     check_links(&rt);
+    check_listed_link(&rt);
     for (act, calls) in &SWAPPED {
         for call in calls.split('\n') {
             check_swapped(&rt, call, *act);

@@ -1,6 +1,6 @@
 //! A machine on which another process acts between two calls, or which refuses calls.
 
-use folder_store::{FolderMachine, Looked, LookedKind, OpenDirectory};
+use folder_store::{EntryName, FolderMachine, Looked, LookedKind, OpenDirectory};
 use std::fs::OpenOptions;
 use std::io;
 use std::rt::Files;
@@ -29,6 +29,9 @@ pub(crate) enum Act {
     KeepOctets,
     /// The machine fails when asked for the metadata of `a`.
     HideFirst,
+    /// It replaces the entry `a`, whose path is the first of `swapped`, by a link to the second, just before the entry is
+    /// examined for a listing.
+    LinkListed,
     /// It makes a file called `n` just after that name was checked.
     ComeLate,
     /// It makes an empty directory called `n` at that time.
@@ -50,7 +53,7 @@ pub(crate) enum Act {
 pub(crate) struct Racing<'a, R> {
     pub rt: R,
     pub act: Act,
-    /// The directory `d`, and its new path.
+    /// The entry that is swapped, such as the directory `d`, and its new path.
     pub swapped: (&'a str, &'a str),
     /// The names of a directory were read.
     pub is_read: bool,
@@ -75,6 +78,13 @@ impl<R: Files + Alloc> Racing<'_, R> {
             self.rt.symlink("../elsewhere", directory)?;
         }
         Ok(())
+    }
+
+    /// Replaces the entry by a link.
+    fn become_link(&mut self) -> io::Result<()> {
+        let (entry, target) = self.swapped;
+        FolderMachine::remove_file(&mut self.rt, entry)?;
+        self.rt.symlink(target, entry)
     }
 
     /// The action before a call by the path of an entry in the directory `d`, or of its names.
@@ -160,6 +170,18 @@ impl<R: Files + Alloc> FolderMachine for Racing<'_, R> {
             self.come_late(path)?;
         }
         reported
+    }
+
+    fn look_in(&mut self, directory: &OpenDirectory, name: &EntryName) -> io::Result<Looked> {
+        match self.act {
+            Act::HideFirst if name.text() == b"a".as_slice() => {
+                return Err(io::Error::from_raw_os_error(STALE));
+            }
+            Act::LinkListed if name.text() == b"a".as_slice() => self.become_link()?,
+            Act::SwapLate if name.text() != b"d".as_slice() => self.swap()?,
+            _ => (),
+        }
+        self.rt.look_in(directory, name)
     }
 
     fn follow(&mut self, path: &str) -> io::Result<Looked> {

@@ -1,6 +1,6 @@
 use Rattle.std.proofs.Common.{rules, ◌≡◌, ◌++◌, ◌+◌, ◌<◌, [], ◌∷◌, List, ℕ, map, string_bytes, length, take, drop, sym, ap, ◌∙◌}
 use Rattle.std.proofs.lemmas.List.{append-nil}
-use Rattle.folder_store.specs.Listings.{AreThoseInUtf8, names_in}
+use Rattle.folder_store.specs.Listings.{names_in}
 use Rattle.folder_store.proofs.Names.{after_one, cut_name, no_names}
 use Rattle.folder_store.proofs.listing.add_names.Goals as goal
 

@@ -1,11 +1,10 @@
-use Rattle.std.proofs.Common.{rules, ◌≡◌, ◌++◌, [], ◌∷◌, List, Some, inl, inr, map, refl, string_bytes, sym, ap, subst, ◌∙◌}
+use Rattle.std.proofs.Common.{rules, ◌≡◌, ◌++◌, [], ◌∷◌, Some, inl, inr, map, refl, string_bytes, sym, ap, subst, ◌∙◌}
 use Rattle.std.proofs.lemmas.List.{map-append}
 use Rattle.std.specs.Cmp.Lexicographic.{slice_cmp}
 use Rattle.std.specs.List.Sorted.{IsStrictlySortedBy}
 use Rattle.std.specs.Option.{IfSome, option_map}
 use Rattle.std.specs.Ordering.{nat_cmp}
-use Rattle.virtual_tree.specs.Calls.{Entry, entries_of, entry_of, names_of}
-use Rattle.virtual_tree.specs.declared.listed.ListedEntry.{ListedEntry}
+use Rattle.virtual_tree.specs.Calls.{entries_of, entry_of, names_of}
 use Rattle.folder_store.specs.Listings.{ComesLast, IsListedBefore, ListsNames, ShowsEntry}
 use Rattle.folder_store.proofs.Rising.{rising_none, rising_push}
 use Rattle.folder_store.proofs.folder.Folder.entries.Goals as goal
@@ -16,8 +15,8 @@ loop-name-init g c = record {
   path = refl;
   proc = refl;
   lists = λ entries new rest.
-      subst (λ ns. ListsNames g.M.FolderMachine.Does c.args.self.now.machine c.args.folder.now (map string_bytes ns) [] entries new) c.into_iter-name-iterator.ensures.into_iter_gives.0
-      (subst (λ ls. ListsNames g.M.FolderMachine.Does c.args.self.now.machine c.args.folder.now (map string_bytes c.into_iter-name-iterator.result.rest.items) (map entry_of ls) entries new) c.new-listed.ensures.items rest);
+      subst (λ ns. ListsNames g.M.FolderMachine.Does c.args.self.now.machine c.args.directory.now (map string_bytes ns) [] entries new) c.into_iter-name-iterator.ensures.into_iter_gives.0
+      (subst (λ ls. ListsNames g.M.FolderMachine.Does c.args.self.now.machine c.args.directory.now (map string_bytes c.into_iter-name-iterator.result.rest.items) (map entry_of ls) entries new) c.new-listed.ensures.items rest);
 }
 
 pub loop-name-preserved-else-is_err : goal.loop-name-preserved-else-is_err
@@ -37,12 +36,12 @@ loop-name-preserved-else-is_err g c =
       path = c.in_ok-entry.ensures.path ∙ was.path;
       proc = c.in_ok-entry.ensures.proc ∙ was.proc;
       lists = λ entries new rest. was.lists entries new
-          (subst (λ ns. ListsNames g.M.FolderMachine.Does c.loop-name.self.machine c.args.folder.now (map string_bytes ns) (entries_of c.loop-name.listed) entries new) (sym c.in-Some.ensures.steps.0)
+          (subst (λ ns. ListsNames g.M.FolderMachine.Does c.loop-name.self.machine c.args.directory.now (map string_bytes ns) (entries_of c.loop-name.listed) entries new) (sym c.in-Some.ensures.steps.0)
           (inr (
             Some (entry_of c.in-Some-2.entry),
             c.entry.new.self.machine,
-            subst (λ found. ShowsEntry g.M.FolderMachine.Does c.loop-name.self.machine c.args.folder.now (string_bytes c.in-Some.name) (option_map entry_of found) c.entry.new.self.machine) c.in-Some-2.is c.in_ok-entry.ensures.shown,
-            subst (λ listed. ListsNames g.M.FolderMachine.Does c.entry.new.self.machine c.args.folder.now (map string_bytes c.next.new.self.rest.items) listed entries new) all rest,
+            subst (λ found. ShowsEntry g.M.FolderMachine.Does c.loop-name.self.machine c.args.directory.now (string_bytes c.in-Some.name) (option_map entry_of found) c.entry.new.self.machine) c.in-Some-2.is c.in_ok-entry.ensures.shown,
+            subst (λ listed. ListsNames g.M.FolderMachine.Does c.entry.new.self.machine c.args.directory.now (map string_bytes c.next.new.self.rest.items) listed entries new) all rest,
           )));
     }
 
@@ -57,5 +56,5 @@ loop-name-preserved g c =
       path = was.path;
       proc = was.proc;
       lists = λ entries new rest. was.lists entries new
-          (subst (λ ns. ListsNames g.M.FolderMachine.Does c.loop-name.self.machine c.args.folder.now (map string_bytes ns) (entries_of c.loop-name.listed) entries new) (sym c.in-Some.ensures.steps.0) (inl (before, rest)));
+          (subst (λ ns. ListsNames g.M.FolderMachine.Does c.loop-name.self.machine c.args.directory.now (map string_bytes ns) (entries_of c.loop-name.listed) entries new) (sym c.in-Some.ensures.steps.0) (inl (before, rest)));
     }

@@ -11,6 +11,6 @@ invariant-loop-name g l = record {
   rises : IsStrictlySortedBy (slice_cmp nat_cmp) (names_of l.listed);
   path : l.self.path ≡ l.fn.self.path;
   proc : l.self.has_proc ≡ l.fn.self.has_proc;
-  lists : (entries : List Entry) (new : g.row.M.Denot) → ListsNames g.M.FolderMachine.Does l.self.machine l.folder (map string_bytes l.name-iterator.rest.items) (entries_of l.listed) entries new
-      → ListsNames g.M.FolderMachine.Does l.fn.self.machine l.folder (map string_bytes l.fn.names.items) [] entries new;
+  lists : (entries : List Entry) (new : g.row.M.Denot) → ListsNames g.M.FolderMachine.Does l.self.machine l.directory (map string_bytes l.name-iterator.rest.items) (entries_of l.listed) entries new
+      → ListsNames g.M.FolderMachine.Does l.fn.self.machine l.directory (map string_bytes l.fn.names.items) [] entries new;
 }

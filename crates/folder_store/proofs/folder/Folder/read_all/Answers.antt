@@ -1,4 +1,4 @@
-use Rattle.std.proofs.Common.{rules, ◌≡◌, ◌∷◌, [], ◌++◌, List, ℕ, Ok, map, refl, string_bytes, subst, take, sym, ap, ◌∙◌}
+use Rattle.std.proofs.Common.{rules, ◌≡◌, ◌∷◌, [], List, ℕ, Ok, map, refl, string_bytes, subst, take, ap}
 use Rattle.folder_store.specs.Listings.{ReadsNames}
 use Rattle.folder_store.specs.MachineCalls.MachineCall.{Reads}
 use Rattle.folder_store.proofs.folder.Folder.read_all.Goals as goal

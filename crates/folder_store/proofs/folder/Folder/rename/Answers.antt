@@ -1,4 +1,4 @@
-use Rattle.std.proofs.Common.{◌≡◌, List, ℕ, Ok, refl, string_bytes, subst, sym, ◌∙◌}
+use Rattle.std.proofs.Common.{◌≡◌, Ok, string_bytes, subst, sym, ◌∙◌}
 use Rattle.folder_store.specs.Moving.{MovesToFree}
 use Rattle.folder_store.specs.Served.{ShowsMeta}
 use Rattle.folder_store.specs.Walks.{WalksTo, walker}

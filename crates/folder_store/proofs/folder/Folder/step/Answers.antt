@@ -1,4 +1,4 @@
-use Rattle.std.proofs.Common.{◌≡◌, ◌++◌, ◌∷◌, List, ℕ, Err, Ok, inr, refl, sym, subst, ◌∙◌}
+use Rattle.std.proofs.Common.{◌≡◌, ◌++◌, ◌∷◌, List, ℕ, Err, Ok, inr, subst, ◌∙◌}
 use Rattle.folder_store.specs.MachineCalls.MachineCall.{Enters, Looks}
 use Rattle.folder_store.proofs.Walking.{if_ok}
 use Rattle.folder_store.proofs.folder.Folder.step.Goals as goal

@@ -26,7 +26,8 @@ sys.path.insert(0, os.path.join(os.path.dirname(os.path.abspath(__file__)), ".."
 import xferlog_reading  # noqa: E402
 from serving_kit import STAMP, Client, Data, Refused, Server, same, want  # noqa: E402
 
-PASSIVE = 400
+# Passive ports: fewer than there may be clients, and so many that sessions keep theirs.
+PASSIVE, KEPT = 400, 520
 BIG = 8_000_000
 LONGEST = 300_000
 USERS = """
@@ -329,7 +330,7 @@ def main(ftpd, seconds="120", clients="120"):
     print(f"seed {seed}")
     with (
         Server(sessions=0, root="folder", files={"big": BIG, "f": b"a\nb"}, users=USERS, server=f"{TABLES}\n{RATES}", rates=FLOOR, passive=PASSIVE, stop=True, words=WORDS) as first,
-        Server(sessions=0, users=USERS, server=TABLES, passive=PASSIVE, stop=True, words=WORDS) as second,
+        Server(sessions=0, users=USERS, server=TABLES, passive=KEPT, stop=True, words=WORDS) as second,
     ):
         servers = [first, second]
         before = [(it.threads(), it.open_files()) for it in servers]

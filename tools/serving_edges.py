@@ -10,7 +10,7 @@ import struct
 import threading
 import time
 
-from serving_kit import Client, Data, Server, same, until, want
+from serving_kit import SECONDS, Client, Data, Server, same, until, want
 
 # The second address of this machine's loop.
 OTHER = "127.0.0.2"
@@ -222,6 +222,67 @@ def time_outs_are_set():
         server.ended()
 
 
+def is_unread(data):
+    """Whether a data connection is closed without an octet."""
+    try:
+        return data.whole() == b""
+    except ConnectionResetError:
+        return True
+
+
+def a_kept_passive_port():
+    """With a port for each connection a session keeps its port for the next transfer. A connection that was made to it before is closed and not taken. A port of the client's own, and the end, give it back."""
+    with Server(sessions=0, server="max_cons = 2", passive=2, stop=True) as server:
+        files, client = server.open_files(), Client(server)
+        port = client.passive_port()
+        first, second = Data(port), Data(port)
+        client.says("RETR f", "150 Opening data connection")
+        same(first.whole(), b"a\nb", "the file")
+        client.says(None, "226 Transfer complete")
+        same(client.passive_port(), port, "the port of the next transfer")
+        want(is_unread(second), "a second connection to the port of the transfer before got octets")
+        client.says("STOR up", "150 Opening data connection")
+        third = Data(port)
+        third.socket.sendall(b"new")
+        third.close()
+        client.says(None, "226 Transfer complete")
+        crowd = [Data(port) for _ in range(20)]
+        other = client.passive_port()
+        want(other != port, "a port at which many wait was taken for the next transfer")
+        want(all([is_unread(it) for it in crowd]), "a connection of the transfer before got octets")
+        client.says("RETR up", "150 Opening data connection")
+        same(Data(other).whole(), b"new", "the file")
+        client.says(None, "226 Transfer complete")
+        with socket.create_server(("127.0.0.1", 0)) as listener:
+            listener.settimeout(SECONDS)
+            own = listener.getsockname()[1]
+            client.says(f"PORT 127,0,0,1,{own // 256},{own % 256}", "200 OK")
+            until(lambda: is_closed("127.0.0.1", other), "the end of the kept port")
+            client.says("RETR f", "150 Opening data connection")
+            data, _ = listener.accept()
+            with data, data.makefile("rb") as text:
+                same(text.read(), b"a\nb", "the file")
+            client.says(None, "226 Transfer complete")
+        another = Client(server)
+        for _ in range(3):
+            same(another.retrieve("f"), b"a\nb", "the file of another")
+            same(client.retrieve("f"), b"a\nb", "the file")
+        client.reset()
+        another.quit()
+        until(lambda: server.open_files() == files, "no port is open")
+        server.stop()
+        server.ended()
+    with Server(server="max_cons = 3", passive=2) as server:
+        client = Client(server)
+        port = client.passive_port()
+        client.says("RETR f", "150 Opening data connection")
+        same(Data(port).whole(), b"a\nb", "the file")
+        client.says(None, "226 Transfer complete")
+        want(is_closed("127.0.0.1", port), "a port that another session may need is kept")
+        client.quit()
+        server.ended()
+
+
 def a_listing_delays_nobody():
     """While a session lists many entries of a folder, another has its own calls answered."""
     with Server(sessions=2, root="folder", files={"f": b"abc", "big": None}) as server:
@@ -342,6 +403,7 @@ def closed_streams_are_the_null_device():
 ROWS = [
     it_listens_at_its_address_alone,
     time_outs_are_set,
+    a_kept_passive_port,
     a_listing_delays_nobody,
     a_brief_download_wakes_no_lane,
     files_of_any_length,

@@ -22,8 +22,9 @@ use transfer_ticket::TicketRun;
 use transfer_worker::LaneJob;
 use virtual_tree::{Sink, Source, Store};
 
-/// The longest wait of an idle lane before it checks by itself, in milliseconds. Each transfer pushed wakes one.
-const IDLE: u64 = 1_000;
+/// The longest wait of an idle lane before it checks by itself, in milliseconds. Each transfer pushed wakes one, and the
+/// end of the lanes wakes all.
+const IDLE: u64 = 10_000;
 
 // Returns whether octets are received.
 fn is_upload<R: Source, K: Sink, C: Read + Write + Drop>(job: &LaneJob<R, K, C>) -> bool

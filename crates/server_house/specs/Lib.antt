@@ -1,5 +1,6 @@
 pub mod Names
 pub mod Peers
+pub mod Ports
 pub mod Settings
 pub mod Sockets
 pub mod Sources

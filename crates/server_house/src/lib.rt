@@ -37,7 +37,9 @@ pub use lane::LaneSign;
 pub use outgoing::{Outgoing, Progress};
 pub use own_address::OwnAddress;
 pub use own_runs::OwnRuns;
-pub use passive::{accept_from, address_octets, listen, socket_address};
+pub use passive::{
+    accept_from, address_octets, empty_queue, listen, may_keep_ports, socket_address,
+};
 pub use runtime::ServerRuntime;
 pub use served::{Listing, Served};
 pub use server_hooks::{

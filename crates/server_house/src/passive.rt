@@ -1,12 +1,15 @@
 //! Passive ports: listening, and accepting the peer.
 
-ghost use Rattle.std.specs.Prelude.{◌↔◌, IsTrue};
+ghost use Rattle.std.specs.Prelude.{◌≡◌, ◌↔◌, IsTrue};
 ghost use Rattle.server_house.specs.Peers.{IsAddress, IsFrom, IsOctetsOf, IsWanted};
+ghost use Rattle.server_house.specs.Ports.{may_keep_ports, none_waits};
 
+use server_config::ServerNumbers;
 use std::io;
+use std::io::ErrorKind;
 use std::net::{Ipv4Addr, Net, SocketAddr, SocketAddrV4, TcpListener, TcpStream};
 
-/// Most connections examined in one call; the others wait for the next call.
+/// Most connections accepted in one call; the others wait for the next call.
 const MOST_STRANGERS: usize = 16;
 
 /// The address of a socket.
@@ -35,6 +38,24 @@ where
     let listener = TcpListener::bind(rt, at)?;
     listener.set_nonblocking(true)?;
     Ok(listener)
+}
+
+/// Returns whether sessions keep their passive ports between transfers: if the range has as many ports as there can be
+/// connections, so that nobody lacks a port that another session keeps.
+pub fn may_keep_ports(numbers: &ServerNumbers) -> bool
+    ensures keep { result ≡ may_keep_ports numbers.now }
+{
+    let ports = (u32::from(numbers.passive_last) + 1).saturating_sub(u32::from(
+        numbers.passive_first,
+    ));
+    ports >= u32::from(numbers.max_cons)
+}
+
+// Returns whether a call that accepts found no connection, by its error.
+fn none_waits(kind: ErrorKind) -> bool
+    ensures none { result ≡ none_waits kind }
+{
+    kind == ErrorKind::WouldBlock
 }
 
 fn is_from(from: SocketAddr, peer: [u8; 4]) -> bool
@@ -70,4 +91,16 @@ pub fn accept_from(listener: &TcpListener, peer: Option<[u8; 4]>) -> Option<TcpS
         }
     }
     None
+}
+
+/// Accepts and closes the connections that wait at a listener. Returns whether none waits any more: `false` after
+/// `MOST_STRANGERS` of them, or if the machine reports an error.
+pub fn empty_queue(listener: &TcpListener) -> bool {
+    for _ in 0..MOST_STRANGERS {
+        match listener.accept() {
+            Ok((stream, _)) => drop(stream),
+            Err(error) => return none_waits(error.kind()),
+        }
+    }
+    false
 }

@@ -1,6 +1,7 @@
 pub mod Causes
 pub mod Cuts
 pub mod Jobs
+pub mod Keeping
 pub mod Records
 pub mod Refusals
 pub mod Replied

@@ -55,9 +55,9 @@ abbrev pub answer_time : ℕ
 answer_time = 5_000_000
 
 -- the time until the next look for a data connection, in milliseconds, by the microseconds waited
--- so far: a tenth of these, from 20 to 200
+-- so far: a tenth of these, from 20 to 1,000
 abbrev pub pause_after : ℕ → ℕ
-pause_after waited = min (max (waited / 10000) 20) 500
+pause_after waited = min (max (waited / 10000) 20) 1000
 
 module _ {J : Type 0} where
   -- the session has asked for the end of what is on its ticket

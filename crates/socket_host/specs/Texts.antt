@@ -20,11 +20,11 @@ is_pause TimedOut = true
 is_pause Interrupted = true
 is_pause _ = false
 
--- the time-out of a read, in milliseconds: one while something runs, otherwise 200, or 1,000 once
+-- the time-out of a read, in milliseconds: one while something runs, otherwise 200, or 2,000 once
 -- fifty reads in a row found nothing
 abbrev pub time_out_of : Bool → ℕ → ℕ
 time_out_of true silences = 1
-time_out_of false silences = if nat_lt silences 50 then 200 else 1000
+time_out_of false silences = if nat_lt silences 50 then 200 else 2000
 
 -- the last reply to a client that has passed a limit of time
 abbrev pub time_out_reply : TimeOut → List ℕ

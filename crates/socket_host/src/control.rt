@@ -18,7 +18,7 @@ use std::time::Duration;
 const IDLE: u64 = 200;
 
 /// The same of a client that is silent: more seldom, since each time-out wakes the session's thread.
-const SILENT: u64 = 1_000;
+const SILENT: u64 = 2_000;
 
 /// Number of reads in a row that found nothing, after which a client is silent: ten seconds.
 const SILENCES: u32 = 50;

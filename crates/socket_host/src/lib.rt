@@ -3,8 +3,9 @@
 //! A [`SocketHost`] is what `control_session` runs a session over: it lends the store and the floors of the house for
 //! each step, behind their locks, reads and writes the control connection, and has the data side of the session: it
 //! begins what it is asked for, a port that is listened on or a transfer, and is asked later for the result, as
-//! `control_session` defines. Contracts say what is prepared and what runs after each call, and what is reported. They
-//! say nothing of the network: not that a port is given back, nor that a client comes.
+//! `control_session` defines. Contracts say what is prepared and what runs after each call, what is reported, and which
+//! port is kept for the next transfer. They say nothing of the network: not that a port is given back, nor that a client
+//! comes.
 //!
 //! [`serve_session`] runs a client's whole session, from the greeting to the end. A read waits at most 200 ms, or until
 //! a running transfer has ended. A client that passes a limit of time is told so, and is gone for the session (`client_patience`).
@@ -12,6 +13,7 @@
 
 mod control;
 mod host;
+mod keeping;
 mod moments;
 mod ports;
 mod replying;

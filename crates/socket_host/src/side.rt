@@ -5,11 +5,13 @@ ghost use Rattle.session_core.specs.declared.events.DataEvent.TheVariants.{Ready
 ghost use Rattle.server_house.specs.declared.cause.EndCause.TheVariants as cause;
 ghost use Rattle.session_table.specs.declared.inputs.End.TheVariants.{Aborted, NoConnection, NoMemory};
 ghost use Rattle.socket_host.specs.Causes.{AbortCause, GoesCause, LookCause, StartCause, TakenCause, cause_of};
+ghost use Rattle.socket_host.specs.Keeping.{GoesKeeps, Keeps, LookKeeps, StartKeeps, may_keep, without_port};
 ghost use Rattle.socket_host.specs.Running.{Aborts, GoesOn, IsAwaited, IsConnecting, IsHandedOver, IsMovedBy, IsNoTarget, Looks, RestsOn, Settles, Starts, TakesEnd, event_of, is_busy, is_moving, over, pause_after, port_in};
 ghost use Rattle.transfer_ticket.specs.Tickets as ticket;
 ghost use Rattle.transfer_ticket.specs.Views.{owner_view};
 ghost use Rattle.transfer_ticket.specs.declared.view.TicketView.TheVariants.{Idle};
 
+use crate::keeping::KeptPort;
 use crate::ports::SharedPorts;
 use crate::run::{SessionRun, Taken};
 use crate::running::{Prepared, Running, is_brief, is_upload, lane_job, over};
@@ -19,7 +21,7 @@ use lent_parts::PartsName;
 use passive_ports::{MOST_TRIES, open_passive};
 use server_house::{
     DataConnection, EndCause, House, LaneEnds, Outgoing, OwnRuns, Progress, ServerRuntime,
-    SessionEnd, SessionJob, TransferEnd, accept_from, socket_address,
+    SessionEnd, SessionJob, TransferEnd, accept_from, empty_queue, socket_address,
 };
 use session_core::DataEvent;
 use session_table::{End, Job};
@@ -50,7 +52,7 @@ const USUAL: u64 = 100_000;
 /// The shortest and the longest time between two looks for one that has not come by then, in milliseconds.
 const SHORTEST_PAUSE: u64 = 20;
 
-const LONGEST_PAUSE: u64 = 500;
+const LONGEST_PAUSE: u64 = 1_000;
 
 // The time until the next look for a data connection, in milliseconds: a tenth of the microseconds waited so far.
 fn pause_after(waited: u64) -> u64
@@ -106,6 +108,8 @@ pub struct SocketSide<'h, R, S: Store<Global>, H: Drop, B: PartsName, T> {
     session: u32,
     run: SessionRun<'h, S>,
     prepared: Prepared,
+    // the port of the transfer before, if it is kept for the next
+    kept: KeptPort,
     // the reason for the last end that was made or taken, unless it is that all was moved
     cause: Option<EndCause>,
     // the number of octets that the last transfer had moved whose end was taken
@@ -138,6 +142,8 @@ where
         ensures prepared { result.prepared ≡ Prepared.Nothing }
         ensures running { result.run.running ≡ Running.Nothing }
         ensures ready { result.ready ≡ None }
+        ensures keeps { result.kept.keeps ≡ may_keep house.now.numbers wanted }
+        ensures kept { result.kept.at ≡ None }
     {
         SocketSide {
             rt,
@@ -147,6 +153,7 @@ where
             session,
             run: SessionRun::new(owner),
             prepared: Prepared::Nothing,
+            kept: KeptPort::new(&house.numbers, wanted),
             cause: None,
             moved: 0,
             ready: None,
@@ -160,6 +167,7 @@ where
         ensures running { self.new.run.running ≡ self.old.run.running }
         ensures ready { self.new.ready ≡ self.old.ready }
         ensures cause { self.new.cause ≡ self.old.cause }
+        ensures kept { self.new.kept ≡ self.old.kept }
     {
         let before = mem::replace(&mut self.prepared, Prepared::Nothing);
         match before {
@@ -173,11 +181,35 @@ where
         self.house.ports.lock(self.rt).give_back(port);
     }
 
+    fn close(&self, port: Option<(TcpListener, u16)>) {
+        if let Some((listener, port)) = port {
+            self.close_port(listener, port);
+        }
+    }
+
+    // Takes the port that is kept, with its listener, once no connection waits there: one that does was made to the port
+    // of the transfer before, and is closed. If the queue is not empty then, the port is closed instead.
+    fn take_kept(&mut self) -> Option<(u16, TcpListener)>
+        ensures found { IfSome result (λ found. self.old.kept.at ≡ Some (found.1, found.0)) }
+        ensures none { self.new.kept ≡ without_port self.old.kept }
+        ensures prepared { self.new.prepared ≡ self.old.prepared }
+        ensures running { self.new.run.running ≡ self.old.run.running }
+        ensures cause { self.new.cause ≡ self.old.cause }
+    {
+        let (listener, port) = self.kept.take()?;
+        if empty_queue(&listener) {
+            return Some((port, listener));
+        }
+        self.close_port(listener, port);
+        None
+    }
+
     // Leases a port and listens on it. If none could be listened on, the error of the last is kept.
     fn listening(&mut self) -> Option<(u16, TcpListener)>
         ensures prepared { self.new.prepared ≡ self.old.prepared }
         ensures running { self.new.run.running ≡ self.old.run.running }
         ensures cause { self.new.cause ≡ self.old.cause }
+        ensures kept { self.new.kept ≡ self.old.kept }
     {
         let mut ports = SharedPorts {
             rt: self.rt,
@@ -213,14 +245,29 @@ where
         self.moved
     }
 
-    /// Listens on a passive port, if one is free. The next look reports it.
+    // Takes the port that is kept, or leases another one and listens on it.
+    fn find_port(&mut self) -> Option<(u16, TcpListener)>
+        ensures none { self.new.kept ≡ without_port self.old.kept }
+        ensures prepared { self.new.prepared ≡ self.old.prepared }
+        ensures running { self.new.run.running ≡ self.old.run.running }
+        ensures cause { self.new.cause ≡ self.old.cause }
+    {
+        match self.take_kept() {
+            Some(found) => Some(found),
+            None => self.listening(),
+        }
+    }
+
+    /// Listens on a passive port, that which is kept or another one, if one is free. The next look reports it. No
+    /// connection waits there that was made before this call.
     pub fn open_passive(&mut self)
         ensures ready { self.new.ready ≡ Some (port_in self.new.prepared) }
         ensures prepared { IsNoTarget self.new.prepared }
         ensures running { self.new.run.running ≡ self.old.run.running }
+        ensures kept { self.new.kept ≡ without_port self.old.kept }
     {
         self.drop_data();
-        match self.listening() {
+        match self.find_port() {
             Some((port, listener)) => {
                 self.prepared = Prepared::Listening(listener, port);
                 self.ready = Some(Some(port));
@@ -229,13 +276,16 @@ where
         }
     }
 
-    /// Makes the next transfer connect to this port.
+    /// Makes the next transfer connect to this port. Keeps no port of its own.
     pub fn connect_to(&mut self, to: HostPort)
         ensures prepared { self.new.prepared ≡ Prepared.Target to }
         ensures running { self.new.run.running ≡ self.old.run.running }
         ensures ready { self.new.ready ≡ self.old.ready }
+        ensures kept { self.new.kept ≡ without_port self.old.kept }
     {
         self.drop_data();
+        let kept = self.kept.take();
+        self.close(kept);
         self.prepared = Prepared::Target(to);
     }
 
@@ -245,6 +295,7 @@ where
         ensures running { IsHandedOver job self.new.run.running }
         ensures prepared { self.new.prepared ≡ self.old.prepared }
         ensures ready { self.new.ready ≡ self.old.ready }
+        ensures kept { self.new.kept ≡ self.old.kept }
     {
         if is_upload(&job) {
             let _ = stream.set_read_timeout(Some(Duration::from_millis(STANDSTILL)));
@@ -265,6 +316,7 @@ where
         ensures cause { self.new.cause ≡ Some cause.NoMemory }
         ensures prepared { self.new.prepared ≡ self.old.prepared }
         ensures ready { self.new.ready ≡ self.old.ready }
+        ensures kept { self.new.kept ≡ self.old.kept }
     {
         self.cause = Some(EndCause::NoMemory);
         self.run.running = over(End::NoMemory, job);
@@ -283,6 +335,7 @@ where
         ensures prepared { self.new.prepared ≡ self.old.prepared }
         ensures ready { self.new.ready ≡ self.old.ready }
         ensures cause { self.new.cause ≡ self.old.cause }
+        ensures kept { self.new.kept ≡ self.old.kept }
     {
         let is_brief = is_brief(&job);
         let job = lane_job(job, theirs, user, self.session);
@@ -308,12 +361,13 @@ where
         ensures cause { self.new.cause ≡ Some why }
         ensures prepared { self.new.prepared ≡ self.old.prepared }
         ensures ready { self.new.ready ≡ self.old.ready }
+        ensures kept { self.new.kept ≡ self.old.kept }
     {
         self.cause = Some(why);
         self.run.running = over(End::NoConnection, job);
     }
 
-    // Checks once, at this moment, whether the client has connected to its port.
+    // Checks once, at this moment, whether the client has connected to its port. The port is then kept, if ports are.
     fn await_client(
         &mut self,
         listener: TcpListener,
@@ -327,10 +381,12 @@ where
         ensures running { IsAwaited listener port job since now self.new.run.running }
         ensures prepared { self.new.prepared ≡ self.old.prepared }
         ensures ready { self.new.ready ≡ self.old.ready }
+        ensures kept { Keeps self.old.kept (listener, port) self.new.run.running self.new.kept }
     {
         match accept_from(&listener, self.wanted) {
             Some(stream) => {
-                self.close_port(listener, port);
+                let closed = self.kept.keep(listener, port);
+                self.close(closed);
                 self.hand_over(stream, job, user);
             }
             None => {
@@ -362,6 +418,7 @@ where
         ensures running { IsConnecting job since now self.new.run.running }
         ensures prepared { self.new.prepared ≡ self.old.prepared }
         ensures ready { self.new.ready ≡ self.old.ready }
+        ensures kept { self.new.kept ≡ self.old.kept }
     {
         match outgoing.progress() {
             Progress::Connected(stream) => self.hand_over(stream, job, user),
@@ -387,6 +444,7 @@ where
         ensures running { Starts (Prepared.Target to) job now self.new.run.running }
         ensures prepared { self.new.prepared ≡ self.old.prepared }
         ensures ready { self.new.ready ≡ self.old.ready }
+        ensures kept { self.new.kept ≡ self.old.kept }
     {
         match Outgoing::begin(self.rt, socket_address(to.address, to.port)) {
             Ok(outgoing) => self.await_answer(outgoing, job, now, now, user),
@@ -399,6 +457,7 @@ where
         ensures running { self.new.run.running ≡ Running.Nothing }
         ensures prepared { self.new.prepared ≡ self.old.prepared }
         ensures ready { self.new.ready ≡ self.old.ready }
+        ensures kept { self.new.kept ≡ self.old.kept }
     {
         self.abort();
         self.await_end();
@@ -411,6 +470,8 @@ where
         ensures prepared { self.new.prepared ≡ Prepared.Nothing }
         ensures ready { self.new.ready ≡ self.old.ready }
         ensures cause { StartCause self.old.prepared self.new.cause }
+        ensures kept { StartKeeps self.old.prepared self.old.kept self.new.run.running
+            self.new.kept }
     {
         self.clear();
         let prepared = mem::replace(&mut self.prepared, Prepared::Nothing);
@@ -433,6 +494,7 @@ where
         ensures ready { self.new.ready ≡ self.old.ready }
         ensures cause { AbortCause self.old.run.running self.new.run.running self.old.cause
             self.new.cause }
+        ensures kept { self.new.kept ≡ self.old.kept }
     {
         let is_open = !matches!(&self.run.running, Running::Nothing | Running::Over(_));
         if let Some((listener, port)) = self.run.abort() {
@@ -452,6 +514,7 @@ where
         ensures ready { self.new.ready ≡ self.old.ready }
         ensures cause { TakenCause self.old.run.running result self.old.cause self.new.cause }
         ensures moved { IsMovedBy result self.new.moved }
+        ensures kept { self.new.kept ≡ self.old.kept }
     {
         match self.run.take_end() {
             Taken::Nothing => None,
@@ -480,6 +543,8 @@ where
         ensures prepared { self.new.prepared ≡ self.old.prepared }
         ensures ready { self.new.ready ≡ self.old.ready }
         ensures cause { GoesCause self.old.run.running self.old.cause self.new.cause }
+        ensures kept { GoesKeeps self.old.run.running self.old.kept self.new.run.running
+            self.new.kept }
     {
         match self.run.take_out() {
             Some(
@@ -515,6 +580,9 @@ where
         ensures prepared { self.new.prepared ≡ self.old.prepared }
         ensures cause { IfNone self.old.ready
             (LookCause self.old.run.running result self.old.cause self.new.cause) }
+        ensures same { IfSome self.old.ready (λ port. self.new.kept ≡ self.old.kept) }
+        ensures kept { IfNone self.old.ready
+            (LookKeeps self.old.run.running self.old.kept self.new.run.running self.new.kept) }
     {
         if let Some(port) = self.ready.take() {
             return Some(DataEvent::Ready(port));
@@ -556,6 +624,7 @@ where
         ensures running { self.new.run.running ≡ Running.Nothing }
         ensures prepared { self.new.prepared ≡ self.old.prepared }
         ensures ready { self.new.ready ≡ self.old.ready }
+        ensures kept { self.new.kept ≡ self.old.kept }
     {
         let rt = self.rt;
         for _ in rt.forever() {
@@ -581,6 +650,7 @@ where
         ensures running { self.new.run.running ≡ Running.Nothing }
         ensures prepared { self.new.prepared ≡ Prepared.Nothing }
         ensures ready { self.new.ready ≡ None }
+        ensures kept { self.new.kept ≡ self.old.kept }
     {
         self.drop_data();
         self.ready = None;
@@ -590,11 +660,22 @@ where
         self.await_end()
     }
 
-    /// Leaves the ticket to the next session. A transfer that still runs is ended.
+    /// Leaves the ticket to the next session. A transfer that still runs is ended, and no port is listened on.
     pub fn leave(self) {
         let mut side = self;
         side.drop_data();
         side.clear();
+        let kept = side.kept.take();
+        side.close(kept);
+        side.part();
+    }
+
+    // Leaves the ticket, with nothing running and no port listened on.
+    fn part(self)
+        requires running { self.run.running ≡ Running.Nothing }
+        requires prepared { self.prepared ≡ Prepared.Nothing }
+        requires kept { self.kept.at ≡ None }
+    {
         let SocketSide {
             rt: _,
             house: _,
@@ -603,11 +684,12 @@ where
             session: _,
             run,
             prepared: _,
+            kept: _,
             cause: _,
             moved: _,
             ready: _,
             port_fault: _,
-        } = side;
+        } = self;
         run.leave();
     }
 }

@@ -1,0 +1,15 @@
+-- Passive ports that sessions keep.
+use Rattle.std.specs.Prelude.{Bool, true, false, ◌+◌, ◌-◌, nat_le}
+use Rattle.std.specs.declared.io.ErrorKind.{ErrorKind}
+use Rattle.std.specs.declared.io.ErrorKind.TheVariants.{WouldBlock}
+use Rattle.server_config.specs.declared.settings.ServerNumbers.{ServerNumbers}
+
+-- there are as many ports, from the first to the last, as there can be connections
+abbrev pub may_keep_ports : ServerNumbers → Bool
+may_keep_ports numbers =
+    nat_le numbers.max_cons (numbers.passive_last + 1 - numbers.passive_first)
+
+-- a call that accepts and fails by this found no connection, and no other fault
+abbrev pub none_waits : ErrorKind → Bool
+none_waits WouldBlock = true
+none_waits _ = false

@@ -23,8 +23,9 @@ use transfer_worker::LaneJob;
 use virtual_tree::{Sink, Source, Store};
 
 /// The longest wait of an idle lane before it checks by itself, in milliseconds. Each transfer pushed wakes one, and the
-/// end of the lanes wakes all.
-const IDLE: u64 = 10_000;
+/// end of the lanes wakes all; but a lane that is woken while a session has its seat waits for that session, and another
+/// lane then takes the transfer.
+const IDLE: u64 = 2_000;
 
 // Returns whether octets are received.
 fn is_upload<R: Source, K: Sink, C: Read + Write + Drop>(job: &LaneJob<R, K, C>) -> bool

@@ -10,6 +10,7 @@ use paced_rounds::{HeldNames, PacedRounds};
 use round_tally::{RoundGrant, Tallies, held_back};
 
 /// The limits of a round that was held at a moment, and what it left of their rows.
+#[derive(Drop)]
 pub(crate) struct RoundLimits<'a> {
     pub names: &'a HeldNames,
     pub rounds: &'a PacedRounds<()>,

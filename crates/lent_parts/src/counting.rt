@@ -15,7 +15,7 @@ pub(crate) struct RoundLimits<'a> {
     pub names: &'a HeldNames,
     pub rounds: &'a PacedRounds<()>,
     pub asks: &'a [Ask],
-    pub now: u64,
+    pub moment: u64,
 }
 
 impl<'a> RoundLimits<'a> {
@@ -23,11 +23,11 @@ impl<'a> RoundLimits<'a> {
     fn held(&self, leaf: usize) -> Option<Name>
         ensures held { result ≡ held_of (slice_index_or self.now.names.now.names leaf None)
             (slice_get self.now.asks.now leaf) self.now.rounds.now.pace
-            self.now.rounds.now.cadence self.now.now }
+            self.now.rounds.now.cadence self.now.moment }
     {
         match (self.names.of(leaf), self.asks.get(leaf)) {
             (Some(name), Some(ask)) => {
-                let closed = self.rounds.closed_by(*ask, self.now);
+                let closed = self.rounds.closed_by(*ask, self.moment);
                 held_back(Some(name), closed)
             }
             _ => None,

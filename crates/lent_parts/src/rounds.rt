@@ -153,7 +153,7 @@ impl<B: PartsName> LentRounds<B> {
                 names: &self.names,
                 rounds: &self.rounds,
                 asks: &made.asks,
-                now,
+                moment: now,
             };
             count_all(
                 &mut self.tallies,

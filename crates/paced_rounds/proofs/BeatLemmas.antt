@@ -9,10 +9,10 @@ use Rattle.round_cadence.specs.Cadences.{Beats, add_to, settle_of}
 use Rattle.paced_rounds.specs.History.{leaves}
 use Rattle.paced_rounds.specs.Beating.{add_all, settle_all}
 
-pub add_next : (p : Paced) (xs : List Ask) (ns : List ℕ) (d : Ask) (i : ℕ) (b c : Beats) (rows : TransferRows) → i < length xs → length xs ≡ length ns → c ≡ add_to (get_or xs i d).way (get_or xs i d).user rows (get_or ns i 0) b → rows ≡ rows_of (get_or xs i d).way (get_or xs i d).user p
+pub add_next : (p : Paced) (xs : List Ask) (ns : List ℕ) (d : Ask) (i : ℕ) (b c : Beats) (rows : TransferRows) → i < length xs → length xs ≡ length ns → c ≡ add_to (get_or xs i d) rows (get_or ns i 0) b → rows ≡ rows_of (get_or xs i d).way (get_or xs i d).user p
     → add_all p (leaves (drop (i + 1) xs) (drop (i + 1) ns)) c ≡ add_all p (leaves (drop i xs) (drop i ns)) b
 add_next p xs ns d i b c rows h e is same =
-    ap (add_all p (leaves (drop (i + 1) xs) (drop (i + 1) ns))) (is ∙ ap (λ (r : TransferRows). add_to (get_or xs i d).way (get_or xs i d).user r (get_or ns i 0) b) same)
+    ap (add_all p (leaves (drop (i + 1) xs) (drop (i + 1) ns))) (is ∙ ap (λ (r : TransferRows). add_to (get_or xs i d) r (get_or ns i 0) b) same)
     ∙ (λ k. add_all p (leaves (sym (drops xs d i h) k) (sym (drops ns 0 i (omega (arith, h, e))) k)) b)
 
 pub settle_next : (p : Paced) (tick : ℕ) (xs : List Ask) (d : Ask) (i : ℕ) (b c : Beats) (rows : TransferRows) → i < length xs → c ≡ settle_of (get_or xs i d).way (get_or xs i d).user rows tick b → rows ≡ rows_of (get_or xs i d).way (get_or xs i d).user p

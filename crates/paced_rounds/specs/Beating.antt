@@ -22,7 +22,7 @@ use Rattle.paced_rounds.specs.declared.rounds.TheConstants.{MOST_ASKED}
 abbrev pub add_all : Paced → List Granted → Beats → Beats
 add_all p [] c = c
 add_all p (g ∷ gs) c =
-    add_all p gs (add_to g.ask.way g.ask.user (rows_of g.ask.way g.ask.user p) g.octets c)
+    add_all p gs (add_to g.ask (rows_of g.ask.way g.ask.user p) g.octets c)
 
 -- the rows of these asks are settled, at a tick
 abbrev pub settle_all : Paced → ℕ → List Ask → Beats → Beats

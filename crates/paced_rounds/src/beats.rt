@@ -18,7 +18,7 @@ fn add<A: Allocator>(cadence: &mut Cadence<A>, pace: &Pace<A>, asks: &[Ask], gra
     for i in 0..asks.len() {
         let ask = asks[i];
         let rows = pace.rows_of(ask.way, ask.user);
-        cadence.add(ask.way, ask.user, &rows, grants[i]);
+        cadence.add(ask, &rows, grants[i]);
     }
 }
 

@@ -1,6 +1,7 @@
 -- The beats of all rows of a line.
-use Rattle.std.specs.Prelude.{ℕ, max, Bool, true, false, List, slice_index_or, slice_set, replicate, Option, Some, None, refl}
+use Rattle.std.specs.Prelude.{ℕ, ◌/◌, max, min, Bool, true, false, List, slice_index_or, slice_set, replicate, Option, Some, None, refl}
 use Rattle.std.specs.Coded.{Coded, code_by, coded×, coded_list}
+use Rattle.line_rates.specs.declared.ask.Ask.{Ask}
 use Rattle.line_rates.specs.declared.ask.Way.{Way}
 use Rattle.line_rates.specs.declared.ask.Way.TheVariants.{Down, Up}
 use Rattle.round_cadence.specs.declared.intervals.TheConstants.{WORTH, WORTH_UP}
@@ -57,15 +58,21 @@ abbrev pub change_for : Way → (Beat → Beat) → Option ℕ → List WayBeats
 change_for way f None beats = beats
 change_for way f (Some number) beats = change_at way f number beats
 
--- the beats after a grant of the current round to a user's transfer; each session has its rate to
--- itself
-abbrev pub add_to : Way → ℕ → TransferRows → ℕ → Beats → Beats
-add_to way user rows grant c = record {
-  server = added grant (worth_of way rows.has_floor) c.server;
-  ways = change way (added grant (worth_of way rows.has_floor)) c.ways;
-  groups = change_for way (added grant (worth_of way rows.has_floor)) rows.group_number c.groups;
-  users = change_at way (added grant (worth_of way rows.has_floor)) user c.users;
-  sessions = change_at way (asked (worth_of way rows.has_floor)) user c.sessions;
+-- The octets that a session is to have in a round of its own rate: a quarter of what it wants, if
+-- that is less. Sessions share their credit, so what one that has all it wants leaves of a round's
+-- is lost to it.
+abbrev pub session_worth : Ask → TransferRows → ℕ
+session_worth a rows = min (worth_of a.way rows.has_floor) (a.want / 4)
+
+-- the beats after a grant of the current round to an ask; each session has its rate to itself
+abbrev pub add_to : Ask → TransferRows → ℕ → Beats → Beats
+add_to a rows grant c = record {
+  server = added grant (worth_of a.way rows.has_floor) c.server;
+  ways = change a.way (added grant (worth_of a.way rows.has_floor)) c.ways;
+  groups =
+      change_for a.way (added grant (worth_of a.way rows.has_floor)) rows.group_number c.groups;
+  users = change_at a.way (added grant (worth_of a.way rows.has_floor)) a.user c.users;
+  sessions = change_at a.way (asked (session_worth a rows)) a.user c.sessions;
 }
 
 -- the beats after a round in a tick that left these credits, for a user's transfer

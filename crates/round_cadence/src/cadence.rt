@@ -4,7 +4,7 @@ ghost use Rattle.std.specs.Prelude.{◌≡◌, ◌≤◌, ◌+◌, replicate, If
 ghost use Rattle.round_cadence.specs.declared.intervals.TheConstants.{LONGEST};
 ghost use Rattle.round_cadence.specs.Beats.{new_beats, added, asked, settled};
 ghost use Rattle.round_cadence.specs.Closed.{closed_by, closed_group, closed_line};
-ghost use Rattle.round_cadence.specs.Cadences.{worth_of, new_cadence, opens_at, opens_for, change_at, change_for, opens_of, add_to, settle_of};
+ghost use Rattle.round_cadence.specs.Cadences.{worth_of, session_worth, new_cadence, opens_at, opens_for, change_at, change_for, opens_of, add_to, settle_of};
 
 use crate::beat::{Beat, WayBeats};
 use crate::intervals::{LONGEST, WORTH, WORTH_UP};
@@ -54,6 +54,14 @@ fn worth_of(way: Way, has_floor: bool) -> u64
         Way::Down => WORTH,
         Way::Up => WORTH_UP,
     }
+}
+
+// The octets that a session is to have in a round of its own rate: at most a quarter of what it wants. Sessions share
+// their credit, so what one that has all it wants leaves of a round's is lost to it.
+fn session_worth(ask: Ask, rows: &TransferRows) -> u64
+    ensures worth { result ≡ session_worth ask rows.now }
+{
+    worth_of(ask.way, rows.has_floor).min(ask.want / 4)
 }
 
 fn open_beats<A: Allocator>(alloc: A, count: usize) -> Result<Vec<WayBeats, A>, AllocError>
@@ -179,19 +187,20 @@ impl<A: Allocator> Cadence<A> {
         group.or(self.closed_line(ask.way, tick))
     }
 
-    /// Adds a grant of the current round to the rows that a user's transfer is within, and its ask to the beat of the
-    /// user's sessions, of which each has its rate to itself. No memory.
-    pub fn add(&mut self, way: Way, user: u32, rows: &TransferRows, grant: u64)
-        ensures added { self.new ≡ add_to way user rows.now grant self.old }
+    /// Adds a grant of the current round to the rows that its ask is within, and the ask to the beat of the user's sessions,
+    /// of which each has its rate to itself. No memory.
+    pub fn add(&mut self, ask: Ask, rows: &TransferRows, grant: u64)
+        ensures added { self.new ≡ add_to ask rows.now grant self.old }
     {
-        let worth = worth_of(way, rows.has_floor);
+        let worth = worth_of(ask.way, rows.has_floor);
         self.server = self.server.add(grant, worth);
-        self.ways = self.ways.add(way, grant, worth);
+        self.ways = self.ways.add(ask.way, grant, worth);
         if let Some(group) = rows.group_number {
-            add_at(&mut self.groups, group, way, grant, worth);
+            add_at(&mut self.groups, group, ask.way, grant, worth);
         }
-        add_at(&mut self.users, user, way, grant, worth);
-        ask_at(&mut self.sessions, user, way, worth);
+        add_at(&mut self.users, ask.user, ask.way, grant, worth);
+        let own = session_worth(ask, rows);
+        ask_at(&mut self.sessions, ask.user, ask.way, own);
     }
 
     /// Settles the rows that a user's transfer is within, those of its session too, after a round that was held in `tick`

@@ -11,7 +11,7 @@
 //! let mut cadence = Cadence::new(rt.alloc(), 8, 0)?; // of users with numbers below 8
 //! for _ in 0..64 {
 //!     // the grants of a round in tick 0, which drained the server's rate of 2,000,000 octets a second
-//!     cadence.add(Way::Down, 7, rows, 62);
+//!     cadence.add(ask, rows, 62);
 //! }
 //! cadence.settle(Way::Down, 7, rows, 0);
 //! holds(rt, cadence.opens(Way::Down, 7, rows) == 31); // the last tick of the first 32

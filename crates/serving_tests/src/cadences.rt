@@ -1,7 +1,7 @@
 //! The ticks in which transfers are in a round. The function with the crate's name is the example in its head.
 
 use super::expect::holds;
-use line_rates::{GroupRate, Limits, UserRate, Way};
+use line_rates::{Ask, GroupRate, Limits, UserRate, Way};
 use linked_list_allocator::LocalHeap;
 use round_cadence::{Beat, Cadence, LONGEST, WORTH, WORTH_UP, WayBeats, interval, next_opening};
 use round_pace::{Credit, Pace, TransferRows};
@@ -10,11 +10,15 @@ use std::process::Abort;
 use std::test::Fail;
 use test_scarce_memory::{HEAP, leave_hole};
 
-fn round_cadence(rt: &(impl Abort + AllocGlobal), rows: &TransferRows) -> Result<(), AllocError> {
+fn round_cadence(
+    rt: &(impl Abort + AllocGlobal),
+    ask: Ask,
+    rows: &TransferRows,
+) -> Result<(), AllocError> {
     let mut cadence = Cadence::new(rt.alloc(), 8, 0)?; // of users with numbers below 8
     for _ in 0..64 {
         // the grants of a round in tick 0, which drained the server's rate of 2,000,000 octets a second
-        cadence.add(Way::Down, 7, rows, 62);
+        cadence.add(ask, rows, 62);
     }
     cadence.settle(Way::Down, 7, rows, 0);
     holds(rt, cadence.opens(Way::Down, 7, rows) == 31); // the last tick of the first 32
@@ -31,7 +35,17 @@ fn sixty_four_downloads_wait(rt: HostRuntime) {
     pace.took(Way::Down, 7, 3_968);
     let rows = pace.rows_of(Way::Down, 7);
     holds(&rt, rows == rows_of(2_000_000, 32, OPEN));
-    round_cadence(&rt, &rows).expect(&rt, "memory");
+    round_cadence(&rt, asked(7, Way::Down), &rows).expect(&rt, "memory");
+}
+
+// An ask of a user for all that a buffer has.
+fn asked(user: u32, way: Way) -> Ask {
+    Ask {
+        user,
+        session: 0,
+        way,
+        want: 65_536,
+    }
 }
 
 const OPEN: Credit = Credit { rate: 0, left: 0 };
@@ -157,7 +171,7 @@ fn opens_after(
 ) -> u64 {
     let mut cadence = Cadence::new(rt.alloc(), 3, 0).expect(rt, "memory");
     for _ in 0..64 {
-        cadence.add(way, 2, rows, 62);
+        cadence.add(asked(2, way), rows, 62);
     }
     cadence.settle(way, 2, rows, tick);
     cadence.opens(way, user, rows)
@@ -185,6 +199,13 @@ fn sessions_have_a_beat_in_common(rt: HostRuntime) {
         holds(&rt, next == *opens);
         holds(&rt, opens_after(&rt, Way::Down, &rows, *tick, 1) == 0); // of another user
     }
+    let mut cadence = Cadence::new(rt.alloc(), 3, 0).expect(&rt, "memory");
+    let mut small = asked(2, Way::Down);
+    small.want = 1_024;
+    let rows = session_rows(OPEN, drained(100_000), false);
+    cadence.add(small, &rows, 200);
+    cadence.settle(Way::Down, 2, &rows, 0);
+    holds(&rt, cadence.opens(Way::Down, 2, &rows) == 1); // 2 ticks earn 256 octets, a quarter of what it wants
     let slow = session_rows(OPEN, drained(31_250), false);
     holds(&rt, opens_after(&rt, Way::Up, &slow, 0, 2) == 7); // 8 ticks earn 256 octets
     // beside it, the server's rate is shared by 64 in 32 ticks, and with a guarantee divided in each
@@ -291,7 +312,7 @@ fn grouped(credit: Credit) -> TransferRows {
 }
 
 fn hold_round(cadence: &mut Cadence, user: u32, rows: &TransferRows) {
-    cadence.add(Way::Down, user, rows, 100);
+    cadence.add(asked(user, Way::Down), rows, 100);
     cadence.settle(Way::Down, user, rows, 0);
     cadence.settle(Way::Down, user, rows, 5); // nothing was added
 }

@@ -11,21 +11,25 @@ FTPD ?= crates/ftpd/out/ftpd
 SHEETS ?= crates/sheets/out/sheets
 
 SBIN = $(DESTDIR)$(PREFIX)/sbin
+LIBEXEC = $(DESTDIR)$(PREFIX)/libexec/ftpd
 BIN = $(DESTDIR)$(PREFIX)/bin
 SHARE = $(DESTDIR)$(PREFIX)/share
 DOCS = $(DESTDIR)$(DOCDIR)
 # Pages for those who work on the repository are not installed, and a link to what is not installed becomes its text.
 INNER = DECISIONS architecture desk headline prices walk working world
-PAGES = $(filter-out $(INNER:%=docs/%.md),$(wildcard docs/*.md))
+PAGES = $(filter-out $(INNER:%=docs/%.md),$(wildcard docs/*.md)) $(wildcard docs/*.png)
 ABSENT = \.\./(README|LICENSE|bench|crates)|($(shell echo $(INNER) | tr ' ' '|'))\.md
 UNITS = $(DESTDIR)$(PREFIX)/lib/systemd/system
 CONFIG = $(DESTDIR)$(SYSCONFDIR)/ftpd.toml
+OPTIONS = $(DESTDIR)$(SYSCONFDIR)/default/ftpd
+ROTATION = $(DESTDIR)$(SYSCONFDIR)/logrotate.d/ftpd
 
 .PHONY: install uninstall package
 
 install:
 	install -D -m 755 $(FTPD) $(SBIN)/ftpd
 	install -D -m 755 $(SHEETS) $(BIN)/sheets
+	install -D -m 755 -t $(LIBEXEC) package/run
 	install -D -m 644 -t $(SHARE)/man/man1 man/sheets.1
 	install -D -m 644 -t $(SHARE)/man/man5 man/ftpd.toml.5
 	install -D -m 644 -t $(SHARE)/man/man8 man/ftpd.8
@@ -37,10 +41,12 @@ install:
 	sed -zEi 's@\[([^][]*)\]\(($(ABSENT))[^)]*\)@\1@g' $(DOCS)/docs/*.md
 	install -D -m 644 -t $(DOCS)/examples examples/*
 	install -d $(UNITS)
-	sed 's|/usr/local/sbin|$(PREFIX)/sbin|g; s|/etc/ftpd.toml|$(SYSCONFDIR)/ftpd.toml|g' examples/ftpd.service >$(UNITS)/ftpd.service
+	sed 's#/usr/local/\(sbin\|libexec\)#$(PREFIX)/\1#g; s#/etc/\(ftpd.toml\|default\)#$(SYSCONFDIR)/\1#g' examples/ftpd.service >$(UNITS)/ftpd.service
 	chmod 644 $(UNITS)/ftpd.service
-	# A configuration that is there is kept.
+	# A configuration that is there is kept, as are the options of the service and how its log is rotated.
 	[ -e $(CONFIG) ] || install -D -m 640 examples/installed.toml $(CONFIG)
+	[ -e $(OPTIONS) ] || install -D -m 644 package/default $(OPTIONS)
+	[ -e $(ROTATION) ] || install -D -m 644 package/logrotate $(ROTATION)
 	[ -z "$(PUBLIC)" ] || install -d $(DESTDIR)$(PUBLIC)
 
 uninstall:
@@ -49,7 +55,7 @@ uninstall:
 	rm -f $(SHARE)/bash-completion/completions/ftpd $(SHARE)/bash-completion/completions/sheets
 	rm -f $(DESTDIR)$(ZSHDIR)/_ftpd $(DESTDIR)$(ZSHDIR)/_sheets
 	rm -f $(SHARE)/fish/vendor_completions.d/ftpd.fish $(SHARE)/fish/vendor_completions.d/sheets.fish
-	rm -rf $(DOCS)
+	rm -rf $(DOCS) $(LIBEXEC)
 
 package:
 	FTPD=$(FTPD) SHEETS=$(SHEETS) tools/package

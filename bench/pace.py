@@ -145,6 +145,13 @@ def unlimited_beside(users):
     return "", (("ann", ""), *rated), [("user0", DOWN), ("ann", DOWN)], [1_000_000, None]
 
 
+def guaranteed(rate, number, floor):
+    """So many downloads under the rate of downloads, of which one is of a session with a guarantee; the others share the rest."""
+    rest = min((rate - floor) / (number - 1), rate / number)
+    users = (("ann", f"session_down_floor = {floor}"), ("bob", ""))
+    return f"down_rate = {rate}", users, [("ann", DOWN)] + [("bob", DOWN)] * (number - 1), [rate - rest * (number - 1)] + [rest] * (number - 1)
+
+
 LINE = 4 * MEGABYTE
 DRIBBLES = [("ann", UP, 0, 1_400, 0.014)] * 5
 # case: lines of the server's table, users, transfers (user, command, and how it reads or sends), and what each ought to have
@@ -167,6 +174,24 @@ CASES = {
     "64 sessions' rates of 31,250": ("", (("ann", "session_down_rate = 31250"),), [("ann", DOWN)] * 64, [31_250] * 64),
     "four sessions' rates of 2 MB": ("", (("ann", "session_down_rate = 2000000"),), [("ann", DOWN)] * 4, [2_000_000] * 4),
     "a guarantee of 1 MiB in 4 MiB, under 12 others": (f"rate = {LINE}", (("ann", f"session_down_floor = {MEGABYTE}"), ("bob", "")), [("ann", DOWN)] + [("bob", DOWN)] * 12, [MEGABYTE] + [MEGABYTE / 4] * 12),
+    "1,000: 16, one guaranteed 1": guaranteed(1_000, 16, 1),
+    "1,000: 16, one guaranteed 499": guaranteed(1_000, 16, 499),
+    "8,000: 16, one guaranteed 1,499": guaranteed(8_000, 16, 1_499),
+    "5,000: 24, one guaranteed 10": guaranteed(5_000, 24, 10),
+    "2,000,000: 64, one guaranteed 50,000": guaranteed(2_000_000, 64, 50_000),
+    "2,000,000: 64, each guaranteed 31,250": ("down_rate = 2000000", (("ann", "session_down_floor = 31250"),), [("ann", DOWN)] * 64, [31_250] * 64),
+    "6,250,000 down, 1,250,000 up: 38 and 4, one guaranteed 1,000,000": (
+        "down_rate = 6250000\nup_rate = 1250000",
+        (("ann", "session_down_floor = 1000000"), ("bob", "")),
+        [("ann", DOWN)] + [("bob", DOWN)] * 37 + [("bob", UP)] * 4,
+        [1_000_000] + [5_250_000 / 37] * 37 + [312_500] * 4,
+    ),
+    "4,000,000: four sessions' rates of 300,000 beside four others": (
+        "down_rate = 4000000",
+        (("ann", "session_down_rate = 300000"), ("bob", "")),
+        [("ann", DOWN)] * 4 + [("bob", DOWN)] * 4,
+        [300_000] * 4 + [700_000] * 4,
+    ),
     "1 MB: a download beside five uploads that dribble": ("rate = 1000000", (("ann", ""), ("bob", "")), [("bob", DOWN), *DRIBBLES], [500_000] + [100_000] * 5),
     "a user without a limit, and 1 user with a rate": unlimited_beside(1),
     "a user without a limit, and 400 users with rates": unlimited_beside(400),

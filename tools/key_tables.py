@@ -170,8 +170,8 @@ def page_faults():
 
 
 def office_faults():
-    """The keys that examples/office.toml does not state, though it says that it has all."""
-    stated = set(re.findall(r"^(\w+) = ", read(OFFICE), re.M))
+    """The keys that examples/office.toml neither states nor has in a comment, though it says that it has all."""
+    stated = set(re.findall(r"^(?:# )?(\w+) = ", read(OFFICE), re.M))
     for names in program_tables().values():
         for key in names:
             if key.name not in stated:

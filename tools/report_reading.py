@@ -10,6 +10,7 @@ LETTERS = {
     "e": "change directory", "l": "list", "r": "retrieve", "a": "append", "d": "delete", "f": "rename", "m": "make directories", "w": "store",
 }
 OWN_FIRST, OWN_LAST = 32768, 60999
+MOST_LANES = 64
 LISTED, ABSENT, NO_FOLDER, CLOSED = "listed", "absent", "no folder", "closed"
 SERVER = {
     "address": "127.0.0.1", "port": 2121, "capacity": 1048576, "banner": "Ready", "max_cons": 64, "max_cons_per_address": 0,
@@ -85,6 +86,23 @@ def warnings_of_root(stated, machine):
         yield {ABSENT: f"the folder {root} is not there", NO_FOLDER: f"{root} is no folder", CLOSED: f"the folder {root} cannot be listed"}[machine.root]
 
 
+def warnings_of_all(stated):
+    """Lanes and guarantees that users have together, and that there is nobody."""
+    server = stated.server
+    lanes, connections = server["lanes"], server["max_cons"]
+    if lanes < min(connections, MOST_LANES):
+        yield f"{connections} connections have fewer lanes, {lanes}: while as many transfers run, listings and transfers of others wait"
+    promised = {way: sum(user[f"session_{way}_floor"] for user in stated.users) for way in ("down", "up")}
+    if lanes < connections and sum(promised.values()):
+        yield f"a session gets what it is guaranteed while its transfer has one of the {lanes} lanes, and may wait for one"
+    of_all = [(promised["down"], "down", server["down_rate"]), (promised["up"], "up", server["up_rate"])]
+    for total, way, rate in [*of_all, (sum(promised.values()), "both ways", server["rate"])]:
+        if rate and total > rate:
+            yield f"a session of each user is guaranteed {total} {way} in all, and the rate is {rate}: not all of them can be logged in at once"
+    if not stated.users:
+        yield "no user is stated, so nobody can log in"
+
+
 def warnings_of_server(stated, machine):
     server = stated.server
     first, last, connections = server["passive_first"], server["passive_last"], server["max_cons"]
@@ -92,14 +110,21 @@ def warnings_of_server(stated, machine):
         yield "clients are told the address that they reached; behind a router state masquerade_address"
     if first <= OWN_LAST and OWN_FIRST <= last:
         yield f"the machine takes ports {OWN_FIRST} to {OWN_LAST} for its own connections; passive ones are {first} to {last}"
+    if first <= server["port"] <= last:
+        yield f"port {server['port']} is that of control connections and among the passive ports, {first} to {last}: no client is told it"
     if last - first + 1 < connections:
         yield f"{connections} connections have fewer passive ports, {first} to {last}"
+    yield from warnings_of_all(stated)
     if (machine.mode or 0) & 0o004 and any(user["password"] and user["name"] != "anonymous" for user in stated.users):
         yield "everybody on this machine may read the passwords of this file; make it readable by its owner and group alone"
 
 
 def warnings_of_user(stated, machine, user):
     name = user["name"]
+    if not name:
+        yield "the name of a user is empty, so nobody can log in by it"
+    if name != name.strip(" "):
+        yield f"user {name}: the name begins or ends with a blank"
     if not user["password"] and name != "anonymous":
         yield f"user {name}: the password is empty, and anybody may log in"
     if not {"e", "l"} <= set(user["perms"]):

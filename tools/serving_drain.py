@@ -1,4 +1,5 @@
 """A server that drains: nobody is admitted any more, transfers that run have their end, and then it ends."""
+import os
 import re
 import socket
 import time
@@ -58,7 +59,7 @@ def transfers_have_their_end():
 
 
 def a_client_that_waits_has_its_transfer():
-    """A transfer that waits for a lane when the server is to drain is run, and so is a line that its session held."""
+    """A transfer that waits for a lane when the server is to drain is run; a line that its session held is told of the end."""
     with Server(sessions=0, root="folder", files={"long": b"l" * LONG, "f": b"a\nb"}, server="lanes = 1", rates=SLOW, drain=True) as server:
         reading, waiting = Client(server), Client(server)
         download = reading.passive()
@@ -71,8 +72,26 @@ def a_client_that_waits_has_its_transfer():
         download.whole()
         reading.says(None, "226 Transfer complete", ENDS)
         same(data.whole(), b"a\nb", "the file")
-        waiting.says(None, "226 Transfer complete", "213 3", ENDS)
+        waiting.says(None, "226 Transfer complete", ENDS)
+        waiting.at_end()
         server.ended()
+
+
+def lines_sent_ahead_begin_nothing():
+    """Whoever sends PASV and RETR ahead, and changes, has the end of the transfer that runs, and begins none after it."""
+    with Server(sessions=0, root="folder", files={"long": b"l" * LONG, "f": b"a\nb"}, rates=SLOW, drain=True) as server:
+        client = Client(server)
+        data = client.passive()
+        client.says("RETR long", "150 Opening data connection")
+        want(data.read(), "some octets")
+        for line in ("PASV", "RETR f", "MKD made", "DELE f"):
+            client.send(line)
+        drained(server)
+        data.whole()
+        client.says(None, "226 Transfer complete", ENDS)
+        client.at_end()
+        server.ended()
+        want(not os.path.exists(f"{server.folder}/made") and server.get("f") == b"a\nb", "nothing is changed")
 
 
 def a_drain_of_nobody():
@@ -137,6 +156,7 @@ def a_drain_file_at_the_start():
 ROWS = [
     transfers_have_their_end,
     a_client_that_waits_has_its_transfer,
+    lines_sent_ahead_begin_nothing,
     a_drain_of_nobody,
     a_drain_that_takes_too_long,
     a_stop_ends_a_drain,

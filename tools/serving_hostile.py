@@ -7,6 +7,7 @@ import socket
 import threading
 import time
 
+from serving_ends import promptly
 from serving_limits import is_served
 from serving_kit import STAMP, Client, Data, Server, same, together, until, want
 from serving_rows import MUCH, greeted, size
@@ -200,6 +201,45 @@ def a_peer_that_never_reads():
         until(lambda: server.threads() == threads, "threads of none")
         server.stop()
         server.ended()
+
+
+# A folder of which one listing is some hundred thousand octets.
+MANY = {f"{number:04}-{'x' * 40}": b"" for number in range(3000)}
+
+
+def lines_sent_ahead_hold_up_no_end():
+    """Whoever sends many dear lines in one segment is told of the server's end in the place of the next answer."""
+    with Server(sessions=0, root="folder", files=MANY, stop=True) as server:
+        client = Client(server)
+        client.socket.sendall(b"STAT /\r\n" * 500)
+        want(client.more(), "some of the replies")
+        with promptly("the end of a server that answers many lines"):
+            server.stop()
+            while client.more():
+                pass
+            server.ended()
+        want(client.text.endswith(b"213 End\r\n421 Server is ending\r\n"), client.text[-100:])
+        want(client.text.count(b"213 End\r\n") < 500, "lines that were not carried out")
+        client.close()
+
+
+def a_slow_reader_holds_up_no_end():
+    """Once the server ends, a reply has two waits in all, also for a client that takes a little of it in each of them."""
+    with Server(sessions=0, root="folder", files=MANY, stop=True) as server:
+        client = Client(server)
+        client.socket.setsockopt(socket.SOL_SOCKET, socket.SO_RCVBUF, 4096)
+        client.socket.sendall(b"STAT /\r\n" * 500)
+        want(client.more(), "some of the replies")
+        # (its replies fill what the sockets hold)
+        time.sleep(2)
+        server.stop()
+        for _ in range(50):
+            if server.process.poll() is not None:
+                break
+            client.socket.recv(4096)
+            time.sleep(0.2)
+        server.ended()
+        client.close()
 
 
 # At which moment of a transfer a client resets what it has.
@@ -428,6 +468,8 @@ ROWS = [
     few_open_files,
     ports_that_are_left,
     a_peer_that_never_reads,
+    lines_sent_ahead_hold_up_no_end,
+    a_slow_reader_holds_up_no_end,
     resets_at_each_moment,
     a_flood_of_wrong_passwords,
     two_sessions_store_one_file,

@@ -1,4 +1,5 @@
 """A configuration that is read again while the server runs: nobody is cut, and whoever comes afterwards meets the new one."""
+import os
 import select
 import time
 
@@ -144,6 +145,23 @@ def a_user_is_taken_out():
         server.ended()
 
 
+def who_sends_ahead_is_taken_out():
+    """Lines that were held, or sent ahead, when the user was taken out are not carried out."""
+    with served(stop=True) as server:
+        client = Client(server, "bob")
+        data = client.passive()
+        client.says("RETR big", "150 Opening data connection")
+        for line in ("PASV", "RETR big", "MKD made", "DELE f"):
+            client.send(line)
+        server.reloaded(text_of(server, users={"ann": ""}))
+        client.says("ABOR", "426 Transfer aborted", "226 Abort done", "421 User is not served any more")
+        client.at_end()
+        data.close()
+        want(not os.path.exists(f"{server.folder}/made") and server.get("f") == b"a\nb", "nothing is changed")
+        server.stop()
+        server.ended()
+
+
 def sessions_keep_the_terms_of_their_login():
     """Letters and messages are those of the login until the next one."""
     with served(stop=True) as server:
@@ -193,6 +211,7 @@ ROWS = [
     what_is_refused_changes_nothing,
     each_fixed_key_is_refused_by_name,
     a_user_is_taken_out,
+    who_sends_ahead_is_taken_out,
     sessions_keep_the_terms_of_their_login,
     ten_reloads_under_load,
     a_reload_and_then_a_drain,

@@ -761,7 +761,8 @@ def notes():
         # (the second may come before the place of the first is given back)
         wanted = [*inside, "connect", 'login failed "ann"', "disconnect"]
         same([re.sub(r"#\d ", "#0 ", it) for it in server.notes_made(heads=True)], [f"127.0.0.1 #0 {it}" for it in wanted], "the notes")
-        same(server.warned(), [f"64 connections have fewer passive ports, {server.port + 1} to {server.port + 8}"], "the warnings")
+        few_ports = f"64 connections have fewer passive ports, {server.port + 1} to {server.port + 8}"
+        same(server.warned(), [few_ports, "64 connections have fewer lanes, 16: while as many transfers run, listings and transfers of others wait"], "the warnings")
         want(not re.search("secret|wrong|sekret", server.noted()), "what is not to be noted")
 
 
@@ -787,7 +788,7 @@ home = "/l"
 
 def warnings_of_the_machine_are_noted():
     """At the start a server warns of homes that its folder does not have, and of passwords that everybody may read."""
-    server = Server(root="folder", files={"a": None, "f": b""}, users=HOMES, passive=64, mode=0o604)
+    server = Server(root="folder", files={"a": None, "f": b""}, users=HOMES, passive=64, mode=0o604, server="lanes = 64")
     os.symlink("a", f"{server.folder}/l")
     with server:
         public = "everybody on this machine may read the passwords of this file; make it readable by its owner and group alone"
@@ -795,7 +796,7 @@ def warnings_of_the_machine_are_noted():
         same(server.warned(), [public, *missed], "the warnings")
         Client(server).quit()
         server.ended()
-    with Server(root="folder", files={"a": None, "b": None, "f": None, "l": None}, users=HOMES, passive=64, mode=0o640) as server:
+    with Server(root="folder", files={"a": None, "b": None, "f": None, "l": None}, users=HOMES, passive=64, mode=0o640, server="lanes = 64") as server:
         same(server.warned(), [], "the warnings of one of which nothing is to be warned")
         Client(server).quit()
         server.ended()

@@ -1,8 +1,10 @@
 pub mod Columns
+pub mod Floors
 pub mod Lines
 pub mod Looks
 pub mod ReportData
 pub mod Reports
 pub mod ServerLines
+pub mod Together
 pub mod UserLines
 pub mod Warnings

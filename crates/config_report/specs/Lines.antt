@@ -11,7 +11,7 @@ use Rattle.config_report.specs.ServerLines.{server_lines}
 use Rattle.config_report.specs.UserLines.{permitted, user_lines, users_head}
 use Rattle.config_report.specs.declared.seen.SeenUser.{SeenUser}
 use Rattle.config_report.specs.declared.warning.Warning.{Warning}
-use Rattle.config_report.specs.declared.warning.Warning.TheVariants.{NearlyMemory, RelativeRoot, AbsentRoot, NoFolderRoot, ClosedRoot, PublicPasswords, NoAddress, OwnPorts, FewPorts, NoPassword, Unbrowsed, NoFirstSession, NoSecondSession, NoHome}
+use Rattle.config_report.specs.declared.warning.Warning.TheVariants.{NearlyMemory, RelativeRoot, AbsentRoot, NoFolderRoot, ClosedRoot, PublicPasswords, NoAddress, OwnPorts, PortAmongPassive, FewPorts, FewLanes, GuaranteesWait, PromisedDown, PromisedUp, PromisedBoth, NoUser, NoName, BlankName, NoPassword, Unbrowsed, NoFirstSession, NoSecondSession, NoHome}
 
 -- ---- rates and guarantees
 
@@ -54,6 +54,12 @@ user_rates user =
 
 -- ---- warnings
 
+-- guarantees in all, and the rate that they do not fit into
+abbrev pub promised_text : ℕ → ℕ → List ℕ → List ℕ
+promised_text promised rate head =
+    codes "a session of each user is guaranteed " ++ (decimal promised
+    ++ (head ++ (decimal rate ++ codes ": not all of them can be logged in at once")))
+
 abbrev pub warning_text : Warning → List ℕ
 warning_text (NearlyMemory root) =
     root.now ++ codes " is the path of a folder; the word for a store in memory is memory"
@@ -71,6 +77,26 @@ warning_text NoAddress =
 warning_text (OwnPorts first last) =
     codes "the machine takes ports 32768 to 60999 for its own connections; passive ones are "
     ++ decimal first ++ codes " to " ++ decimal last
+warning_text (PortAmongPassive port first last) =
+    codes "port " ++ (decimal port
+    ++ (codes " is that of control connections and among the passive ports, "
+    ++ (decimal first ++ (codes " to " ++ (decimal last ++ codes ": no client is told it")))))
+warning_text (FewLanes lanes connections) =
+    decimal connections ++ codes " connections have fewer lanes, " ++ decimal lanes
+    ++ codes ": while as many transfers run, listings and transfers of others wait"
+warning_text (GuaranteesWait lanes) =
+    codes "a session gets what it is guaranteed while its transfer has one of the " ++ decimal lanes
+    ++ codes " lanes, and may wait for one"
+warning_text (PromisedDown promised rate) =
+    promised_text promised rate (codes " down in all, and the rate is ")
+warning_text (PromisedUp promised rate) =
+    promised_text promised rate (codes " up in all, and the rate is ")
+warning_text (PromisedBoth promised rate) =
+    promised_text promised rate (codes " both ways in all, and the rate is ")
+warning_text NoUser = codes "no user is stated, so nobody can log in"
+warning_text NoName = codes "the name of a user is empty, so nobody can log in by it"
+warning_text (BlankName user) =
+    codes "user " ++ user.now ++ codes ": the name begins or ends with a blank"
 warning_text (FewPorts first last connections) =
     decimal connections ++ codes " connections have fewer passive ports, " ++ decimal first
     ++ codes " to " ++ decimal last

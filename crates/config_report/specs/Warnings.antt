@@ -4,6 +4,8 @@ use Rattle.std.specs.Borrow.{Bor}
 use Rattle.std.specs.Char.{to_ascii_lowercase}
 use Rattle.std.specs.List.{flat_map, list_any}
 use Rattle.std.specs.Net.Addr.{ipv4_bits}
+use Rattle.config_report.specs.Floors.{is_single, is_unmet}
+use Rattle.config_report.specs.Together.{all_warnings, is_among_passive, name_warnings}
 use Rattle.config_file.specs.declared.stated.ServerTable.{ServerTable}
 use Rattle.config_file.specs.declared.stated.GroupTable.{GroupTable}
 use Rattle.config_file.specs.declared.stated.UserTable.{UserTable}
@@ -12,7 +14,7 @@ use Rattle.config_report.specs.declared.looks.Sight.{Sight}
 use Rattle.config_report.specs.declared.looks.Sight.TheVariants as sight
 use Rattle.config_report.specs.declared.seen.SeenUser.{SeenUser}
 use Rattle.config_report.specs.declared.warning.Warning.{Warning}
-use Rattle.config_report.specs.declared.warning.Warning.TheVariants.{NearlyMemory, RelativeRoot, AbsentRoot, NoFolderRoot, ClosedRoot, PublicPasswords, NoAddress, OwnPorts, FewPorts, NoPassword, Unbrowsed, NoFirstSession, NoSecondSession, NoHome}
+use Rattle.config_report.specs.declared.warning.Warning.TheVariants.{NearlyMemory, RelativeRoot, AbsentRoot, NoFolderRoot, ClosedRoot, PublicPasswords, NoAddress, OwnPorts, PortAmongPassive, FewPorts, NoPassword, Unbrowsed, NoFirstSession, NoSecondSession, NoHome}
 use Rattle.config_report.specs.declared.warnings.TheConstants.{OWN_FIRST, OWN_LAST}
 
 -- ---- of the server
@@ -54,65 +56,10 @@ abbrev pub port_warnings : ServerTable → List Warning
 port_warnings server =
     (if is_unreported server then NoAddress ∷ [] else [])
     ++ (if is_among_own server then OwnPorts server.passive_first server.passive_last ∷ [] else [])
+    ++ (if is_among_passive server
+    then PortAmongPassive server.port server.passive_first server.passive_last ∷ [] else [])
     ++ (if has_few_ports server
     then FewPorts server.passive_first server.passive_last server.max_cons ∷ [] else [])
-
--- ---- of a user's guarantees
-
--- the rates down and up of the first group of a name; 0, which is no limit, if there is none
-abbrev pub rates_by : List GroupTable → List ℕ → ℕ × ℕ
-rates_by [] name = (0, 0)
-rates_by (group ∷ groups) name =
-    cond (bytes_eq group.name.now name) (group.down_rate, group.up_rate) (rates_by groups name)
-
-abbrev pub rates_named : List GroupTable → Option (Bor (List ℕ)) → ℕ × ℕ
-rates_named groups None = (0, 0)
-rates_named groups (Some name) = rates_by groups name.now
-
--- a sum is within a rate; a rate of 0 is no limit
-abbrev pub fits : ℕ → ℕ → Bool
-fits sum rate = nat_eq rate 0 || nat_le sum rate
-
--- a session's guarantee one way is within the limit of the session, and the sum of such guarantees
--- within the limits of the user, the group and the way
-abbrev pub fits_within : ℕ → ℕ → ℕ → ℕ → ℕ → ℕ → Bool
-fits_within floor sum session user group way =
-    fits floor session && (fits sum user && (fits sum group && fits sum way))
-
--- the sessions of the user have a guarantee
-abbrev pub has_floor : UserTable → Bool
-has_floor user = not (nat_eq user.session_down_floor 0) || not (nat_eq user.session_up_floor 0)
-
--- a session of the user, alone on the server, has its guarantees; both ways count against the
--- server's rate
-abbrev pub fit_one : ServerTable → ℕ × ℕ → UserTable → Bool
-fit_one server group user =
-    let down = user.session_down_floor in
-    let up = user.session_up_floor in
-    fits_within down down user.session_down_rate user.down_rate group.0 server.down_rate
-    && (fits_within up up user.session_up_rate user.up_rate group.1 server.up_rate
-    && fits (down + up) server.rate)
-
--- two sessions of the user, alone on the server, have theirs
-abbrev pub fit_two : ServerTable → ℕ × ℕ → UserTable → Bool
-fit_two server group user =
-    let down = user.session_down_floor in
-    let up = user.session_up_floor in
-    fits_within down (2 * down) user.session_down_rate user.down_rate group.0 server.down_rate
-    && (fits_within up (2 * up) user.session_up_rate user.up_rate group.1 server.up_rate
-    && fits (2 * down + 2 * up) server.rate)
-
--- the sessions of the user have a guarantee, and not even the first session can have it
-abbrev pub is_unmet : ServerTable → List GroupTable → UserTable → Bool
-is_unmet server groups user =
-    has_floor user && not (fit_one server (rates_named groups user.group) user)
-
--- the sessions of the user have a guarantee; the first session can have it, and a second cannot,
--- even alone with the first
-abbrev pub is_single : ServerTable → List GroupTable → UserTable → Bool
-is_single server groups user =
-    let group = rates_named groups user.group in
-    has_floor user && (fit_one server group user && not (fit_two server group user))
 
 -- ---- of a user's password and letters
 
@@ -168,7 +115,7 @@ lacks_home root row = not row.has_home && not (is_unlisted root)
 abbrev pub server_warnings : ServerTable → Option Sight → Option ℕ → List SeenUser → List Warning
 server_warnings server root mode rows =
     root_warnings server.root ++ sight_warnings server.root root ++ port_warnings server
-    ++ file_warnings mode rows
+    ++ all_warnings server rows ++ file_warnings mode rows
 
 abbrev pub access_warnings : UserTable → List Warning
 access_warnings user =
@@ -182,7 +129,8 @@ floor_warnings server groups user =
 
 abbrev pub user_warnings : ServerTable → List GroupTable → Option Sight → SeenUser → List Warning
 user_warnings server groups root row =
-    access_warnings row.user.now ++ floor_warnings server groups row.user.now
+    name_warnings row.user.now ++ access_warnings row.user.now
+    ++ floor_warnings server groups row.user.now
     ++ (if lacks_home root row then NoHome row.user.now.name row.user.now.home ∷ [] else [])
 
 -- those of the root, of the server and of the file, and then those of the users in their order

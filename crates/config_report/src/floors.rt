@@ -1,7 +1,7 @@
 //! The checks that a session of a user, and two, can have their guarantees.
 
 ghost use Rattle.std.specs.Prelude.{◌≡◌};
-ghost use Rattle.config_report.specs.Warnings.{fit_one, fit_two, fits, fits_within, has_floor, is_single, is_unmet, rates_by, rates_named};
+ghost use Rattle.config_report.specs.Floors.{fit_one, fit_two, fits, fits_within, has_floor, is_single, is_unmet, rates_by, rates_named};
 
 use config_file::{GroupTable, ServerTable, UserTable};
 
@@ -28,7 +28,7 @@ fn rates_named(groups: &[GroupTable], name: Option<&str>) -> (u64, u64)
 }
 
 /// Returns whether a sum is within a rate; a rate of 0 is no limit.
-fn fits(sum: u64, rate: u64) -> bool
+pub(crate) fn fits(sum: u64, rate: u64) -> bool
     ensures fits { result ≡ fits sum rate }
 {
     rate == 0 || sum <= rate
@@ -42,7 +42,8 @@ fn fits_within(floor: u64, sum: u64, session: u64, user: u64, group: u64, way: u
     fits(floor, session) && fits(sum, user) && fits(sum, group) && fits(sum, way)
 }
 
-fn has_floor(user: &UserTable) -> bool
+/// Returns whether the sessions of a user have a guarantee.
+pub(crate) fn has_floor(user: &UserTable) -> bool
     ensures floor { result ≡ has_floor user.now }
 {
     user.session_down_floor != 0 || user.session_up_floor != 0

@@ -18,6 +18,7 @@ mod reporting;
 mod roots;
 mod seen;
 mod server_lines;
+mod together;
 mod user_lines;
 mod values;
 mod warning;

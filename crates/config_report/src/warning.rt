@@ -34,11 +34,49 @@ pub enum Warning<'a> {
         first: u16,
         last: u16,
     },
+    /// The port of control connections is among the passive ports, from the first to the last of these.
+    PortAmongPassive {
+        port: u16,
+        first: u16,
+        last: u16,
+    },
     /// There are fewer passive ports than connections.
     FewPorts {
         first: u16,
         last: u16,
         connections: u16,
+    },
+    /// Fewer transfers run at once than there may be connections.
+    FewLanes {
+        lanes: u16,
+        connections: u16,
+    },
+    /// A session that is guaranteed a rate may have to wait for a lane.
+    GuaranteesWait {
+        lanes: u16,
+    },
+    /// A session of each user cannot have its guarantee downwards at once.
+    PromisedDown {
+        promised: u64,
+        rate: u64,
+    },
+    /// A session of each user cannot have its guarantee upwards at once.
+    PromisedUp {
+        promised: u64,
+        rate: u64,
+    },
+    /// A session of each user cannot have its guarantees at once, both ways together.
+    PromisedBoth {
+        promised: u64,
+        rate: u64,
+    },
+    /// No user is stated.
+    NoUser,
+    /// A user's name is empty.
+    NoName,
+    /// A user's name begins or ends with a blank.
+    BlankName {
+        user: &'a str,
     },
     /// The configuration has passwords, and everybody may read its file.
     PublicPasswords,
@@ -93,6 +131,10 @@ impl fmt::Display for Warning<'_> {
                 f,
                 "the machine takes ports 32768 to 60999 for its own connections; passive ones are {first} to {last}"
             ),
+            Warning::PortAmongPassive { port, first, last } => write!(
+                f,
+                "port {port} is that of control connections and among the passive ports, {first} to {last}: no client is told it"
+            ),
             Warning::FewPorts {
                 first,
                 last,
@@ -101,6 +143,31 @@ impl fmt::Display for Warning<'_> {
                 f,
                 "{connections} connections have fewer passive ports, {first} to {last}"
             ),
+            Warning::FewLanes { lanes, connections } => write!(
+                f,
+                "{connections} connections have fewer lanes, {lanes}: while as many transfers run, listings and transfers of others wait"
+            ),
+            Warning::GuaranteesWait { lanes } => write!(
+                f,
+                "a session gets what it is guaranteed while its transfer has one of the {lanes} lanes, and may wait for one"
+            ),
+            Warning::PromisedDown { promised, rate } => write!(
+                f,
+                "a session of each user is guaranteed {promised} down in all, and the rate is {rate}: not all of them can be logged in at once"
+            ),
+            Warning::PromisedUp { promised, rate } => write!(
+                f,
+                "a session of each user is guaranteed {promised} up in all, and the rate is {rate}: not all of them can be logged in at once"
+            ),
+            Warning::PromisedBoth { promised, rate } => write!(
+                f,
+                "a session of each user is guaranteed {promised} both ways in all, and the rate is {rate}: not all of them can be logged in at once"
+            ),
+            Warning::NoUser => write!(f, "no user is stated, so nobody can log in"),
+            Warning::NoName => write!(f, "the name of a user is empty, so nobody can log in by it"),
+            Warning::BlankName { user } => {
+                write!(f, "user {user}: the name begins or ends with a blank")
+            }
             Warning::PublicPasswords => write!(
                 f,
                 "everybody on this machine may read the passwords of this file; make it readable by its owner and group alone"

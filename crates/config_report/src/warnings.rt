@@ -3,6 +3,7 @@
 ghost use Rattle.std.specs.Prelude.{◌≡◌, ◌++◌, IfOk, OnOk};
 ghost use Rattle.server_config.specs.Settings.{reported_address};
 ghost use Rattle.std.specs.List.{flat_map, list_any};
+ghost use Rattle.config_report.specs.Together.{all_warnings, name_warnings};
 ghost use Rattle.config_report.specs.Warnings.{access_warnings, file_warnings, floor_warnings, has_few_ports, has_word, is_among_own, is_open, is_public, is_unlisted, is_unreported, lacks_home, port_warnings, root_warnings, server_warnings, sight_warnings, user_warnings, warnings};
 
 use crate::floors::{is_single, is_unmet};
@@ -10,6 +11,7 @@ use crate::letters::may_browse;
 use crate::looks::Sight;
 use crate::roots::{is_nearly_memory, is_relative};
 use crate::seen::SeenUser;
+use crate::together::{is_among_passive, warn_of_all, warn_of_name};
 use crate::warning::Warning;
 use config_file::{GroupTable, ServerTable, UserTable};
 use std::alloc::{AllocError, Global};
@@ -164,6 +166,13 @@ fn warn_of_ports<'a>(found: &mut Vec<Warning<'a>>, server: &ServerTable) -> Resu
     if is_among_own(server) {
         found.push(Warning::OwnPorts { first, last })?;
     }
+    if is_among_passive(server) {
+        found.push(Warning::PortAmongPassive {
+            port: server.port,
+            first,
+            last,
+        })?;
+    }
     if has_few_ports(server) {
         found.push(Warning::FewPorts {
             first,
@@ -222,6 +231,7 @@ fn warn_of_user<'a>(
         ≡ found.old.items ++ user_warnings server.now groups.now root row.now) }
 {
     let user = row.user;
+    warn_of_name(found, user)?;
     warn_of_access(found, user)?;
     warn_of_floors(found, server, groups, user)?;
     if lacks_home(root, row) {
@@ -247,6 +257,7 @@ fn warn_of_server<'a>(
     warn_of_root(found, server.root)?;
     warn_of_sight(found, server.root, root)?;
     warn_of_ports(found, server)?;
+    warn_of_all(found, server, rows)?;
     warn_of_file(found, mode, rows)?;
     Ok(())
 }

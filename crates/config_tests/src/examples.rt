@@ -96,6 +96,7 @@ const FOLDER: &str = "version = 2
 root = \"/srv/ftp\"
 passive_first = 30000
 passive_last = 30063
+lanes = 64
 [[user]]
 name = \"ann\"
 password = \"secret\"
@@ -147,6 +148,7 @@ fn what_a_machine_shows_of_homes_and_of_the_file(rt: HostRuntime) {
 const TWO_PORTS: &str =
     "the machine takes ports 32768 to 60999 for its own connections; passive ones are 40000 to 40001
 64 connections have fewer passive ports, 40000 to 40001
+64 connections have fewer lanes, 16: while as many transfers run, listings and transfers of others wait
 ";
 
 /// Checks the texts of the same warnings.

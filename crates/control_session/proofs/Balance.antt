@@ -13,7 +13,7 @@ use Rattle.control_session.specs.Calls.HostCall.{Asked, Lent, Released}
 use Rattle.control_session.specs.Rows.{Outcome}
 use Rattle.control_session.specs.Rows.Outcome.{Made}
 use Rattle.control_session.specs.Turns.{Carried, Carries, IsTurn, Move, Runs, Situation, Went, concat, release_calls}
-use Rattle.control_session.specs.Turns.Move.{Takes, Tries, Asks, Reads, Ends, Fails, Pays}
+use Rattle.control_session.specs.Turns.Move.{Takes, Tries, Declines, Asks, Reads, Ends, Fails, Pays}
 use Rattle.control_session.specs.declared.turn_fault.TurnFault.{TurnFault}
 use Rattle.control_session.specs.declared.turn_fault.TurnFault.TheVariants.{Write, Memory}
 use Rattle.control_session.specs.Floors.{FloorsBy, HasFloors}
@@ -110,6 +110,8 @@ module _ {H A S R K : Type 0} (Does : H → HostCall A S R K → H → Type 0) (
     move_has : (base : Promises) (old new : H) (before after : Situation K) (calls : List (HostCall A S R K)) → Move Row before calls after → Chain Does old calls new → Has base old before → Has base new after
     move_has base old new before after calls (Takes turn) chain has = turn_has base old new before after calls turn chain has
     move_has base old new before after calls (Tries given moment users store store' promises came taken next stopped same is) chain has =
+        same_has base old new before after (ap (λ (x : Situation K). x.session) same) (ap (λ (x : Situation K). x.owed) same) (one old new calls _ is chain) has
+    move_has base old new before after calls (Declines given came taken next line same is) chain has =
         same_has base old new before after (ap (λ (x : Situation K). x.session) same) (ap (λ (x : Situation K). x.owed) same) (one old new calls _ is chain) has
     move_has base old new before after calls (Asks event empty same (inl is)) chain has =
         same_has base old new before after (ap (λ (x : Situation K). x.session) same) (ap (λ (x : Situation K). x.owed) same) (one old new calls _ is chain) has

@@ -16,7 +16,7 @@ use Rattle.control_session.specs.Calls.{Chain, HostCall, piece_call}
 use Rattle.control_session.specs.Calls.HostCall.{Released}
 use Rattle.control_session.specs.Rows.{Outcome}
 use Rattle.control_session.specs.Turns.{Carried, Carries, Move, Runs, Situation, Went, WhileOpen, concat, release_calls}
-use Rattle.control_session.specs.Turns.Move.{Takes, Tries, Asks, Reads, Ends, Fails, Pays}
+use Rattle.control_session.specs.Turns.Move.{Takes, Tries, Declines, Asks, Reads, Ends, Fails, Pays}
 
 module _ {H A S R K : Type 0} (Does : H → HostCall A S R K → H → Type 0) where
   pub chain_more : (a b c : H) (xs ys : List (HostCall A S R K)) → Chain Does a xs b → Chain Does b ys c → Chain Does a (xs ++ ys) c
@@ -61,6 +61,7 @@ module _ {A S R K : Type 0} (Row : Users → Standing → Given K → ℕ → S 
     trace = turn.trace;
   })
   open_move before after calls (Tries given moment users store store' promises came taken next stopped same is) = Tries given moment users store store' promises came taken next stopped.1 same is
+  open_move before after calls (Declines given came taken next line same is) = Declines given came taken next line same is
   open_move before after calls (Asks event empty same is) = Asks event empty same is
   open_move before after calls (Reads octets items idle live unended same is) = Reads octets items idle live unended same is
   open_move before after calls (Ends idle live unended same is) = Ends idle live unended same is
@@ -138,6 +139,13 @@ on_ok_to (Err fault) P Q to p = tt
 pub pick : (b : Bool) (P : Type 0) → (b ≡ true) ⊎ P → b ≡ false → P
 pick b P (inl is) other = absurd (false≢true (sym other ∙ is))
 pick b P (inr holds) other = holds
+
+pub first_to : {P Q R : Type 0} → (P → Q) → P ⊎ R → Q ⊎ R
+first_to to (inl p) = inl (to p)
+first_to to (inr r) = inr r
+
+pub stays_or : (a b r : Bool) → r ≡ (a || b) → a ≡ true → r ≡ true
+stays_or a b r is same = is ∙ ap (λ (x : Bool). x || b) same
 
 pub over_by : (b : Bool) (P Q : Type 0) → (b ≡ true) ⊎ P → Q → (b ≡ true) ⊎ (Q × P)
 over_by b P Q (inl is) ended = inl is

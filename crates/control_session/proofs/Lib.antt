@@ -7,3 +7,4 @@ pub mod Balance
 pub mod Counting
 pub mod Listening
 pub mod Logins
+pub mod Charges

@@ -2,7 +2,7 @@
 use Rattle.std.proofs.Common.{ℕ, inl, inr, List, [], ◌∷◌, ◌++◌, Result, subst}
 use Rattle.authorizer.specs.Users.{Users}
 use Rattle.control_session.specs.Calls.{Chain, HostCall}
-use Rattle.control_session.specs.Calls.HostCall.{Lent, Tried, Released, Noted, Wrote, Broke, Read, ReadEnd, ReadFailed, Asked}
+use Rattle.control_session.specs.Calls.HostCall.{Lent, Tried, Released, Noted, Wrote, Broke, Read, ReadEnd, ReadFailed, Declined, Asked}
 use Rattle.control_session.specs.Logins.{IsServedByLogins, KeepsUsers, ServesLogins, calls_of}
 use Rattle.control_session.specs.Rows.{Outcome}
 use Rattle.control_session.specs.Sessions.{IsServed, IsSession}
@@ -15,7 +15,7 @@ use Rattle.session_table.specs.Steps.{Standing}
 use Rattle.control_session.proofs.Going.{chain_more}
 
 module _ {H A S R K : Type 0} (Does : H → HostCall A S R K → H → Type 0) (kept : H → Users) (keeps : KeepsUsers Does kept) where
-  chain_serves : (calls : List (HostCall A S R K)) (old new : H) → Chain Does old calls new → ServesLogins (kept old) calls
+  pub chain_serves : (calls : List (HostCall A S R K)) (old new : H) → Chain Does old calls new → ServesLogins (kept old) calls
   chain_serves [] old new same = tt
   chain_serves (Lent session moment users store store' promises promises' ∷ calls) old new (mid, did, more) =
       let (same, now) = keeps old mid (Lent session moment users store store' promises promises') did in
@@ -30,10 +30,11 @@ module _ {H A S R K : Type 0} (Does : H → HostCall A S R K → H → Type 0) (
   chain_serves (Read octets ∷ calls) old new (mid, did, more) = subst (λ (u : Users). ServesLogins u calls) (keeps old mid (Read octets) did) (chain_serves calls mid new more)
   chain_serves (ReadEnd ∷ calls) old new (mid, did, more) = subst (λ (u : Users). ServesLogins u calls) (keeps old mid ReadEnd did) (chain_serves calls mid new more)
   chain_serves (ReadFailed ∷ calls) old new (mid, did, more) = subst (λ (u : Users). ServesLogins u calls) (keeps old mid ReadFailed did) (chain_serves calls mid new more)
+  chain_serves (Declined ∷ calls) old new (mid, did, more) = subst (λ (u : Users). ServesLogins u calls) (keeps old mid Declined did) (chain_serves calls mid new more)
   chain_serves (Asked call ∷ calls) old new (mid, did, more) = subst (λ (u : Users). ServesLogins u calls) (keeps old mid (Asked call) did) (chain_serves calls mid new more)
 
   module _ (Row : Users → Standing → Given K → ℕ → S → S → Promises → Outcome A R K → Type 0) where
-    session_chain : {T : Type 0} (turns : ℕ) (result : Result T ControlFault) (session : Standing) (host host' : H) (is : IsSession Row Does turns result session host host')
+    pub session_chain : {T : Type 0} (turns : ℕ) (result : Result T ControlFault) (session : Standing) (host host' : H) (is : IsSession Row Does turns result session host host')
         → Chain Does host (calls_of Row Does turns result session host host' is) host'
     session_chain turns result session host host' is =
         let closing = is.closing in

@@ -1,8 +1,9 @@
 -- What one thing that a session does is, as moves.
-use Rattle.std.proofs.Common.{ℕ, ◌≡◌, ◌≢◌, ◌⊎◌, ◌+◌, inl, inr, List, [], ◌∷◌, ◌++◌, Bool, true, false, ◌||◌, Option, Some, None, refl, sym, ap, subst, append_assoc, ◌∙◌}
+use Rattle.std.proofs.Common.{ℕ, ◌≡◌, ◌≢◌, ◌⊎◌, ◌+◌, ◌<◌, ◌≤◌, inl, inr, length, arith, List, [], ◌∷◌, ◌++◌, Bool, true, false, ◌||◌, Option, Some, None, refl, sym, ap, subst, append_assoc, ◌∙◌}
+use Rattle.std.proofs.lemmas.Bool.{false≢true}
 use Rattle.authorizer.specs.Users.{Users}
-use Rattle.control_session.specs.Sides.{Given, event_in, given_of}
-use Rattle.control_session.specs.Sides.Given.{Came, Closed}
+use Rattle.control_session.specs.Sides.{Given, event_in, given_of, is_line}
+use Rattle.control_session.specs.Sides.Given.{Line, Held, Came, Closed}
 use Rattle.control_session.specs.Sides.SideCall.{Looks, Settles}
 use Rattle.control_session.specs.Reported.{closes}
 use Rattle.ftp_wire.specs.Items.{Item}
@@ -22,11 +23,14 @@ use Rattle.session_table.specs.declared.inputs.Input.TheVariants as input
 use Rattle.control_session.specs.declared.turn_fault.TurnFault.{TurnFault}
 use Rattle.control_session.specs.declared.turn_fault.TurnFault.TheVariants.{Memory}
 use Rattle.control_session.specs.Calls.{Chain, HostCall}
-use Rattle.control_session.specs.Calls.HostCall.{Tried, Read, ReadEnd, ReadFailed, Asked, Released}
+use Rattle.control_session.specs.Unmade.{LeftBy, open_held}
+use Rattle.control_session.specs.declared.no_step.NoStep.{NoStep}
+use Rattle.control_session.specs.declared.no_step.NoStep.TheVariants as unmade
+use Rattle.control_session.specs.Calls.HostCall.{Tried, Read, ReadEnd, ReadFailed, Declined, Asked, Released}
 use Rattle.control_session.specs.Rows.{Outcome}
 use Rattle.control_session.specs.Standing.{owed, owed_in}
-use Rattle.control_session.specs.Turns.{Carries, Heard, IsIdle, Next, Situation, StepTried, Stepped, Went, asked_as, at, behind, release_calls}
-use Rattle.control_session.specs.Turns.Move.{Takes, Tries, Asks, Reads, Ends, Fails, Pays}
+use Rattle.control_session.specs.Turns.{Carries, Heard, HoldsFewer, IsIdle, Next, Situation, StepRefused, StepTried, Stepped, Went, WhileOpen, asked_as, at, behind, due, release_calls}
+use Rattle.control_session.specs.Turns.Move.{Takes, Tries, Declines, Asks, Reads, Ends, Fails, Pays}
 use Rattle.control_session.proofs.Going.{chain_one, or_false, went_more, went_none, went_one}
 
 -- actions, and then others
@@ -70,6 +74,11 @@ module _ {H A S R K : Type 0} (Row : Users → Standing → Given K → ℕ → 
   tries_went host host' now given came taken next (moment, users, store, store', promises, did, stopped) =
       went_one Row Does host host' (Tried now.session moment users store store' promises ∷ []) now (record now { lost = Some Memory }) (chain_one Does host host' (Tried now.session moment users store store' promises) did)
       (Tries given moment users store store' promises came taken next stopped refl refl)
+
+  declines_went : (host host' : H) (now : Situation K) (given : Given K) (came : Option (DataEvent K)) (taken : List Item) → Next now given came taken → is_line given ≡ true → Does host Declined host'
+      → Went Row Does host now host' (record now { closed = true })
+  declines_went host host' now given came taken next line did =
+      went_one Row Does host host' (Declined ∷ []) now (record now { closed = true }) (chain_one Does host host' Declined did) (Declines given came taken next line refl refl)
 
   pub looks_went : (host host' : H) (v : Standing) (taken : List Item) (heard : Heard) (owes : List ℕ) (closed : Bool) (lost : Option TurnFault) (event : Option (DataEvent K)) → Does host (Asked (Looks event)) host'
       → Went Row Does host (at v None taken heard owes closed lost) host' (at v event taken (asked_as true heard) owes closed lost)
@@ -117,7 +126,7 @@ module _ {H A S R K : Type 0} (Row : Users → Standing → Given K → ℕ → 
 
   next_event : {I : Type 0} (now : Situation K) (reported : Input I K) (came : Option (DataEvent K)) (taken : List Item) → Next now (given_of reported) came taken → given_of reported ≢ Closed → event_in reported ≡ now.came
   next_event now (input.Line item) came taken ((is, asked, held), live, rest, none, same) other = sym is
-  next_event now input.Held came taken (is, asked, held, none, same) other = sym is
+  next_event now input.Held came taken (is, asked, held, live, none, same) other = sym is
   next_event now (input.TransferEnded end sink) came taken (is, none, same) other = sym is
   next_event now (input.DataReady port) came taken (is, none, same) other = sym is
   next_event now input.Closed came taken next other = absurd (other refl)
@@ -131,6 +140,35 @@ module _ {H A S R K : Type 0} (Row : Users → Standing → Given K → ℕ → 
       (subst (λ (x : Option (DataEvent K)). Went Row Does host (at v came taken heard [] closed lost) host' (at v x taken heard [] closed (Some Memory)))
       (sym (found_is ∙ next_event (at v came taken heard [] closed lost) reported came' taken' next other))
       (tries_went host host' (at v came taken heard [] closed lost) (given_of reported) came' taken' next did))
+
+  -- before a line there is no event, nor after it
+  line_alone : (now : Situation K) (given : Given K) (came : Option (DataEvent K)) (taken : List Item) → Next now given came taken → is_line given ≡ true → came ≡ now.came
+  line_alone now (Line item) came taken ((is, asked, held), live, rest, none, same) line = none ∙ sym is
+  line_alone now Held came taken (is, asked, held, live, none, same) line = none ∙ sym is
+  line_alone now (Came event) came taken next line = absurd (false≢true line)
+  line_alone now Closed came taken next line = absurd (false≢true line)
+
+  -- a step was not made
+  pub unmade_went : {I : Type 0} (host host' : H) (v v' : Standing) (came came' found : Option (DataEvent K)) (taken taken' : List Item) (heard : Heard) (closed closed' : Bool) (lost lost' : Option TurnFault) (reported : Input I K) (why : NoStep K)
+      → Next (at v came taken heard [] closed lost) (given_of reported) came' taken' → given_of reported ≢ Closed → v' ≡ v
+      → StepRefused Row Does host v (given_of reported) (event_in reported) why host'
+      → LeftBy why came' closed lost found closed' lost'
+      → Went Row Does host (at v came taken heard [] closed lost) host' (at v' found taken heard [] closed' lost')
+  unmade_went host host' v v' came came' found taken taken' heard closed closed' lost lost' reported (unmade.NoMemory back) next other same (tried, back_is) (found_is, closed_is, lost_is) =
+      subst (λ (b : Bool). Went Row Does host (at v came taken heard [] closed lost) host' (at v' found taken heard [] b lost')) (sym closed_is)
+      (subst (λ (l : Option TurnFault). Went Row Does host (at v came taken heard [] closed lost) host' (at v' found taken heard [] closed l)) (sym lost_is)
+      (refused_went host host' v v' came came' found taken taken' heard closed lost reported next other same (found_is ∙ back_is) tried))
+  unmade_went host host' v v' came came' found taken taken' heard closed closed' lost lost' reported unmade.Over next other same (line, did) (found_is, closed_is, lost_is) =
+      let now = at v came taken heard [] closed lost in
+      subst (λ (b : Bool). Went Row Does host now host' (at v' found taken heard [] b lost')) (sym closed_is)
+      (subst (λ (l : Option TurnFault). Went Row Does host now host' (at v' found taken heard [] true l)) (sym lost_is)
+      (subst (λ (x : Standing). Went Row Does host now host' (at x found taken heard [] true lost)) (sym same)
+      (subst (λ (x : Option (DataEvent K)). Went Row Does host now host' (at v x taken heard [] true lost)) (sym (found_is ∙ line_alone now (given_of reported) came' taken' next line))
+      (declines_went host host' now (given_of reported) came' taken' next line did))))
+
+  pub refused_open : (old : H) (session : Standing) (given : Given K) (event : Option (DataEvent K)) (why : NoStep K) (new : H) → given ≢ Closed → StepRefused Row Does old session given event why new → StepRefused (WhileOpen Row) Does old session given event why new
+  refused_open old session given event (unmade.NoMemory back) new live (tried, is) = ((tried.0, tried.1, tried.2, tried.3, tried.4, tried.5, (live, tried.6)), is)
+  refused_open old session given event unmade.Over new live did = did
 
   -- a step was made, and its actions were carried out
   pub acts_went : (host mid host' : H) (v v' : Standing) (came came' : Option (DataEvent K)) (taken taken' : List Item) (heard : Heard) (closed closed' closing : Bool) (lost lost' : Option TurnFault)
@@ -247,3 +285,24 @@ event_given {I = I} event reported is = ap given_of is ∙ given_input I event
 -- what came may come next
 pub came_next : {I K : Type 0} (now : Situation K) (event : DataEvent K) (reported : Input I K) (came : Option (DataEvent K)) → reported ≡ input_of event → now.came ≡ Some event → came ≡ None → Next now (given_of reported) came now.taken
 came_next {I = I} now event reported came is here none = subst (λ (g : Given _). Next now g came now.taken) (sym (ap given_of is ∙ given_input I event)) (here, none, refl)
+
+-- an event of the data side holds no line more
+pub fewer_came : {K P : Type 0} (given : Given K) (event : DataEvent K) (before after : Standing) → given ≡ Came event → P ⊎ HoldsFewer given before after → P ⊎ (length after.held ≤ length before.held)
+fewer_came given event before after is (inl p) = inl p
+fewer_came given event before after is (inr fewer) = inr (subst (λ (g : Given _). HoldsFewer g before after) is fewer)
+
+-- the session is to be closed, or fewer lines are held
+closed_less : (c0 c2 : Bool) (xs ys : List Item) → c0 ≡ false → c2 ≡ true → open_held c2 xs < open_held c0 ys
+closed_less c0 c2 xs ys open_is is =
+    subst (λ (b : Bool). open_held c2 xs < open_held b ys) (sym open_is) (subst (λ (b : Bool). open_held b xs < length ys + 1) (sym is) (omega arith))
+
+fewer_less : (c0 c2 : Bool) (xs ys : List Item) → c0 ≡ false → length xs < length ys → open_held c2 xs < open_held c0 ys
+fewer_less c0 true xs ys open_is less = closed_less c0 true xs ys open_is refl
+fewer_less c0 false xs ys open_is less =
+    subst (λ (b : Bool). length xs + 1 < open_held b ys) (sym open_is) (omega (arith, less))
+
+pub held_less : (c0 c1 c2 : Bool) (s0 s1 s2 : Standing) → c0 ≡ false → due s0 ≡ true → (c1 ≡ true) ⊎ (due s0 ≡ true → length s1.held < length s0.held)
+    → (c1 ≡ true → c2 ≡ true) → (c2 ≡ true) ⊎ (length s2.held ≤ length s1.held) → open_held c2 s2.held < open_held c0 s0.held
+held_less c0 c1 c2 s0 s1 s2 open_is is (inl closed) stays after = closed_less c0 c2 s2.held s0.held open_is (stays closed)
+held_less c0 c1 c2 s0 s1 s2 open_is is (inr fewer) stays (inl closed) = closed_less c0 c2 s2.held s0.held open_is closed
+held_less c0 c1 c2 s0 s1 s2 open_is is (inr fewer) stays (inr no_more) = fewer_less c0 c2 s2.held s0.held open_is (omega (arith, fewer is, no_more))

@@ -25,6 +25,8 @@ pub data HostCall (A S R K : Type 0) : Type 0 where
   Read : List ℕ → HostCall A S R K
   ReadEnd : HostCall A S R K
   ReadFailed : HostCall A S R K
+  -- in the place of a step for a line, the host ended the session
+  Declined : HostCall A S R K
   Asked : SideCall A R K → HostCall A S R K
 
 -- exactly these calls, one after another

@@ -2,9 +2,11 @@ pub mod Calls
 pub mod Rows
 pub mod Standing
 pub mod Turns
+pub mod Unmade
 pub use Rattle.session_table.specs.Steps
 pub mod Sides
 pub mod Reported
 pub mod Floors
 pub mod Sessions
 pub mod Logins
+pub mod Charges

@@ -1,5 +1,5 @@
 -- The calls of a data side, with their answers.
-use Rattle.std.specs.Prelude.{Option, Some, None}
+use Rattle.std.specs.Prelude.{Bool, true, false, Option, Some, None}
 use Rattle.ftp_wire.specs.Items.{Item}
 use Rattle.ftp_wire.specs.Reading.{item_of}
 use Rattle.ftp_wire.specs.declared.commands.HostPort.{HostPort}
@@ -34,6 +34,13 @@ given_of input.Held = Held
 given_of (input.TransferEnded end sink) = Came (Ended end sink)
 given_of (input.DataReady port) = Came (Ready port)
 given_of input.Closed = Closed
+
+-- a line, new or held
+abbrev pub is_line : {K : Type 0} → Given K → Bool
+is_line (Line item) = true
+is_line Held = true
+is_line (Came event) = false
+is_line Closed = false
 
 -- the event of the data side in an input, if it is one
 abbrev pub event_in : {A K : Type 0} → Input A K → Option (DataEvent K)

@@ -1,7 +1,7 @@
 -- The moves of a control session, one after another, with the calls of the host for each.
 use Rattle.std.specs.Prelude.{ℕ, ◌≡◌, ◌≢◌, ◌⊎◌, ◌+◌, ◌<◌, ◌≤◌, ◌||◌, List, [], ◌∷◌, ◌++◌, Bool, false, true, length, map, Option, Some, None}
 use Rattle.authorizer.specs.Users.{Users}
-use Rattle.control_session.specs.Sides.{Given}
+use Rattle.control_session.specs.Sides.{Given, is_line}
 use Rattle.control_session.specs.Sides.Given.{Line, Held, Came, Closed}
 use Rattle.control_session.specs.Sides.SideCall.{Opens, Connects, Drops, Starts, Aborts, Looks, Settles}
 use Rattle.control_session.specs.Reported.{closes}
@@ -19,7 +19,9 @@ use Rattle.session_table.specs.declared.actions.Action.TheVariants.{Say, Hook, O
 use Rattle.control_session.specs.Calls.{HostCall, Chain}
 use Rattle.control_session.specs.Rows.{Outcome}
 use Rattle.control_session.specs.Rows.Outcome.{Made, Stopped}
-use Rattle.control_session.specs.Calls.HostCall.{Lent, Tried, Released, Noted, Wrote, Broke, Read, ReadEnd, ReadFailed, Asked}
+use Rattle.control_session.specs.Calls.HostCall.{Lent, Tried, Released, Noted, Wrote, Broke, Read, ReadEnd, ReadFailed, Declined, Asked}
+use Rattle.control_session.specs.declared.no_step.NoStep.{NoStep}
+use Rattle.control_session.specs.declared.no_step.NoStep.TheVariants.{NoMemory, Over}
 use Rattle.control_session.specs.declared.turn_fault.TurnFault.{TurnFault}
 use Rattle.control_session.specs.declared.turn_fault.TurnFault.TheVariants.{Write, Memory}
 
@@ -81,12 +83,13 @@ IsIdle now = (now.came ≡ None) × (now.heard.asked ≡ true) × (due now.sessi
 
 -- The inputs that may come next, each with the event that is then left and the lines taken by then:
 -- the event of the data side; a held line that is due, if the data side was asked and had no event;
--- the next line of those heard, if nothing is left to do; Closed at any time.
+-- the next line of those heard, if nothing is left to do; Closed at any time. Once the control
+-- connection is to be closed, no line comes any more.
 abbrev pub Next : {K : Type 0} → Situation K → Given K → Option (DataEvent K) → List Item → Type 0
 Next now (Came event) came taken = (now.came ≡ Some event) × (came ≡ None) × (taken ≡ now.taken)
 Next now Held came taken =
-    (now.came ≡ None) × (now.heard.asked ≡ true) × (due now.session ≡ true) × (came ≡ None)
-    × (taken ≡ now.taken)
+    (now.came ≡ None) × (now.heard.asked ≡ true) × (due now.session ≡ true)
+    × (now.closed ≡ false) × (came ≡ None) × (taken ≡ now.taken)
 Next now (Line item) came taken = IsIdle now × (now.closed ≡ false)
     × ((rest : List Item) × (now.heard.items ≡ now.taken ++ item ∷ rest)) × (came ≡ None)
     × (taken ≡ now.taken ++ item ∷ [])
@@ -151,6 +154,15 @@ module _ {A S R K : Type 0}
       × Does old (Tried session moment users store store' promises) new
       × Row users session given moment store store' promises Stopped
 
+  -- a step was not made: memory ran out for it and its event was given back, or the host ended the
+  -- session in the place of a step for a line
+  abbrev pub StepRefused : {H : Type 0} → (H → HostCall A S R K → H → Type 0) → H → Standing
+      → Given K → Option (DataEvent K) → NoStep K → H → Type 0
+  StepRefused Does old session given event (NoMemory back) new =
+      StepTried Does old session given new × (back ≡ event)
+  StepRefused Does old session given event Over new =
+      (is_line given ≡ true) × Does old Declined new
+
   -- An input is taken by its row, for the users that were lent. Then floors are released, and then
   -- the other actions are carried out, in order.
   pub record IsTurn (before : Situation K) (calls : List (HostCall A S R K)) (after : Situation K) :
@@ -185,6 +197,13 @@ module _ {A S R K : Type 0}
         → Row users before.session given moment store store' promises Stopped
         → after ≡ record before { lost = Some Memory }
         → calls ≡ Tried before.session moment users store store' promises ∷ []
+        → Move before calls after
+    -- in the place of a step for a line that may come next, the host ended the session: no line is
+    -- taken any more
+    Declines : (given : Given K) (came : Option (DataEvent K)) (taken : List Item)
+        → Next before given came taken → is_line given ≡ true
+        → after ≡ record before { closed = true }
+        → calls ≡ Declined ∷ []
         → Move before calls after
     -- the data side was asked for an event; for the end of a transfer that still runs only once the
     -- session is closed

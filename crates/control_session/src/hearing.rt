@@ -44,7 +44,7 @@ fn hear<A: Allocator + Clone, H: Host<A>>(
         × HasRead fed heard'.items lines.new) }
     ensures none { OnOk result (talk.new.came ≡ None) }
     ensures whole { OnOk result (talk.new.lost ≡ None) }
-    ensures due { OnOk result (due talk.new.session ≡ false) }
+    ensures due { OnOk result ((talk.new.closed ≡ true) ⊎ (due talk.new.session ≡ false)) }
     ensures lost { IfErr result (IsLostTo talk.new.lost) }
     ensures buffer { length buffer.new ≡ length buffer.old }
 {

@@ -4,7 +4,7 @@ ghost use Rattle.std.specs.Prelude.{◌≡◌, ◌<◌, IfErr, IfOk, IfSome, OnE
 ghost use Rattle.control_session.specs.Calls.{HostCall, read_call, reads_within, write_call};
 ghost use Rattle.control_session.specs.Calls.HostCall.{Asked, Noted, Released};
 ghost use Rattle.control_session.specs.Rows.{IsRow};
-ghost use Rattle.control_session.specs.Turns.{StepTried, Stepped};
+ghost use Rattle.control_session.specs.Turns.{StepRefused, Stepped};
 ghost use Rattle.control_session.specs.Sides.{event_in, given_of};
 ghost use Rattle.control_session.specs.Sides.Given.{Came, Closed};
 ghost use Rattle.control_session.specs.Sides.SideCall.{Aborts, Connects, Drops, Looks, Opens, Settles, Starts};
@@ -12,6 +12,7 @@ ghost use Rattle.handler_hooks.specs.Events.{event_of};
 ghost use Rattle.session_events.specs.Leaving.{leaving_by};
 ghost use Rattle.session_table.specs.Views.{is_closed};
 
+use crate::no_step::NoStep;
 use ftp_wire::HostPort;
 use session_core::{DataEvent, Leaving, Session};
 use session_table::{Action, HookCall, Input, Job, Text};
@@ -36,7 +37,8 @@ pub enum Piece {
 /// proofs about a session include their order. A session is lent the users, the store and the floors for one step, so
 /// other sessions may change the store and the floors in between, and the host may take newer users. A host by whose
 /// `Does` it takes them only for a step before which nobody is logged in serves whoever is logged in by the users of that
-/// login (`run_control`, clause `logins`). No call has to wait: a host that waits, in a read or for the end of a
+/// login (`run_control`, clause `logins`). A host may end the session in the place of a step for a line: no line is taken
+/// after that. No call has to wait: a host that waits, in a read or for the end of a
 /// transfer, has all that it needs for that. Values that own memory of the session are passed in an `Option`, to be
 /// taken out.
 pub trait Host<A: Allocator + Clone> {
@@ -58,20 +60,20 @@ pub trait Host<A: Allocator + Clone> {
     ghost Does: { Self → HostCall A Self.Store Self.Source Self.Sink → Self → Type 0 };
 
     /// Lends the users, the store and the floors for one step of a session, at a moment of the clock, which is read
-    /// once. If memory runs out, an event of the data side is returned.
+    /// once. If memory runs out, an event of the data side is returned. For a line, new or held, the host may end the
+    /// session instead.
     fn step(
         &mut self,
         session: &mut Session<A>,
         input: &mut Option<Input<A, Self::Sink>>,
-    ) -> Result<Vec<Action<A, Self::Source, Self::Sink>, A>, Option<DataEvent<Self::Sink>>>
+    ) -> Result<Vec<Action<A, Self::Source, Self::Sink>, A>, NoStep<Self::Sink>>
         ensures row { IfSome input.old (λ input. IfOk result (λ actions.
             Stepped (IsRow Step) Does
             self.old session.old (given_of input) session.new actions.items self.new)) }
         ensures unchanged { OnErr result (session.new ≡ session.old) }
-        ensures tried { IfSome input.old (λ input.
-            OnErr result (StepTried (IsRow Step) Does
-            self.old session.old (given_of input) self.new)) }
-        ensures back { IfSome input.old (λ input. IfErr result (λ back. back ≡ event_in input)) };
+        ensures refused { IfSome input.old (λ input. IfErr result (λ why.
+            StepRefused (IsRow Step) Does
+            self.old session.old (given_of input) (event_in input) why self.new)) };
 
     /// Lends them for the end of the control connection.
     fn close(

@@ -1,12 +1,14 @@
 //! The step of a session over a lent store and lent floors.
 
-ghost use Rattle.std.specs.Prelude.{◌≡◌, IfErr, IfOk, IfSome, OnErr, Some, [], true};
+ghost use Rattle.std.specs.Prelude.{◌≡◌, IfErr, IfOk, IfSome, None, OnErr, Some, [], true};
 ghost use Rattle.control_session.specs.Rows.{IsMade, IsStopped};
 ghost use Rattle.control_session.specs.Sides.{event_in, given_of};
 ghost use Rattle.control_session.specs.Sides.Given.{Came, Closed};
+ghost use Rattle.control_session.specs.declared.no_step.NoStep.TheVariants.{NoMemory};
 ghost use Rattle.session_events.specs.Leaving.{leaving_by};
 ghost use Rattle.session_table.specs.Views.{is_closed};
 
+use crate::no_step::NoStep;
 use authorizer::Authorizer;
 use rate_floors::Floors;
 use session_core::{DataEvent, Leaving, Session};
@@ -22,18 +24,18 @@ fn step_line<A: Allocator + Clone, F: Allocator + Clone, S: Store<A>>(
     store: &mut S,
     input: Input<A, S::Sink>,
     moment: u64,
-) -> Result<Vec<Action<A, S::Source, S::Sink>, A>, Option<DataEvent<S::Sink>>>
+) -> Result<Vec<Action<A, S::Source, S::Sink>, A>, NoStep<S::Sink>>
     ensures row { IfOk result (λ actions. IsMade S.Step users.now.users session.old
         (given_of input) moment store.old store.new floors.old floors.new session.new
         actions.items) }
     ensures unchanged { OnErr result ((session.new ≡ session.old) × (floors.new ≡ floors.old)) }
     ensures stopped { OnErr result (IsStopped A S.Step users.now.users session.old
         (given_of input) moment store.old store.new) }
-    ensures back { IfErr result (λ back. back ≡ None) }
+    ensures back { IfErr result (λ why. why ≡ NoMemory None) }
 {
     match session.step(users, floors, store, input, moment) {
         Ok(actions) => Ok(actions),
-        Err(AllocError) => Err(None),
+        Err(AllocError) => Err(NoStep::NoMemory(None)),
     }
 }
 
@@ -45,18 +47,18 @@ fn step_event<A: Allocator + Clone, F: Allocator + Clone, S: Store<A>>(
     store: &mut S,
     event: DataEvent<S::Sink>,
     moment: u64,
-) -> Result<Vec<Action<A, S::Source, S::Sink>, A>, Option<DataEvent<S::Sink>>>
+) -> Result<Vec<Action<A, S::Source, S::Sink>, A>, NoStep<S::Sink>>
     ensures row { IfOk result (λ actions. IsMade S.Step users.now.users session.old
         (Came event) moment store.old store.new floors.old floors.new session.new
         actions.items) }
     ensures unchanged { OnErr result ((session.new ≡ session.old) × (floors.new ≡ floors.old)) }
     ensures stopped { OnErr result (IsStopped A S.Step users.now.users session.old
         (Came event) moment store.old store.new) }
-    ensures back { IfErr result (λ back. back ≡ Some event) }
+    ensures back { IfErr result (λ why. why ≡ NoMemory (Some event)) }
 {
     match session.take_event(users, store, event, moment) {
         Ok(actions) => Ok(actions),
-        Err(back) => Err(Some(back)),
+        Err(back) => Err(NoStep::NoMemory(Some(back))),
     }
 }
 
@@ -69,7 +71,7 @@ pub fn step_by<A: Allocator + Clone, F: Allocator + Clone, S: Store<A>>(
     store: &mut S,
     input: &mut Option<Input<A, S::Sink>>,
     moment: u64,
-) -> Result<Vec<Action<A, S::Source, S::Sink>, A>, Option<DataEvent<S::Sink>>>
+) -> Result<Vec<Action<A, S::Source, S::Sink>, A>, NoStep<S::Sink>>
     ensures row { IfSome input.old (λ input. IfOk result (λ actions.
         IsMade S.Step users.now.users session.old (given_of input) moment store.old store.new
         floors.old floors.new session.new actions.items)) }
@@ -77,10 +79,11 @@ pub fn step_by<A: Allocator + Clone, F: Allocator + Clone, S: Store<A>>(
     ensures stopped { IfSome input.old (λ input. OnErr result (
         IsStopped A S.Step users.now.users session.old (given_of input) moment
         store.old store.new)) }
-    ensures back { IfSome input.old (λ input. IfErr result (λ back. back ≡ event_in input)) }
+    ensures back { IfSome input.old (λ input. IfErr result (λ why.
+        why ≡ NoMemory (event_in input))) }
 {
     match input.take() {
-        None => Err(None),
+        None => Err(NoStep::NoMemory(None)),
         Some(Input::TransferEnded { end, sink }) => {
             step_event(
                 session,

@@ -1,7 +1,8 @@
 //! A whole control session.
 
-ghost use Rattle.std.specs.Prelude.{◌≡◌, ◌<◌, [], IfOk, vec_len};
+ghost use Rattle.std.specs.Prelude.{ℕ, ◌≡◌, ◌<◌, [], IfOk, vec_len};
 ghost use Rattle.authorizer.specs.Users.{Users};
+ghost use Rattle.control_session.specs.Charges.{ChargesUsers, IsChargedByLogins};
 ghost use Rattle.control_session.specs.Floors.{HasFloors};
 ghost use Rattle.control_session.specs.Logins.{IsServedByLogins, KeepsUsers};
 ghost use Rattle.control_session.specs.Sessions.{IsServed, IsSession, new_session};
@@ -106,6 +107,11 @@ pub fn run_control<A: Allocator + Clone, H: Host<A>>(
     ensures logins { (kept : H → Users) → KeepsUsers H.Does kept
         → IsServedByLogins (IsRow {A = A} {R = H.Source} H.Step) H.Does
         turns result (new_session settings peer) host.old host.new (kept host.old) }
+    ensures charges { (kept : H → Users) (user charged : H → ℕ) → KeepsUsers H.Does kept
+        → ChargesUsers H.Does kept user charged
+        → IsChargedByLogins (IsRow {A = A} {R = H.Source} H.Step) H.Does
+        turns result (new_session settings peer) host.old host.new
+        (kept host.old) (user host.old) (charged host.old) (charged host.new) }
 {
     let session = Session::new(alloc.clone()?, settings, peer)?;
     let greeting = session.greet()?;

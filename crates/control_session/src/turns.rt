@@ -5,6 +5,7 @@ ghost use Rattle.std.specs.Vec.Iter.{into_iter_items};
 ghost use Rattle.control_session.specs.Rows.{IsRow};
 ghost use Rattle.control_session.specs.Standing.{AllTaken, IsLost, stand};
 ghost use Rattle.control_session.specs.Turns.{Heard, HoldsFewer, Next, Went, WhileOpen, asked_as, at, behind, due};
+ghost use Rattle.control_session.specs.Unmade.{LeftBy, open_held};
 ghost use Rattle.control_session.specs.Sides.{given_of};
 ghost use Rattle.ftp_wire.specs.Items.{Item};
 ghost use Rattle.ftp_wire.specs.Reading.{item_of, items_of};
@@ -16,6 +17,7 @@ ghost use Rattle.std.specs.Prelude.{◌≢◌};
 use crate::actions::closes;
 use crate::carrying::carry_out;
 use crate::host::Host;
+use crate::no_step::NoStep;
 use crate::talk::Talk;
 use crate::turn_fault::TurnFault;
 use ftp_wire::LineItem;
@@ -51,8 +53,38 @@ fn ended(lost: Option<TurnFault>) -> Result<(), TurnFault>
     }
 }
 
+/// Takes over what a step leaves that was not made.
+fn unmade<A: Allocator, K: Drop>(talk: &mut Talk<A, K>, why: NoStep<K>) -> Result<(), TurnFault>
+    ensures session { talk.new.session ≡ talk.old.session }
+    ensures left { LeftBy why talk.old.came talk.old.closed talk.old.lost
+        talk.new.came talk.new.closed talk.new.lost }
+    ensures none { OnOk result (talk.new.came ≡ talk.old.came) }
+    ensures closed { OnOk result (talk.new.closed ≡ true) }
+    ensures stays { talk.old.closed ≡ true → talk.new.closed ≡ true }
+    ensures whole { OnOk result (talk.new.lost ≡ None) }
+    ensures lost { IfErr result (IsLost talk.new.lost) }
+{
+    match why {
+        NoStep::NoMemory(back) => {
+            talk.came = back;
+            talk.lost = Some(TurnFault::Memory);
+        }
+        NoStep::Over => talk.closed = true,
+    }
+    ended(talk.lost)
+}
+
+/// Returns whether a held line is to be taken next.
+fn takes_held<A: Allocator + Clone, K>(talk: &Talk<A, K>) -> bool
+    ensures open { result ≡ true → talk.now.closed ≡ false }
+    ensures due { result ≡ true → due talk.now.session ≡ true }
+    ensures none { result ≡ false → (talk.now.closed ≡ true) ⊎ (due talk.now.session ≡ false) }
+{
+    !talk.closed && talk.session.held_due()
+}
+
 /// One turn: passes an input to the session and carries out its actions. If memory runs out for the step, nothing is
-/// done, and an event of the data side stays.
+/// done, and an event of the data side stays. If the host ends the session instead, it is to be closed.
 pub(crate) fn turn<A: Allocator + Clone, H: Host<A>>(
     alloc: &A,
     host: &mut H,
@@ -68,20 +100,19 @@ pub(crate) fn turn<A: Allocator + Clone, H: Host<A>>(
         × Went (WhileOpen (IsRow {A = A} {R = H.Source} H.Step)) H.Does
         host.old (at talk.old.session came taken heard [] talk.old.closed talk.old.lost)
         host.new (stand talk.new last heard')
-        × ((last ≡ taken) ⊎ (last ≡ taken')) × OnOk result (last ≡ taken')
+        × ((last ≡ taken) ⊎ (last ≡ taken'))
+        × OnOk result ((talk.new.closed ≡ true) ⊎ (last ≡ taken'))
         × ((heard' ≡ heard) ⊎ (heard' ≡ behind (given_of input) heard)) }
     ensures none { OnOk result (talk.new.came ≡ talk.old.came) }
     ensures whole { OnOk result (talk.new.lost ≡ None) }
-    ensures held { OnOk result (HoldsFewer (given_of input) talk.old.session talk.new.session) }
+    ensures stays { talk.old.closed ≡ true → talk.new.closed ≡ true }
+    ensures held { OnOk result ((talk.new.closed ≡ true)
+        ⊎ HoldsFewer (given_of input) talk.old.session talk.new.session) }
     ensures lost { IfErr result (IsLost talk.new.lost) }
 {
     let actions = match host.step(&mut talk.session, &mut Some(input)) {
         Ok(actions) => actions,
-        Err(back) => {
-            talk.came = back;
-            talk.lost = Some(TurnFault::Memory);
-            return Err(TurnFault::Memory);
-        }
+        Err(why) => return unmade(talk, why),
     };
     talk.closed = either(talk.closed, closes(&actions));
     talk.lost = carry_out(alloc, host, talk.lost, actions);
@@ -102,8 +133,9 @@ pub(crate) fn look<A: Allocator + Clone, H: Host<A>>(
         host.new (stand talk.new taken (asked_as true heard)) }
     ensures none { OnOk result (talk.new.came ≡ None) }
     ensures whole { OnOk result (talk.new.lost ≡ None) }
-    ensures held { OnOk result
-        (length talk.new.session.held ≤ length talk.old.session.held) }
+    ensures stays { talk.old.closed ≡ true → talk.new.closed ≡ true }
+    ensures held { OnOk result ((talk.new.closed ≡ true)
+        ⊎ (length talk.new.session.held ≤ length talk.old.session.held)) }
     ensures lost { IfErr result (IsLost talk.new.lost) }
 {
     match host.look() {
@@ -126,11 +158,12 @@ pub(crate) fn catch_up<A: Allocator + Clone, H: Host<A>>(
         × OnOk result (asked ≡ true) }
     ensures none { OnOk result (talk.new.came ≡ None) }
     ensures whole { OnOk result (talk.new.lost ≡ None) }
-    ensures due { OnOk result (due talk.new.session ≡ false) }
+    ensures stays { talk.old.closed ≡ true → talk.new.closed ≡ true }
+    ensures due { OnOk result ((talk.new.closed ≡ true) ⊎ (due talk.new.session ≡ false)) }
     ensures lost { IfErr result (IsLost talk.new.lost) }
 {
     look(alloc, host, talk)?;
-    while talk.session.held_due() {
+    while takes_held(talk) {
         turn(alloc, host, talk, Input::Held)?;
         look(alloc, host, talk)?;
     }
@@ -153,10 +186,11 @@ fn take_line<A: Allocator + Clone, H: Host<A>>(
         → (last : List Item) × (asked : Bool)
         × Went (WhileOpen (IsRow {A = A} {R = H.Source} H.Step)) H.Does
         host.old (stand talk.old taken heard) host.new (stand talk.new last (asked_as asked heard))
-        × OnOk result ((last ≡ taken ++ item_of item ∷ []) × (asked ≡ true)) }
+        × OnOk result (((talk.new.closed ≡ true) ⊎ (last ≡ taken ++ item_of item ∷ []))
+        × (asked ≡ true)) }
     ensures none { OnOk result (talk.new.came ≡ None) }
     ensures whole { OnOk result (talk.new.lost ≡ None) }
-    ensures due { OnOk result (due talk.new.session ≡ false) }
+    ensures due { OnOk result ((talk.new.closed ≡ true) ⊎ (due talk.new.session ≡ false)) }
     ensures lost { IfErr result (IsLost talk.new.lost) }
 {
     turn(alloc, host, talk, Input::Line(item))?;
@@ -187,7 +221,7 @@ pub(crate) fn take_lines<A: Allocator + Clone, H: Host<A>>(
         × OnOk result ((asked ≡ true) × ((talk.new.closed ≡ true) ⊎ AllTaken last heard)) }
     ensures none { OnOk result (talk.new.came ≡ None) }
     ensures whole { OnOk result (talk.new.lost ≡ None) }
-    ensures due { OnOk result (due talk.new.session ≡ false) }
+    ensures due { OnOk result ((talk.new.closed ≡ true) ⊎ (due talk.new.session ≡ false)) }
     ensures lost { IfErr result (IsLost talk.new.lost) }
 {
     catch_up(alloc, host, talk)?;

@@ -1,5 +1,5 @@
 -- Counts modulo 2^64.
-use Rattle.std.proofs.Common.{◌≡◌, ◌+◌, ◌%◌, ◌^◌, ◌⊎◌, inl, inr, ℕ, arith}
+use Rattle.std.proofs.Common.{◌≡◌, ◌+◌, inl, inr, ℕ, arith}
 use Rattle.counted_file.specs.Calls.{IsRaised, next}
 
 pub raised_once : (steps old now new : ℕ) → IsRaised steps old now → new ≡ next now → IsRaised (steps + 1) old new

@@ -1,5 +1,6 @@
 -- The calls on a file.
-use Rattle.std.specs.Prelude.{◌≡◌, ◌⊎◌, ◌+◌, ◌-◌, ◌%◌, ◌^◌, ℕ, Result, MatchResult}
+use Rattle.std.specs.Prelude.{◌≡◌, ◌⊎◌, ◌+◌, ◌%◌, ◌^◌, ℕ, Result, MatchResult}
+use Rattle.counted_file.specs.declared.counted.TheConstants.{MOST_TRIES}
 
 -- number of calls on a file that passed, of those that were interrupted, and of those that failed,
 -- each modulo 2^64
@@ -32,11 +33,11 @@ Passes old new = (new.passed ≡ next old.passed) × (new.failed ≡ old.failed)
 abbrev pub IsRaised : ℕ → ℕ → ℕ → Type 0
 IsRaised steps old new = ((steps ≡ 0) × (new ≡ old)) ⊎ (new ≡ (old + steps) % 2 ^ 64)
 
--- one call failed, after any number that were interrupted; or 2^64 - 1 were interrupted
+-- one call failed, after any number that were interrupted; or as many as are made were interrupted
 abbrev pub Fails : FileCalls → FileCalls → Type 0
 Fails old new = (new.passed ≡ old.passed)
     × ((new.failed ≡ next old.failed) ⊎ ((new.failed ≡ old.failed)
-    × IsRaised (2 ^ 64 - 1) old.interrupted new.interrupted))
+    × IsRaised MOST_TRIES old.interrupted new.interrupted))
 
 abbrev pub IsCounted : {X E : Type 0} → Result X E → FileCalls → FileCalls → Type 0
 IsCounted answer old new = MatchResult answer (λ _. Passes old new) (λ _. Fails old new)

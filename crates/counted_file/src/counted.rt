@@ -1,7 +1,7 @@
 //! A file, or another end that is read or written, with counts of the calls on it.
 //!
 //! No other module can access the end, so a contract that compares these counts covers each call that was made. A call
-//! that was interrupted is made again.
+//! that was interrupted is made again, [`MOST_TRIES`] times in all.
 
 ghost use Rattle.std.specs.Prelude.{◌≡◌, ◌≢◌, ◌<◌, ◌≤◌, length, take, IfErr, IfOk, OnOk};
 ghost use Rattle.std.specs.Io.KnownBytes.{Appends, Keeps, ReadConsumes};
@@ -12,6 +12,10 @@ ghost use Rattle.counted_file.specs.Calls.{IsCounted, ReportsWrite, next, no_cal
 use std::io;
 use std::io::{ErrorKind, Read, Write};
 use std::marker::Model;
+
+/// Number of times that a call is made if each time it is interrupted. A process that is stopped and continued interrupts
+/// one call, so what interrupts a hundred in a row is the file itself, and nobody waits for that.
+pub const MOST_TRIES: u64 = 100;
 
 /// An open file with counts of the calls on it, modulo 2^64.
 #[derive(Drop)]
@@ -106,14 +110,14 @@ impl<F: Read + Drop> CountedFile<F> {
         answer
     }
 
-    /// Reads once, and again if the read is interrupted. `TimedOut` after 2^64 - 1 interruptions.
+    /// Reads once, and again if the read is interrupted. `TimedOut` after [`MOST_TRIES`] interruptions.
     pub fn read(&mut self, buffer: &mut [u8]) -> io::Result<usize>
         ensures bound { IfOk result (λ count. count ≤ length buffer.new) }
         ensures octets { ReadConsumes (F.remaining self.old.file) (F.remaining self.new.file)
             result buffer.new }
         ensures counted { IsCounted result self.old.calls self.new.calls }
     {
-        'reads: for turn in 0..u64::MAX {
+        'reads: for turn in 0..MOST_TRIES {
             match self.read_once(buffer) {
                 Err(error) if error.kind() == ErrorKind::Interrupted => {}
                 answer => return answer,
@@ -146,8 +150,8 @@ impl<F: Write + Drop> CountedFile<F> {
         answer
     }
 
-    /// Writes once, and again if the write is interrupted. One that takes no octet has failed. `TimedOut` after 2^64 - 1
-    /// interruptions.
+    /// Writes once, and again if the write is interrupted. One that takes no octet has failed. `TimedOut` after
+    /// [`MOST_TRIES`] interruptions.
     pub fn write_some(&mut self, octets: &[u8]) -> io::Result<usize>
         ensures some { IfOk result (λ count. 0 < count) }
         ensures bound { IfOk result (λ count. count ≤ length octets.now) }
@@ -155,7 +159,7 @@ impl<F: Write + Drop> CountedFile<F> {
             (F.contents self.new.file) (take count octets.now)) }
         ensures counted { IsCounted result self.old.calls self.new.calls }
     {
-        'writes: for turn in 0..u64::MAX {
+        'writes: for turn in 0..MOST_TRIES {
             match self.write_once(octets) {
                 Err(error) if error.kind() == ErrorKind::Interrupted => {}
                 answer => return answer,

@@ -17,10 +17,10 @@ use Rattle.desk_rule.specs.declared.view.LaneSlot.{LaneSlot}
 use Rattle.desk_rule.specs.declared.view.LaneSlot.TheVariants.{Blank, WithAsk, WithGrant}
 use Rattle.desk_rule.specs.declared.view.LaneView.{LaneView}
 use Rattle.desk_rule.specs.declared.view.TraceView.{TraceView}
-use Rattle.desk_rule.specs.Lanes.{Phase, free, worker, asked, round, granted, code, Agrees, Kept, Knows, Leads, lane_in, trace_in, posted_by, most, sat_down, has_asked, has_taken, has_looked, has_risen, has_missed, has_collected, has_posted}
+use Rattle.desk_rule.specs.Lanes.{Phase, free, worker, asked, round, granted, code, Agrees, Kept, Knows, Leads, lane_in, trace_in, with_trace, posted_by, most, sat_down, has_asked, has_taken, has_looked, has_risen, has_missed, has_collected, has_posted}
 use Rattle.desk_rule.specs.Shown.{last_of, state_in}
 use Rattle.desk_rule.specs.Events.{HasLane, HasTraces, SitIsEvent, AskIsEvent, CollectIsEvent, MissIsEvent, PostIsEvent, TakeIsEvent, LookIsNoEvent, RiseIsEvent, IsAccounted, AccountsFit}
-use Rattle.desk_rule.proofs.Keeps.{Beside, at_home, lane_changes, trace_changes, in_phase, is_free, is_worker, is_asked, is_round, is_granted, own, ruled, posted_after, posted_most, sum_more}
+use Rattle.desk_rule.proofs.Keeps.{Beside, answers_change, at_home, lane_changes, trace_changes, in_phase, is_free, is_worker, is_asked, is_round, is_granted, own, ruled, posted_after, posted_most, sum_more}
 
 last_more : (xs : List Ask) (a : Ask) → last_of (xs ++ a ∷ []) ≡ Some a
 last_more [] a = refl
@@ -111,7 +111,7 @@ module _ {N : Type 0} where
       let x = r.lane i in
       let ph : r.phase i ≡ round = is_round (r.phase i) (omega (arith, due, l.2.answered)) in
       let ok = in_phase s r id i v h.0 x t (r.phase i) round ph l.2 in
-      trace_changes s r i (set s.words i 4) (set s.homes i (some (WithGrant g))) (at_home s i 4 (some (WithGrant g))) x (has_posted g.octets t) (granted g)
+      answers_change s s r id i v (with_trace i (has_posted g.octets t) v) (set s.words i 4) (set s.homes i (some (WithGrant g))) (ShownStep (event.Post i) (answer.Posted g.octets)) h.0 (trace_changes s r i (set s.words i 4) (set s.homes i (some (WithGrant g))) (at_home s i 4 (some (WithGrant g))) x (has_posted g.octets t) (granted g)
       record {
         word_is = get_or-set_same s.words i 4 0 l.1;
         home_is = set_here s.homes i (some (WithGrant g)) l.0;
@@ -122,7 +122,7 @@ module _ {N : Type 0} where
         within = omega (arith, few, posted_most i v h.1, sum_more t.posted g.octets);
         bears = bears;
       }
-      id v h.0 h.1 (omega (arith, few, posted_after i (has_posted g.octets t) v h.1, sum_more t.posted g.octets)) refl (ShownStep (event.Post i) (answer.Posted g.octets)) (ap state_in ph, refl)
+      id v h.0 h.1 (omega (arith, few, posted_after i (has_posted g.octets t) v h.1, sum_more t.posted g.octets)) refl (ShownStep (event.Post i) (answer.Posted g.octets)) (ap state_in ph, refl))
 
   pub take_is : TakeIsEvent N
   take_is s r id i v h hit =

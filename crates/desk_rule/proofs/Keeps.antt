@@ -1,5 +1,5 @@
 -- Each step keeps the rule.
-use Rattle.std.proofs.Common.{◌≡◌, ℕ, zero, suc, ◌+◌, ◌<◌, ◌≤◌, eqb, ◌≢◌, List, [], ◌∷◌, ◌++◌, map, length, get_or, set, sum, replicate, ◌⊎◌, inl, inr, sym, refl, ap, ◌∙◌, subst, ⊎_elim, arith, length-set, length-append, append-nil, get_or-set_other, get_or-set_same}
+use Rattle.std.proofs.Common.{◌≡◌, ℕ, zero, suc, ◌+◌, ◌<◌, ◌≤◌, eqb, ◌≢◌, false, List, [], ◌∷◌, ◌++◌, map, length, get_or, set, sum, replicate, ◌⊎◌, inl, inr, sym, refl, ap, ◌∙◌, subst, ⊎_elim, arith, length-set, length-append, append-nil, get_or-set_other, get_or-set_same}
 use mathlib.Core.Logic.{dite}
 use mathlib.Core.Option.{Option, none, some, some-injective, some-ne-none}
 use native.Mathlib.Decide.{ℕ_discrete}
@@ -19,10 +19,15 @@ use Rattle.desk_rule.specs.declared.view.TraceView.{TraceView}
 use Rattle.desk_rule.specs.declared.view.RoundView.{RoundView}
 use Rattle.desk_rule.specs.declared.view.DeskView.{DeskView}
 use Rattle.desk_rule.specs.declared.view.DeskView.TheVariants.{Spent, Lane, Round}
-use Rattle.desk_rule.specs.Lanes.{Phase, free, worker, asked, round, granted, code, state_of, open_grant, ahead, Agrees, fresh, untraced, posted_in, most, KnowsRound, Knows, Kept, first_round, lane_in, with_lane, Owns, trace_in, with_trace, Leads, posted_by, sat_down, has_asked, has_taken, has_looked, has_risen, has_missed, has_collected, has_posted}
+use Rattle.desk_rule.specs.Lanes.{Phase, free, worker, asked, round, granted, code, state_of, open_grant, ahead, Agrees, fresh, untraced, posted_in, most, KnowsRound, Knows, Kept, first_round, lane_in, with_lane, Owns, trace_in, with_trace, now_answering, with_answer, is_answering, Leads, posted_by, sat_down, has_asked, has_taken, has_looked, has_risen, has_missed, has_collected, has_posted}
 use Rattle.world_terms.specs.Lanes.{Shown}
 use Rattle.desk_rule.specs.Shown.{shown_of, StepsTo}
 use Rattle.desk_rule.specs.Lanes as spec
+use Rattle.desk_rule.specs.Events.{noted}
+use Rattle.desk_rule.specs.Steps.{Done, Ran, StepOn}
+use Rattle.std.specs.Prelude.{Some, None}
+use Rattle.world_terms.specs.declared.event.Event.TheVariants as event
+use Rattle.world_terms.specs.declared.event.EventAnswer.TheVariants as answer
 
 module _ {A : Type 0} where
   pick : {P : Type 0} → Dec P → A → A → A
@@ -120,6 +125,11 @@ module _ (k : ℕ) (lane : ℕ → LaneView) (trace : ℕ → TraceView) (owner 
     each_back = kn.each_back;
     within = few;
   }
+
+knows_answering : (k : ℕ) (lane : ℕ → LaneView) (trace : ℕ → TraceView) (owner : ℕ → ℕ) (desk dealt j : ℕ) (u : DeskView) → Knows k lane trace owner desk dealt j u → Knows k lane trace owner desk dealt j (now_answering u)
+knows_answering k lane trace owner desk dealt j Spent kn = tt
+knows_answering k lane trace owner desk dealt j (Lane q y) kn = kn
+knows_answering k lane trace owner desk dealt j (Round sh) kn = record { is_desk = kn.is_desk; dealt_is = kn.dealt_is; wide = kn.wide; each_trace = kn.each_trace; each_back = kn.each_back; within = kn.within }
 
 pub posted_set : (ts : List TraceView) (i : ℕ) (t : TraceView) → i < length ts → posted_in (set ts i t) + sum (get_or ts i untraced).posted ≡ posted_in ts + sum t.posted
 posted_set [] i t h = absurd (omega arith)
@@ -298,6 +308,30 @@ module _ {N : Type 0} where
           ),
         )
 
+  -- nothing but the round's record of its answers changes
+  pub answers : (s : State (LaneSlot N) DeskView) (id : ℕ) (v u : DeskView) (ws : List ℕ) (hs : List (Option (LaneSlot N))) → get_elem? s.views id ≡ some v → Kept record { words = ws; homes = hs; views = set s.views id u } → Kept record { words = ws; homes = hs; views = set s.views id (now_answering u) }
+  answers s id v u ws hs at r = record {
+    lane = r.lane;
+    trace = r.trace;
+    phase = r.phase;
+    owner = r.owner;
+    desk = r.desk;
+    dealt = r.dealt;
+    wide = r.wide;
+    few = r.few;
+    new = r.new;
+    each_lane = r.each_lane;
+    each_view = λ j w e. ⊎_elim
+        (λ (y : (j ≡ id) × (now_answering u ≡ w)). subst (λ (z : ℕ × DeskView). Knows (length hs) r.lane r.trace r.owner r.desk r.dealt z.0 z.1) (λ q. (sym y.0 q, y.1 q))
+        (knows_answering (length hs) r.lane r.trace r.owner r.desk r.dealt id u (r.each_view id u (set_here s.views id u (at_length s.views id v at)))))
+        (λ (y : (j ≢ id) × (get_elem? s.views j ≡ some w)). r.each_view j w (set_else s.views id j u y.0 ∙ y.1)) (at_set s.views id j (now_answering u) w e);
+  }
+
+  -- and nothing that is shown
+  pub answers_change : (s : State (LaneSlot N) DeskView) (s0 : State (LaneSlot N) DeskView) (r0 : Kept s0) (id i : ℕ) (v u : DeskView) (ws : List ℕ) (hs : List (Option (LaneSlot N))) (P : Shown → Shown → Type 0) → get_elem? s.views id ≡ some v → StepsTo r0 record { words = ws; homes = hs; views = set s.views id u } i P → StepsTo r0 record { words = ws; homes = hs; views = set s.views id (now_answering u) } i P
+  unfolding answers
+  answers_change s s0 r0 id i v u ws hs P at c = (answers s id v u ws hs at c.0, c.1)
+
   -- the state is as it was
   unmoved : (s : State (LaneSlot N) DeskView) (r : Kept s) (id i : ℕ) (v : DeskView) → get_elem? s.views id ≡ some v → Kept record { words = set s.words i (get_or s.words i 0); homes = s.homes; views = set s.views id v }
   unmoved s r id i v at = subst Kept (λ q. record { words = sym (set-get_or s.words i 0) q; homes = s.homes; views = sym (set_again s.views id v at) q }) r
@@ -315,7 +349,7 @@ module _ {N : Type 0} where
   grant_at ((k, WithGrant g) ∷ xs) d = g
 
   abbrev Goes : State (LaneSlot N) DeskView → ℕ → ℕ → (Me (LaneSlot N) DeskView) → (ℕ → (Me (LaneSlot N) DeskView) → Type 0) → ℕ → Type 0
-  Goes s i id m then k = (w : DeskView) × (a : Act (LaneSlot N)) × Valid s.homes m.1 a × Kept (stepped s i k id m.1 w a) × then (get_or s.words i 0) (w, carried_after m.1 a)
+  Goes s i id m then k = (w : DeskView) × (a : Act (LaneSlot N)) × Valid s.homes m.1 a × Ran (stepped s i k id m.1 w a) × then (get_or s.words i 0) (w, carried_after m.1 a)
 
   module _ (s : State (LaneSlot N) DeskView) (r : Kept s) (id i : ℕ) (v : DeskView) (at : get_elem? s.views id ≡ some v) where
     pub record LaneKnown : Type 0 where
@@ -369,51 +403,65 @@ module _ {N : Type 0} where
     pub in_phase : (x : LaneView) (t : TraceView) (ph ph' : Phase N) → ph ≡ ph' → Agrees i (get_or s.words i 0) (get_elem? s.homes i) x t ph → Agrees i (get_or s.words i 0) (get_elem? s.homes i) x t ph'
     in_phase x t ph ph' e ok = subst (λ (p : Phase N). Agrees i (get_or s.words i 0) (get_elem? s.homes i) x t p) e ok
 
-  pub sits : (n id : ℕ) (me : (Me (LaneSlot N) DeskView)) (i : ℕ) → Owns i me.0 → (lane_in i me.0).state ≡ Free → Allows Kept n id me i (λ _. 1) (λ _. spec.sits (step n i 1 0 none) me 1)
-  sits n id me i o is s r wide at _ =
+  -- one step more
+  pub more : (s s' : State (LaneSlot N) DeskView) → Ran s → (d : Done) → StepOn d s s' → Kept s' → Ran s'
+  more s s' r d step k = record { kept = k; words = r.words; slots = r.slots; lanes = r.lanes; long = r.long; past = d ∷ r.past; ran = (s, r.ran, step) }
+
+  -- a word that was written anew as it was
+  same_word : (s : State (LaneSlot N) DeskView) (i id : ℕ) (w : DeskView) → ◌≡◌ {A = State (LaneSlot N) DeskView} (record { words = set s.words i (get_or s.words i 0); homes = s.homes; views = set s.views id w }) (noted s id w)
+  same_word s i id w = ap (λ (ws : List ℕ). record { words = ws; homes = s.homes; views = set s.views id w }) (set-get_or s.words i 0)
+
+  pub sits : (n id : ℕ) (me : (Me (LaneSlot N) DeskView)) (i : ℕ) → Owns i me.0 → (lane_in i me.0).state ≡ Free → Allows Ran n id me i (λ _. 1) (λ _. spec.sits (step n i 1 0 none) me 1)
+  sits n id me i o is s ran wide at _ =
+      let r = ran.kept in
       let v : DeskView = me.0 in
       let l = lane_known s r id i v at o in
       let ok = in_phase s r id i v at (lane_in i v) l.trace l.phase free (is_free l.phase (sym is ∙ l.ok.state_is)) l.ok in (
         with_lane i (sat_down (lane_in i v)) v,
         takes i Blank,
         ok.home_is,
-        lane_moves s r i (set s.words i 1) (set s.homes i none) (at_home s i 1 none) (sat_down (lane_in i v)) l.trace worker
+        more s _ ran (Some (event.Sit i, answer.Done)) (id, v, (at, o), is, refl)
+            (lane_moves s r i (set s.words i 1) (set s.homes i none) (at_home s i 1 none) (sat_down (lane_in i v)) l.trace worker
             record { word_is = get_or-set_same s.words i 1 0 l.below; home_is = set_here s.homes i none l.near; state_is = refl; asks_are = ok.asks_are; posted_are = ok.posted_are; answered = ok.answered; within = ok.within; bears = tt }
-            id v at o l.trace_is,
+            id v at o l.trace_is),
         refl,
       )
 
-  asks_at : (n id : ℕ) (v : DeskView) (c : List (ℕ × (LaneSlot N))) (i : ℕ) (a : Ask) → Owns i v → (lane_in i v).state ≡ Worker → Allows Kept n id (v, (i, WithAsk a) ∷ c) i (λ _. 2) (λ _. spec.asks (step n i 2 0 none) (v, (i, WithAsk a) ∷ c) 2)
-  asks_at n id v c i a o is s r wide at _ =
+  asks_at : (n id : ℕ) (v : DeskView) (c : List (ℕ × (LaneSlot N))) (i : ℕ) (a : Ask) → Owns i v → (lane_in i v).state ≡ Worker → Allows Ran n id (v, (i, WithAsk a) ∷ c) i (λ _. 2) (λ _. spec.asks (step n i 2 0 none) (v, (i, WithAsk a) ∷ c) 2)
+  asks_at n id v c i a o is s ran wide at _ =
+      let r = ran.kept in
       let l = lane_known s r id i v at o in
       let ok = in_phase s r id i v at (lane_in i v) l.trace l.phase worker (is_worker l.phase (sym is ∙ l.ok.state_is)) l.ok in (
         with_lane i (has_asked a (lane_in i v)) v,
         gives,
         tt,
-        lane_moves s r i (set s.words i 2) (set s.homes i (some (WithAsk a))) (at_home s i 2 (some (WithAsk a))) (has_asked a (lane_in i v)) l.trace (asked a)
+        more s _ ran (Some (event.Asked i a, answer.Done)) (id, v, (at, o), is, refl)
+            (lane_moves s r i (set s.words i 2) (set s.homes i (some (WithAsk a))) (at_home s i 2 (some (WithAsk a))) (has_asked a (lane_in i v)) l.trace (asked a)
             record { word_is = get_or-set_same s.words i 2 0 l.below; home_is = set_here s.homes i (some (WithAsk a)) l.near; state_is = refl; asks_are = ap (λ (xs : List Ask). xs ++ a ∷ []) (ok.asks_are ∙ append-nil l.trace.collected); posted_are = ok.posted_are; answered = ok.answered; within = ok.within; bears = tt }
-            id v at o l.trace_is,
+            id v at o l.trace_is),
         λ b e. ap (λ (xs : List (ℕ × (LaneSlot N))). (with_lane i (has_asked (ask_at xs a) (lane_in i v)) v, c)) e,
       )
 
-  pub asks : (n id : ℕ) (me : (Me (LaneSlot N) DeskView)) (i : ℕ) (a : Ask) → Owns i me.0 → (lane_in i me.0).state ≡ Worker → me.1 ≡ (i, WithAsk a) ∷ rest me.1 → Allows Kept n id me i (λ _. 2) (λ _. spec.asks (step n i 2 0 none) me 2)
-  asks n id me i a o is held = subst (λ (c : List (ℕ × (LaneSlot N))). Allows Kept n id (me.0, c) i (λ _. 2) (λ _. spec.asks (step n i 2 0 none) (me.0, c) 2)) (sym held) (asks_at n id me.0 (rest me.1) i a o is)
+  pub asks : (n id : ℕ) (me : (Me (LaneSlot N) DeskView)) (i : ℕ) (a : Ask) → Owns i me.0 → (lane_in i me.0).state ≡ Worker → me.1 ≡ (i, WithAsk a) ∷ rest me.1 → Allows Ran n id me i (λ _. 2) (λ _. spec.asks (step n i 2 0 none) me 2)
+  asks n id me i a o is held = subst (λ (c : List (ℕ × (LaneSlot N))). Allows Ran n id (me.0, c) i (λ _. 2) (λ _. spec.asks (step n i 2 0 none) (me.0, c) 2)) (sym held) (asks_at n id me.0 (rest me.1) i a o is)
 
-  rises_at : (n id : ℕ) (v : DeskView) (c : List (ℕ × (LaneSlot N))) (i : ℕ) → Owns i v → (lane_in i v).state ≡ Worker → Allows Kept n id (v, (i, Blank) ∷ c) i (λ _. 0) (λ _. spec.rises (step n i 0 0 none) (v, (i, Blank) ∷ c) 0)
-  rises_at n id v c i o is s r wide at _ =
+  rises_at : (n id : ℕ) (v : DeskView) (c : List (ℕ × (LaneSlot N))) (i : ℕ) → Owns i v → (lane_in i v).state ≡ Worker → Allows Ran n id (v, (i, Blank) ∷ c) i (λ _. 0) (λ _. spec.rises (step n i 0 0 none) (v, (i, Blank) ∷ c) 0)
+  rises_at n id v c i o is s ran wide at _ =
+      let r = ran.kept in
       let l = lane_known s r id i v at o in
       let ok = in_phase s r id i v at (lane_in i v) l.trace l.phase worker (is_worker l.phase (sym is ∙ l.ok.state_is)) l.ok in (
         with_lane i (has_risen (lane_in i v)) v,
         gives,
         tt,
-        lane_moves s r i (set s.words i 0) (set s.homes i (some Blank)) (at_home s i 0 (some Blank)) (has_risen (lane_in i v)) l.trace free
+        more s _ ran (Some (event.Rise i, answer.Done)) (id, v, (at, o), is, refl)
+            (lane_moves s r i (set s.words i 0) (set s.homes i (some Blank)) (at_home s i 0 (some Blank)) (has_risen (lane_in i v)) l.trace free
             record { word_is = get_or-set_same s.words i 0 0 l.below; home_is = set_here s.homes i (some Blank) l.near; state_is = refl; asks_are = ok.asks_are; posted_are = ok.posted_are; answered = ok.answered; within = ok.within; bears = tt }
-            id v at o l.trace_is,
+            id v at o l.trace_is),
         refl,
       )
 
-  pub rises : (n id : ℕ) (me : (Me (LaneSlot N) DeskView)) (i : ℕ) → Owns i me.0 → (lane_in i me.0).state ≡ Worker → me.1 ≡ (i, Blank) ∷ rest me.1 → Allows Kept n id me i (λ _. 0) (λ _. spec.rises (step n i 0 0 none) me 0)
-  rises n id me i o is held = subst (λ (c : List (ℕ × (LaneSlot N))). Allows Kept n id (me.0, c) i (λ _. 0) (λ _. spec.rises (step n i 0 0 none) (me.0, c) 0)) (sym held) (rises_at n id me.0 (rest me.1) i o is)
+  pub rises : (n id : ℕ) (me : (Me (LaneSlot N) DeskView)) (i : ℕ) → Owns i me.0 → (lane_in i me.0).state ≡ Worker → me.1 ≡ (i, Blank) ∷ rest me.1 → Allows Ran n id me i (λ _. 0) (λ _. spec.rises (step n i 0 0 none) me 0)
+  rises n id me i o is held = subst (λ (c : List (ℕ × (LaneSlot N))). Allows Ran n id (me.0, c) i (λ _. 0) (λ _. spec.rises (step n i 0 0 none) (me.0, c) 0)) (sym held) (rises_at n id me.0 (rest me.1) i o is)
 
   no_grant : (ph : Phase N) → 4 ≢ code ph → open_grant ph ≡ []
   no_grant free ne = refl
@@ -427,8 +475,9 @@ module _ {N : Type 0} where
   both_known s r id i v at t x waiting same fit o =
       ap (λ (u : TraceView). u.posted) (sym (ruled (length s.homes) r.lane r.trace r.owner r.desk r.dealt id i v (r.each_view id v at) o).1 ∙ same) ∙ fit
 
-  pub takes_grant : (n id : ℕ) (me : (Me (LaneSlot N) DeskView)) (i : ℕ) → Owns i me.0 → Allows Kept n id me i (λ y. either (eqb y 4) 1 y) (spec.takes_grant (step n i 4 1 none) me)
-  takes_grant n id me i o s r wide at _ =
+  pub takes_grant : (n id : ℕ) (me : (Me (LaneSlot N) DeskView)) (i : ℕ) → Owns i me.0 → Allows Ran n id me i (λ y. either (eqb y 4) 1 y) (spec.takes_grant (step n i 4 1 none) me)
+  takes_grant n id me i o s ran wide at _ =
+      let r = ran.kept in
       let v : DeskView = me.0 in
       let y : ℕ = get_or s.words i 0 in
       let l = lane_known s r id i v at o in
@@ -438,23 +487,26 @@ module _ {N : Type 0} where
         with_lane i (has_taken g.octets (lane_in i v)) v,
         takes i (WithGrant g),
         ok.home_is,
-        lane_moves s r i (set s.words i 1) (set s.homes i none) (at_home s i 1 none) (has_taken g.octets (lane_in i v)) l.trace worker
+        more s _ ran (Some (event.Taken i, answer.Taken g.octets)) (id, v, g, (at, o), hit, ok.home_is, refl, refl)
+            (lane_moves s r i (set s.words i 1) (set s.homes i none) (at_home s i 1 none) (has_taken g.octets (lane_in i v)) l.trace worker
             record { word_is = get_or-set_same s.words i 1 0 l.below; home_is = set_here s.homes i none l.near; state_is = refl; asks_are = ok.asks_are; posted_are = ok.posted_are ∙ sym (append-nil ((lane_in i v).taken ++ g.octets ∷ [])); answered = ok.answered; within = ok.within; bears = tt }
-            id v at o l.trace_is,
+            id v at o l.trace_is),
         ((λ _. (g, ok.bears, refl, subst (λ (xs : List ℕ). sum xs ≤ most) ok.posted_are ok.within, both_known s r id i v at l.trace (lane_in i v) (g.octets ∷ []) l.trace_is ok.posted_are)), λ miss. absurd (miss hit)),
       ))
       (λ miss. let x : LaneView = has_looked (lane_in i v) in (
         with_lane i x v,
         keeps,
         tt,
-        lane_moves s r i (set s.words i y) s.homes (at_rest s i) x l.trace l.phase
+        more s _ ran None (inl (id, i, v, (at, o), miss, same_word s i id (with_lane i x v)))
+            (lane_moves s r i (set s.words i y) s.homes (at_rest s i) x l.trace l.phase
             record { word_is = ap (λ (ws : List ℕ). get_or ws i 0) (set-get_or s.words i 0) ∙ l.ok.word_is; home_is = l.ok.home_is; state_is = l.ok.state_is; asks_are = l.ok.asks_are; posted_are = l.ok.posted_are; answered = l.ok.answered; within = l.ok.within; bears = l.ok.bears }
-            id v at o l.trace_is,
+            id v at o l.trace_is),
         ((λ hit. absurd (miss hit)), λ _. (refl, both_known s r id i v at l.trace (lane_in i v) [] l.trace_is (l.ok.posted_are ∙ ap (λ (xs : List ℕ). (lane_in i v).taken ++ xs) (no_grant l.phase (λ e. miss (l.ok.word_is ∙ sym e)))))),
       ))
 
-  pub collects : (n id : ℕ) (me : (Me (LaneSlot N) DeskView)) (i : ℕ) → Leads i me.0 → Allows Kept n id me i (λ y. either (eqb y 2) 3 y) (spec.collects (step n i 2 3 none) me)
-  collects n id me i o s r wide at _ =
+  pub collects : (n id : ℕ) (me : (Me (LaneSlot N) DeskView)) (i : ℕ) → Leads i me.0 → is_answering me.0 ≡ false → Allows Ran n id me i (λ y. either (eqb y 2) 3 y) (spec.collects (step n i 2 3 none) me)
+  collects n id me i o quiet s ran wide at _ =
+      let r = ran.kept in
       let v : DeskView = me.0 in
       let y : ℕ = get_or s.words i 0 in
       let l = trace_known s r id i v at o in
@@ -465,39 +517,43 @@ module _ {N : Type 0} where
         with_trace i t v,
         takes i (WithAsk a),
         ok.home_is,
-        trace_moves s r i (set s.words i 3) (set s.homes i none) (at_home s i 3 none) l.lane t round
+        more s _ ran (Some (event.Collect i, answer.Got)) (id, v, a, (at, o), hit, ok.home_is, quiet, refl)
+            (trace_moves s r i (set s.words i 3) (set s.homes i none) (at_home s i 3 none) l.lane t round
             record { word_is = get_or-set_same s.words i 3 0 l.below; home_is = set_here s.homes i none l.near; state_is = ok.state_is; asks_are = ok.asks_are ∙ sym (append-nil ((trace_in i v).collected ++ a ∷ [])); posted_are = ok.posted_are; answered = omega (arith, ok.answered, length-append (trace_in i v).collected (a ∷ [])); within = ok.within; bears = tt }
-            id v at o (omega (arith, l.few, posted_after i t v o)) l.lane_is,
+            id v at o (omega (arith, l.few, posted_after i t v o)) l.lane_is),
         ((λ _. (a, omega (arith, ok.answered), refl)), λ miss. absurd (miss hit)),
       ))
       (λ miss. let t : TraceView = has_missed (trace_in i v) in (
         with_trace i t v,
         keeps,
         tt,
-        trace_moves s r i (set s.words i y) s.homes (at_rest s i) l.lane t l.phase
+        more s _ ran (Some (event.Collect i, answer.Missed)) (id, v, (at, o), miss, quiet, same_word s i id (with_trace i t v))
+            (trace_moves s r i (set s.words i y) s.homes (at_rest s i) l.lane t l.phase
             record { word_is = ap (λ (ws : List ℕ). get_or ws i 0) (set-get_or s.words i 0) ∙ l.ok.word_is; home_is = l.ok.home_is; state_is = l.ok.state_is; asks_are = l.ok.asks_are; posted_are = l.ok.posted_are; answered = l.ok.answered; within = l.ok.within; bears = l.ok.bears }
-            id v at o (omega (arith, l.few, posted_after i t v o)) l.lane_is,
+            id v at o (omega (arith, l.few, posted_after i t v o)) l.lane_is),
         ((λ hit. absurd (miss hit)), λ _. refl),
       ))
 
   posts_at : (n id : ℕ) (v : DeskView) (c : List (ℕ × (LaneSlot N))) (i : ℕ) (g : GrantView) → Leads i v → length (trace_in i v).collected ≡ length (trace_in i v).posted + 1 → g.lane ≡ i → posted_by v + g.octets ≤ most
-      → Allows Kept n id (v, (i, WithGrant g) ∷ c) i (λ _. 4) (λ _. spec.posts (step n i 4 0 none) (v, (i, WithGrant g) ∷ c) 4)
-  posts_at n id v c i g o due bears few s r wide at _ =
+      → Allows Ran n id (v, (i, WithGrant g) ∷ c) i (λ _. 4) (λ _. spec.posts (step n i 4 0 none) (v, (i, WithGrant g) ∷ c) 4)
+  posts_at n id v c i g o due bears few s ran wide at _ =
+      let r = ran.kept in
       let l = trace_known s r id i v at o in
       let t : TraceView = has_posted g.octets (trace_in i v) in
       let ok = in_phase s r id i v at l.lane (trace_in i v) l.phase round (is_round l.phase (omega (arith, due, l.ok.answered))) l.ok in (
-        with_trace i t v,
+        with_answer i t v,
         gives,
         tt,
-        trace_moves s r i (set s.words i 4) (set s.homes i (some (WithGrant g))) (at_home s i 4 (some (WithGrant g))) l.lane t (granted g)
+        more s _ ran (Some (event.Post i, answer.Posted g.octets)) (id, v, g, (at, o), due, bears, few, refl, refl)
+            (answers s id v (with_trace i t v) (set s.words i 4) (set s.homes i (some (WithGrant g))) at (trace_moves s r i (set s.words i 4) (set s.homes i (some (WithGrant g))) (at_home s i 4 (some (WithGrant g))) l.lane t (granted g)
             record { word_is = get_or-set_same s.words i 4 0 l.below; home_is = set_here s.homes i (some (WithGrant g)) l.near; state_is = ok.state_is; asks_are = ok.asks_are; posted_are = ap (λ (xs : List ℕ). xs ++ g.octets ∷ []) (ok.posted_are ∙ append-nil l.lane.taken); answered = omega (arith, ok.answered, length-append (trace_in i v).posted (g.octets ∷ [])); within = omega (arith, few, posted_most i v o, sum_more (trace_in i v).posted g.octets); bears = bears }
-            id v at o (omega (arith, few, posted_after i t v o, sum_more (trace_in i v).posted g.octets)) l.lane_is,
-        λ b e. ap (λ (xs : List (ℕ × (LaneSlot N))). (with_trace i (has_posted (grant_at xs g).octets (trace_in i v)) v, c)) e,
+            id v at o (omega (arith, few, posted_after i t v o, sum_more (trace_in i v).posted g.octets)) l.lane_is)),
+        λ b e. ap (λ (xs : List (ℕ × (LaneSlot N))). (with_answer i (has_posted (grant_at xs g).octets (trace_in i v)) v, c)) e,
       )
 
   pub posts : (n id : ℕ) (me : (Me (LaneSlot N) DeskView)) (i : ℕ) (g : GrantView) → Leads i me.0 → length (trace_in i me.0).collected ≡ length (trace_in i me.0).posted + 1 → g.lane ≡ i → posted_by me.0 + g.octets ≤ most → me.1 ≡ (i, WithGrant g) ∷ rest me.1
-      → Allows Kept n id me i (λ _. 4) (λ _. spec.posts (step n i 4 0 none) me 4)
-  posts n id me i g o due bears few held = subst (λ (c : List (ℕ × (LaneSlot N))). Allows Kept n id (me.0, c) i (λ _. 4) (λ _. spec.posts (step n i 4 0 none) (me.0, c) 4)) (sym held) (posts_at n id me.0 (rest me.1) i g o due bears few)
+      → Allows Ran n id me i (λ _. 4) (λ _. spec.posts (step n i 4 0 none) me 4)
+  posts n id me i g o due bears few held = subst (λ (c : List (ℕ × (LaneSlot N))). Allows Ran n id (me.0, c) i (λ _. 4) (λ _. spec.posts (step n i 4 0 none) (me.0, c) 4)) (sym held) (posts_at n id me.0 (rest me.1) i g o due bears few)
 
   module _ (s : State (LaneSlot N) DeskView) (r : Kept s) (id : ℕ) (sh : RoundView) (at : get_elem? s.views id ≡ some (Round sh)) where
     kn : KnowsRound (length s.homes) r.lane r.trace r.owner r.desk r.dealt id sh
@@ -506,7 +562,7 @@ module _ {N : Type 0} where
     -- a lane that has had no seat gets one
     module _ (room : sh.dealt < length sh.traces) where
       left : RoundView
-      left = record { dealt = sh.dealt + 1; traces = sh.traces; back = sh.back }
+      left = record { dealt = sh.dealt + 1; traces = sh.traces; back = sh.back; answering = sh.answering }
 
       views' : List DeskView
       views' = set s.views id (Round left)
@@ -531,7 +587,7 @@ module _ {N : Type 0} where
         within = kn.within;
       }
 
-      deals_at : Kept record { words = s.words; homes = s.homes; views = set s.views id (Round record { dealt = sh.dealt + 1; traces = sh.traces; back = sh.back }) ++ Lane sh.dealt fresh ∷ [] }
+      deals_at : Kept record { words = s.words; homes = s.homes; views = set s.views id (Round record { dealt = sh.dealt + 1; traces = sh.traces; back = sh.back; answering = sh.answering }) ++ Lane sh.dealt fresh ∷ [] }
       unfolding owner' left views'
       deals_at = record {
         lane = r.lane;
@@ -559,7 +615,7 @@ module _ {N : Type 0} where
       lane_kn = r.each_view other (Lane (length sh.back) x) there
 
       all_back : RoundView
-      all_back = record { dealt = sh.dealt; traces = sh.traces; back = sh.back ++ x ∷ [] }
+      all_back = record { dealt = sh.dealt; traces = sh.traces; back = sh.back ++ x ∷ []; answering = sh.answering }
 
       owner'' : ℕ → ℕ
       owner'' = put r.owner (length sh.back) id
@@ -584,7 +640,7 @@ module _ {N : Type 0} where
         within = kn.within;
       }
 
-      joins_at : Kept record { words = s.words; homes = s.homes; views = set (set s.views id (Round record { dealt = sh.dealt; traces = sh.traces; back = sh.back ++ x ∷ [] })) other Spent }
+      joins_at : Kept record { words = s.words; homes = s.homes; views = set (set s.views id (Round record { dealt = sh.dealt; traces = sh.traces; back = sh.back ++ x ∷ []; answering = sh.answering })) other Spent }
       unfolding owner'' all_back
       joins_at = record {
         lane = r.lane;
@@ -605,16 +661,18 @@ module _ {N : Type 0} where
             (at_set (set s.views id (Round all_back)) other j Spent u e);
       }
 
-  pub deals : (id : ℕ) (v : DeskView) (sh : RoundView) → v ≡ Round sh → sh.dealt < length sh.traces → Splits (Kept {N = N}) id v (spec.dealer_after v) (spec.dealt_to v)
-  deals id v sh is room = subst (λ (u : DeskView). Splits (Kept {N = N}) id u (spec.dealer_after u) (spec.dealt_to u)) (sym is) (λ s r at. deals_at s r id sh at room)
+  pub deals : (id : ℕ) (v : DeskView) (sh : RoundView) → v ≡ Round sh → sh.dealt < length sh.traces → Splits (Ran {N = N}) id v (spec.dealer_after v) (spec.dealt_to v)
+  deals id v sh is room = subst (λ (u : DeskView). Splits (Ran {N = N}) id u (spec.dealer_after u) (spec.dealt_to u)) (sym is) (λ s r at. more s _ r None (inr (inl (id, sh, at, room, refl))) (deals_at s r.kept id sh at room))
 
-  pub joins : (id : ℕ) (v : DeskView) (sh : RoundView) (other : ℕ) (w : DeskView) (x : LaneView) → v ≡ Round sh → w ≡ Lane (length sh.back) x → Joins (Kept {N = N}) id v other w (spec.taken_in v w) Spent
-  joins id v sh other w x is is' = subst (λ (u : DeskView × DeskView). Joins (Kept {N = N}) id u.0 other u.1 (spec.taken_in u.0 u.1) Spent) (λ q. (sym is q, sym is' q))
-      (λ s r at apart there. joins_at s r id sh at other x apart (sym (set_else s.views id other (Round record { dealt = sh.dealt; traces = sh.traces; back = sh.back ++ x ∷ [] }) apart) ∙ there))
+  pub joins : (id : ℕ) (v : DeskView) (sh : RoundView) (other : ℕ) (w : DeskView) (x : LaneView) → v ≡ Round sh → w ≡ Lane (length sh.back) x → Joins (Ran {N = N}) id v other w (spec.taken_in v w) Spent
+  joins id v sh other w x is is' = subst (λ (u : DeskView × DeskView). Joins (Ran {N = N}) id u.0 other u.1 (spec.taken_in u.0 u.1) Spent) (λ q. (sym is q, sym is' q))
+      (λ s r at apart there.
+      let seat = sym (set_else s.views id other (Round record { dealt = sh.dealt; traces = sh.traces; back = sh.back ++ x ∷ []; answering = sh.answering }) apart) ∙ there in
+      more s _ r None (inr (inr (id, sh, other, x, at, apart, seat, refl))) (joins_at s r.kept id sh at other x apart seat))
 
   -- the table at the start: each word is 0, and each slot blank
-  pub opens : (ws : List ℕ) (xs : List (LaneSlot N)) (k : ℕ) → length xs ≡ k → k ≤ length ws → ((i : ℕ) → i < k → get_or ws i 0 ≡ 0) → ((i : ℕ) → i < k → get_elem? xs i ≡ some Blank) → Kept (opening ws xs (Round (first_round k)))
-  opens ws xs k long wide zeros blanks =
+  opens_kept : (ws : List ℕ) (xs : List (LaneSlot N)) (k : ℕ) → length xs ≡ k → k ≤ length ws → ((i : ℕ) → i < k → get_or ws i 0 ≡ 0) → ((i : ℕ) → i < k → get_elem? xs i ≡ some Blank) → Kept (opening ws xs (Round (first_round k)))
+  opens_kept ws xs k long wide zeros blanks =
       let many : length (map some xs) ≡ k = length-map xs some ∙ long in
       record {
         lane = λ _. fresh;
@@ -637,3 +695,6 @@ module _ {N : Type 0} where
               within = omega (arith, posted_none k);
             };
       }
+
+  pub opens : (ws : List ℕ) (xs : List (LaneSlot N)) (k : ℕ) → length xs ≡ k → k ≤ length ws → ((i : ℕ) → i < k → get_or ws i 0 ≡ 0) → ((i : ℕ) → i < k → get_elem? xs i ≡ some Blank) → Ran (opening ws xs (Round (first_round k)))
+  opens ws xs k long wide zeros blanks = record { kept = opens_kept ws xs k long wide zeros blanks; words = ws; slots = xs; lanes = k; long = long; past = []; ran = refl }

@@ -14,7 +14,7 @@ use Rattle.desk_rule.specs.declared.view.LaneSlot.TheVariants.{Blank, WithAsk, W
 use Rattle.desk_rule.specs.declared.view.LaneView.{LaneView}
 use Rattle.desk_rule.specs.declared.view.TraceView.{TraceView}
 use Rattle.desk_rule.specs.declared.view.SeatState.TheVariants.{Free, Worker}
-use Rattle.desk_rule.specs.Lanes.{Kept, Owns, Leads, lane_in, with_lane, trace_in, with_trace, posted_by, most, sat_down, has_asked, has_taken, has_looked, has_risen, has_missed, has_collected, has_posted}
+use Rattle.desk_rule.specs.Lanes.{Kept, Owns, Leads, lane_in, with_lane, trace_in, with_trace, with_answer, posted_by, most, sat_down, has_asked, has_taken, has_looked, has_risen, has_missed, has_collected, has_posted}
 use Rattle.desk_rule.specs.Shown.{StepsTo}
 
 -- the state after a step that wrote the word n, put h into the slot of lane i, and after which its
@@ -84,7 +84,7 @@ PostIsEvent N =
     → length (trace_in i v).collected ≡ length (trace_in i v).posted + 1 → g.lane ≡ i
     → posted_by v + g.octets ≤ most
     → StepsTo r (after s i 4 (some (WithGrant g)) id
-    (with_trace i (has_posted g.octets (trace_in i v)) v)) i
+    (with_answer i (has_posted g.octets (trace_in i v)) v)) i
     (ShownStep (event.Post i) (answer.Posted g.octets))
 
 -- taking if the word is 4: the grant in the slot is the lane's; the word becomes 1, and the seat

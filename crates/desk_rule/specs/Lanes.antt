@@ -1,6 +1,6 @@
 -- The rule of the desk's table, and the result of each step. Word i is 0 if lane i is free, 1 if a
 -- worker has it, 2 if it has asked, 3 if the round has its ask, and 4 if a grant waits.
-use Rattle.std.specs.Prelude.{◌≡◌, ℕ, ◌+◌, ◌<◌, ◌≤◌, List, [], ◌∷◌, ◌++◌, length, sum, slice_index, slice_index_or, slice_set, replicate}
+use Rattle.std.specs.Prelude.{◌≡◌, ℕ, ◌+◌, ◌<◌, ◌≤◌, List, [], ◌∷◌, ◌++◌, length, sum, slice_index, slice_index_or, slice_set, replicate, nat_eq, Bool, false, ◌||◌}
 use mathlib.Core.Option.{Option, none, some}
 use lib.ListN.{get_elem?}
 use Rattle.atomic_table.specs.Table.{State, Me, Step, rest}
@@ -57,7 +57,16 @@ module _ (k : ℕ) (lane : ℕ → LaneView) (trace : ℕ → TraceView) (owner 
   Knows (Round sh) = KnowsRound sh
 
 abbrev pub first_round : ℕ → RoundView
-first_round k = record { dealt = 0; traces = replicate k untraced; back = [] }
+first_round k = record { dealt = 0; traces = replicate k untraced; back = []; answering = false }
+
+-- an ask was collected and not answered
+abbrev pub is_due : TraceView → Bool
+is_due t = nat_eq (length t.collected) (length t.posted + 1)
+
+-- that of some lane was
+abbrev pub any_due : List TraceView → Bool
+any_due [] = false
+any_due (t ∷ ts) = is_due t || any_due ts
 
 -- the view of lane i as its seat has it
 abbrev pub lane_in : ℕ → DeskView → LaneView
@@ -69,7 +78,12 @@ abbrev pub with_lane : ℕ → LaneView → DeskView → DeskView
 with_lane i x Spent = Spent
 with_lane i x (Lane k y) = Lane k x
 with_lane i x (Round sh) =
-    Round record { dealt = sh.dealt; traces = sh.traces; back = slice_set sh.back i x }
+    Round record {
+      dealt = sh.dealt;
+      traces = sh.traces;
+      back = slice_set sh.back i x;
+      answering = sh.answering;
+    }
 
 abbrev pub Owns : ℕ → DeskView → Type 0
 Owns i Spent = ⊥
@@ -85,7 +99,33 @@ abbrev pub with_trace : ℕ → TraceView → DeskView → DeskView
 with_trace i t Spent = Spent
 with_trace i t (Lane k y) = Lane k y
 with_trace i t (Round sh) =
-    Round record { dealt = sh.dealt; traces = slice_set sh.traces i t; back = sh.back }
+    Round record {
+      dealt = sh.dealt;
+      traces = slice_set sh.traces i t;
+      back = sh.back;
+      answering = sh.answering;
+    }
+
+-- whether the round has answered a lane and not yet each other one that is due
+abbrev pub is_answering : DeskView → Bool
+is_answering Spent = false
+is_answering (Lane k x) = false
+is_answering (Round sh) = sh.answering
+
+-- the view after an answer
+abbrev pub now_answering : DeskView → DeskView
+now_answering Spent = Spent
+now_answering (Lane k x) = Lane k x
+now_answering (Round sh) =
+    Round record {
+      dealt = sh.dealt;
+      traces = sh.traces;
+      back = sh.back;
+      answering = any_due sh.traces;
+    }
+
+abbrev pub with_answer : ℕ → TraceView → DeskView → DeskView
+with_answer i t v = now_answering (with_trace i t v)
 
 abbrev pub Leads : ℕ → DeskView → Type 0
 Leads i Spent = ⊥
@@ -131,7 +171,13 @@ Fits i v waiting = Leads i v → (trace_in i v).posted ≡ (lane_in i v).taken +
 abbrev pub dealer_after : DeskView → DeskView
 dealer_after Spent = Spent
 dealer_after (Lane k x) = Lane k x
-dealer_after (Round sh) = Round record { dealt = sh.dealt + 1; traces = sh.traces; back = sh.back }
+dealer_after (Round sh) =
+    Round record {
+      dealt = sh.dealt + 1;
+      traces = sh.traces;
+      back = sh.back;
+      answering = sh.answering;
+    }
 
 abbrev pub dealt_to : DeskView → DeskView
 dealt_to Spent = Spent
@@ -140,7 +186,12 @@ dealt_to (Round sh) = Lane sh.dealt fresh
 
 abbrev pub taken_in : DeskView → DeskView → DeskView
 taken_in (Round sh) (Lane k x) =
-    Round record { dealt = sh.dealt; traces = sh.traces; back = sh.back ++ x ∷ [] }
+    Round record {
+      dealt = sh.dealt;
+      traces = sh.traces;
+      back = sh.back ++ x ∷ [];
+      answering = sh.answering;
+    }
 taken_in (Round sh) Spent = Round sh
 taken_in (Round sh) (Round th) = Round sh
 taken_in Spent w = Spent
@@ -265,7 +316,7 @@ module _ {N : Type 0} where
       → Type 0
   posts st m r m' =
       (g : GrantView) → m.1 ≡ (st.word, WithGrant g) ∷ rest m.1
-      → m' ≡ (with_trace st.word (has_posted g.octets (trace_in st.word m.0)) m.0, rest m.1)
+      → m' ≡ (with_answer st.word (has_posted g.octets (trace_in st.word m.0)) m.0, rest m.1)
 
   abbrev pub Took : Step (LaneSlot N) → Me (LaneSlot N) DeskView → Me (LaneSlot N) DeskView → Type 0
   Took st m m' =

@@ -1,3 +1,4 @@
 pub mod Lanes
 pub mod Shown
 pub mod Events
+pub mod Steps

@@ -1,16 +1,18 @@
 //! The rule of the desk's table, and its kinds of steps on words, slots and views.
 
 ghost use Rattle.desk_rule.specs.declared.view.DeskView.TheVariants.{Spent, Round};
-ghost use Rattle.desk_rule.specs.Lanes.{Kept, first_round, sits, asks, collects, posts, takes_grant, rises, dealer_after, dealt_to, taken_in};
+ghost use Rattle.desk_rule.specs.Steps.{Ran};
+ghost use Rattle.desk_rule.specs.Lanes.{first_round, sits, asks, collects, posts, takes_grant, rises, dealer_after, dealt_to, taken_in};
 
 use crate::view::{DeskView, LaneSlot};
 use atomic_table::{Join, Play, Split, TableRule};
 
-/// The invariant between any two steps. The table's key is the number of lanes.
+/// The invariant between any two steps: what is kept, and the list of all steps since the opening. The table's key is the
+/// number of lanes.
 pub struct DeskRule;
 
 impl<N> TableRule<LaneSlot<N>, DeskView, u64> for DeskRule {
-    ghost holds = { λ k. Kept };
+    ghost holds = { λ k. Ran };
 
     ghost first = { λ k. Round (first_round k) };
 }

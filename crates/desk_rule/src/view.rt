@@ -50,6 +50,8 @@ pub struct RoundView {
     pub traces: LinkedList<TraceView>,
     /// The lanes whose seats were returned.
     pub back: LinkedList<LaneView>,
+    /// True after an answer that leaves another lane due, until none is. Meanwhile the round tries no lane.
+    pub answering: bool,
 }
 
 /// The view of a seat: a lane's seat knows its lane, the round's seat all turns. A seat joined to the round's is

@@ -2,6 +2,7 @@
 
 ghost use Rattle.std.specs.Prelude.{IsTrue};
 
+use grant_ledger::BookName;
 use line_rates::{Ask, Limits, UserRate, Way};
 use std::process::Abort;
 
@@ -15,6 +16,8 @@ pub(crate) fn holds(rt: &impl Abort, fact: bool)
 /// The name of the tests' books.
 #[derive(Clone, Copy)]
 pub(crate) struct OfTest;
+
+impl BookName for OfTest {}
 
 /// An ask of a user in their only session, down.
 pub(crate) fn down(user: u32, want: u64) -> Ask {

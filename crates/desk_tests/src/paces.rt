@@ -5,7 +5,7 @@ ghost use Rattle.lane_desk.specs.Seats.{IsSeatOf};
 ghost use Rattle.lane_desk.specs.Traces.{back, IsRoundOf};
 
 use super::expect::{OfTest, down, holds};
-use grant_ledger::{Book, MAX_LANES, Settled};
+use grant_ledger::{Book, MAX_LANES, SettledNumbers};
 use lane_desk::{Desk, RoundRefusal, Rounds, open_desk};
 use line_rates::{Limits, UserRate, Way};
 use linked_list_allocator::LocalHeap;
@@ -92,10 +92,11 @@ impl PacedDesk {
             && self.second.take(&self.desk, 10) == Some(grants.1)
     }
 
-    // Both ask, a round is held at a moment, and both take their grants. Returns whether they are these.
+    // Both ask, a round is held at a moment, and both take their grants. Returns whether they are these. Both have had as
+    // much in this second, which is an even one: the lower lane's turn is first.
     fn shares(&mut self, rt: &(impl Abort + AllocGlobal), now: u64, grants: (u64, u64)) -> bool {
         self.ask_both(rt);
-        self.answers(rt, now, grants)
+        self.answers(rt, now, 7, grants)
     }
 
     // Both ask, and a round of the first lane alone is held. Returns whether that takes this grant, and the other none.
@@ -114,20 +115,33 @@ impl PacedDesk {
         self.first.take(&self.desk, 10) == Some(grant) && self.second.take(&self.desk, 10).is_none()
     }
 
-    // A round is held at a moment, and both take their grants. Returns whether they are these.
-    fn answers(&mut self, rt: &(impl Abort + AllocGlobal), now: u64, grants: (u64, u64)) -> bool {
+    // A round is held at a moment, in which it is first the turn of that user, and both take their grants. Returns whether
+    // they are these.
+    fn answers(
+        &mut self,
+        rt: &(impl Abort + AllocGlobal),
+        now: u64,
+        first: u32,
+        grants: (u64, u64),
+    ) -> bool {
+        let turns = if first == 7 {
+            [(down(7, 10), grants.0), (down(8, 10), grants.1)]
+        } else {
+            [(down(8, 10), grants.1), (down(7, 10), grants.0)]
+        };
         let mut names = HeldNames::new(true);
         match self.rounds.hold(rt.alloc(), &self.desk, now, &[true; MAX_LANES], &mut names) {
             Ok(record) => holds(
                 rt,
-                record.asks.as_slice() == [down(7, 10), down(8, 10)].as_slice(),
+                record.asks.as_slice() == [turns[0].0, turns[1].0].as_slice(),
             ),
             Err(_) => panic!(rt; "a round was refused"),
         }
         // A limit holds back exactly those that get less than they asked for.
         holds(
             rt,
-            names.of(0).is_some() == (grants.0 < 10) && names.of(1).is_some() == (grants.1 < 10),
+            names.of(0).is_some() == (turns[0].1 < 10)
+                && names.of(1).is_some() == (turns[1].1 < 10),
         );
         self.take_both(grants)
     }
@@ -159,7 +173,7 @@ impl PacedDesk {
             .expect(rt, "memory");
     }
 
-    fn close(self, rt: &(impl Abort + AllocGlobal)) -> Settled {
+    fn close(self, rt: &(impl Abort + AllocGlobal)) -> SettledNumbers {
         let PacedDesk {
             desk,
             mut first,
@@ -168,7 +182,14 @@ impl PacedDesk {
         } = self;
         holds(rt, first.rise(&desk) && second.rise(&desk));
         let room = Vec::with_capacity(rt.alloc(), 2).expect(rt, "memory");
-        settle_two(desk, rounds.into_rounds(), first, second, room)
+        let (rounds, account) = rounds.into_rounds();
+        let settlement = account.settle(settle_two(desk, rounds, first, second, room));
+        holds(rt, settlement.carried() == 0 && settlement.opened() == 0);
+        holds(rt, settlement.opened() <= settlement.latest());
+        let parts = (settlement.issued(), settlement.moved(), settlement.back());
+        let settled = settlement.numbers();
+        holds(rt, parts == (settled.issued, settled.moved, settled.back));
+        settled
     }
 }
 
@@ -178,7 +199,8 @@ fn a_round_is_of_the_given_lanes(rt: HostRuntime) {
     // user 7 gets the octet of their tick, and one of the server's two is left
     holds(&rt, paced.shares_first(&rt, 0, 1));
     paced.ask_first(&rt);
-    holds(&rt, paced.answers(&rt, 2_000, (1, 2)));
+    // the second lane has had less
+    holds(&rt, paced.answers(&rt, 2_000, 8, (1, 2)));
     let settled = paced.close(&rt);
     holds(&rt, settled.issued == 4);
 }
@@ -208,15 +230,21 @@ fn rounds_keep_the_rates_of_their_pace(rt: HostRuntime) {
     holds(&rt, settled.issued == 8 && settled.moved == 8);
 }
 
-/// Moments in microseconds, each half a second after a second began, up to the last that there is.
-static LATE: [u64; 3] = [8_589_934_592_500_000, 9_223_372_036_854_500_000, u64::MAX];
+/// Moments in microseconds, each half a second after a second began, up to the last that there is, and whose turn is first:
+/// the lower lane's in even seconds, and the higher one's in odd ones.
+static LATE: [(u64, u32); 3] = [
+    (8_589_934_592_500_000, 7),
+    (9_223_372_036_854_500_000, 7),
+    (u64::MAX, 8),
+];
 
 #[test]
 fn rounds_are_held_at_late_moments(rt: HostRuntime) {
     let mut paced = PacedDesk::open(&rt);
-    for now in &LATE {
+    for (now, first) in &LATE {
+        paced.ask_both(&rt);
         // the rates keep a tenth of a second, so both get all that they ask for
-        holds(&rt, paced.shares(&rt, *now, (10, 10)));
+        holds(&rt, paced.answers(&rt, *now, *first, (10, 10)));
     }
     let settled = paced.close(&rt);
     holds(&rt, settled.issued == 60 && settled.moved == 60);
@@ -230,7 +258,7 @@ fn rates_are_changed_between_rounds(rt: HostRuntime) {
     // the octet that is left stays, and the tick earns nothing again
     paced.change(&rt, 2_000, 1_000);
     paced.ask_first(&rt);
-    holds(&rt, paced.answers(&rt, 1_999, (0, 1)));
+    holds(&rt, paced.answers(&rt, 1_999, 8, (0, 1)));
     // four octets a tick, and two of user 7
     holds(&rt, paced.shares(&rt, 2_000, (2, 2)));
     // user 7 had a rate and has none: 0 is no limit

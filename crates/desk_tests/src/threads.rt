@@ -50,7 +50,14 @@ fn lead(alloc: Global, desk: &Desk<OfTest>, rounds: &mut Rounds<OfTest>, limits:
         if answered >= GRANTS {
             break;
         }
-        match rounds.round_of(alloc, desk, limits, tick * 100, &[true; MAX_LANES]) {
+        match rounds.round_of(
+            alloc,
+            desk,
+            limits,
+            tick * 100,
+            &[true; MAX_LANES],
+            &[0; MAX_LANES],
+        ) {
             Ok(record) => answered = if record.answered == 1 {
                 answered + 1
             } else {
@@ -105,7 +112,7 @@ fn a_worker_and_rounds(rt: HostRuntime) {
             let mut rounds = Rounds::new(round, book, tally);
             let reported = work_and_lead(&rt, rt.alloc(), &desk, &mut first, &mut rounds, &limits);
             holds(&rt, reported == (GRANTS, GRANTS));
-            let settled = settle_two(desk, rounds, first, second, room);
+            let settled = settle_two(desk, rounds, first, second, room).numbers();
             holds(&rt, settled.issued == 2 * GRANTS);
             holds(&rt, settled.moved == GRANTS && settled.back == GRANTS);
         }

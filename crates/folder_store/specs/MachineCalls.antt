@@ -24,8 +24,10 @@ pub data MachineCall (F D : Type 0) : Type 0 where
   Cuts : F → ℕ → Result (Unit {0}) Error → MachineCall F D
   -- the next read or write of a file was moved to this offset
   Goes : F → ℕ → Result F Error → MachineCall F D
-  -- the octets of a file were flushed
-  Flushes : F → Result (Unit {0}) Error → MachineCall F D
+  -- the octets of a file were written to the device
+  Syncs : F → Result (Unit {0}) Error → MachineCall F D
+  -- a file was closed
+  Closes : F → Result (Unit {0}) Error → MachineCall F D
   MakesDirectory : List ℕ → Result (Unit {0}) Error → MachineCall F D
   RemovesDirectory : List ℕ → Result (Unit {0}) Error → MachineCall F D
   RemovesFile : List ℕ → Result (Unit {0}) Error → MachineCall F D

@@ -1,6 +1,6 @@
 -- The machine's calls of each call of a store that is not refused. M is the type of machines, F of
 -- open files, D of open directories.
-use Rattle.std.specs.Prelude.{◌≡◌, ◌≢◌, ℕ, ℤ, List, [], ◌∷◌, Option, Some, Ok, Err}
+use Rattle.std.specs.Prelude.{◌≡◌, ◌≢◌, ℕ, ℤ, Bool, true, false, List, [], ◌∷◌, Option, Some, Ok, Err}
 use Rattle.std.specs.declared.io.Error.{Error}
 use Rattle.ftp_terms.specs.declared.entries.Meta.{Meta}
 use Rattle.ftp_terms.specs.declared.entries.EntryKind.TheVariants as entry
@@ -12,7 +12,7 @@ use Rattle.folder_store.specs.Ends.{SourceState}
 use Rattle.folder_store.specs.Listings.{ListsDirectory}
 use Rattle.folder_store.specs.Looks.{meta_of}
 use Rattle.folder_store.specs.MachineCalls.{MachineCall}
-use Rattle.folder_store.specs.MachineCalls.MachineCall.{Flushes, Follows, Looks, MakesDirectory, RemovesDirectory, RemovesFile}
+use Rattle.folder_store.specs.MachineCalls.MachineCall.{Closes, Follows, Looks, MakesDirectory, RemovesDirectory, RemovesFile, Syncs}
 use Rattle.folder_store.specs.Moving.{MovesToFree}
 use Rattle.folder_store.specs.Opening.{LooksAtFile, OpensToRead, OpensToWrite}
 use Rattle.folder_store.specs.Walks.{Walker, WalksTo}
@@ -69,27 +69,37 @@ RenamesEntry {M} Does number old folder from to new = (meta : Meta) × (place ta
     new.machine
     × (new.numbered ≡ there.numbered)
 
+-- a file was closed, after its octets were written to the device if the store syncs
+abbrev pub ClosesFile : {M F D : Type 0} → (M → MachineCall F D → M → Type 0) → Bool → M → F → M
+    → Type 0
+ClosesFile Does false old file new = Does old (Closes file (Ok tt)) new
+ClosesFile {M} Does true old file new =
+    (mid : M) × Does old (Syncs file (Ok tt)) mid × Does mid (Closes file (Ok tt)) new
+
 -- the calls of the machine that a call of a store takes, if it is not refused
 abbrev pub Serves : {M F D : Type 0} → (M → MachineCall F D → M → Type 0) → (D → Option ℤ)
-    → Walker M → List ℕ → Exchange (SourceState F) (FileWithCalls F) → Walker M → Type 0
-Serves Does number old folder (Stat path (Ok meta)) new =
+    → Bool → Walker M → List ℕ → Exchange (SourceState F) (FileWithCalls F) → Walker M → Type 0
+Serves Does number syncs old folder (Stat path (Ok meta)) new =
     StatsEntry Does number old folder path meta new
-Serves Does number old folder (Listing path (Ok entries)) new =
+Serves Does number syncs old folder (Listing path (Ok entries)) new =
     ListsDirectory Does number old folder path entries new
-Serves Does number old folder (OpenRead path offset (Ok source)) new =
+Serves Does number syncs old folder (OpenRead path offset (Ok source)) new =
     (source.calls ≡ no_calls) × AtPlace Does number old folder path
     (λ here place after. OpensToRead Does here place offset source.file source.left after) new
-Serves Does number old folder (OpenWrite path mode moment (Ok sink)) new =
+Serves Does number syncs old folder (OpenWrite path mode moment (Ok sink)) new =
     (sink.calls ≡ no_calls) × AtPlace Does number old folder path
     (λ here place after. OpensToWrite Does mode here place sink.file after) new
-Serves Does number old folder (Finish sink moment (Ok done)) new =
-    Does old.machine (Flushes sink.file (Ok tt)) new.machine × (new.numbered ≡ old.numbered)
-Serves Does number old folder (MakeDir path (Ok done)) new = AtPlace Does number old folder path
+Serves Does number syncs old folder (Finish sink moment (Ok done)) new =
+    ClosesFile Does syncs old.machine sink.file new.machine × (new.numbered ≡ old.numbered)
+Serves Does number syncs old folder (MakeDir path (Ok done)) new =
+    AtPlace Does number old folder path
     (λ here place after. Does here (MakesDirectory place (Ok tt)) after) new
-Serves Does number old folder (RemoveDir path (Ok done)) new = AtPlace Does number old folder path
+Serves Does number syncs old folder (RemoveDir path (Ok done)) new =
+    AtPlace Does number old folder path
     (λ here place after. RemovesShown Does here place after) new
-Serves Does number old folder (RemoveFile path (Ok done)) new = AtPlace Does number old folder path
+Serves Does number syncs old folder (RemoveFile path (Ok done)) new =
+    AtPlace Does number old folder path
     (λ here place after. RemovesThatFile Does here place after) new
-Serves Does number old folder (Rename from to (Ok done)) new =
+Serves Does number syncs old folder (Rename from to (Ok done)) new =
     RenamesEntry Does number old folder from to new
-Serves Does number old folder exchange new = Unit {0}
+Serves Does number syncs old folder exchange new = Unit {0}

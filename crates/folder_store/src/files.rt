@@ -1,9 +1,8 @@
 //! Opening files of a folder.
 
 ghost use Rattle.std.specs.Prelude.{◌≡◌, IfOk, Ok, string_bytes};
-ghost use Rattle.folder_store.specs.MachineCalls.MachineCall.{Flushes};
 ghost use Rattle.folder_store.specs.Opening.{OpensToRead, OpensToWrite};
-ghost use Rattle.folder_store.specs.Served.{AtPlace};
+ghost use Rattle.folder_store.specs.Served.{AtPlace, ClosesFile};
 ghost use Rattle.folder_store.specs.Walks.{WalksTo, walker};
 
 use crate::fault::MachineFault;
@@ -67,13 +66,13 @@ impl<M: FolderMachine + Drop> Folder<M> {
         }
     }
 
-    /// Flushes the octets of a file to the machine.
-    pub fn finish(&mut self, file: M::File) -> Result<(), MachineFault>
+    /// Closes a file, after its octets were written to the device if that is wanted.
+    pub fn finish(&mut self, file: M::File, syncs: bool) -> Result<(), MachineFault>
         ensures path { self.new.path ≡ self.old.path }
         ensures proc { self.new.has_proc ≡ self.old.has_proc }
-        ensures flushed { IfOk result (λ done.
-            M.Does self.old.machine (Flushes file (Ok done)) self.new.machine) }
+        ensures closed { IfOk result (λ _.
+            ClosesFile M.Does syncs self.old.machine file self.new.machine) }
     {
-        finish(&mut self.machine, file)
+        finish(&mut self.machine, file, syncs)
     }
 }

@@ -1,12 +1,16 @@
 //! The machine that a program runs on.
 
+ghost use Rattle.std.specs.Prelude.{◌≡◌, ◌≢◌, ◌⊎◌, pos, IfErr, IfOk, OnErr, OnOk, Some};
+ghost use Rattle.std.specs.IoError.{raw_os_error};
+ghost use Rattle.libc.specs.declared.TheConstants.{ENOENT};
+
 use crate::entry_name::EntryName;
 use crate::looked::Looked;
 use crate::machine::FolderMachine;
 use crate::statx::no_answer;
-use std::fs::{OpenFile, OpenOptions};
-use std::io::{Seek, SeekFrom, Write};
-use std::os::fd::{AsRawFd, RawFd};
+use std::fs::{File, OpenOptions};
+use std::io::{Seek, SeekFrom};
+use std::os::fd::{AsRawFd, IntoRawFd, RawFd};
 use std::rt::Files;
 use std::{fs, io};
 
@@ -52,16 +56,45 @@ fn examine_in(directory: i32, name: &EntryName) -> io::Result<Looked> {
     Ok(Looked::of_statx(&found))
 }
 
-impl<R: Files + Alloc> FolderMachine for R {
+/// The answer of close(2) by its status, and the number of its error. A descriptor whose close failed is closed, so the call
+/// is not repeated.
+fn closed(status: i32, error: i32) -> io::Result<()>
+    ensures closed { OnOk result (status ≡ pos 0) }
+    ensures refused { OnErr result (status ≢ pos 0) }
+    ensures error { IfErr result (λ reason. raw_os_error reason ≡ Some error) }
+{
+    if status == 0 {
+        Ok(())
+    } else {
+        Err(io::Error::from_raw_os_error(error))
+    }
+}
+
+/// The answer of getdents64(2) by the number of octets that it read, and the number of its error. A directory that was
+/// removed has no more names; any other error is one in the middle of a listing.
+fn names_count(count: usize, error: i32) -> io::Result<usize>
+    ensures count { IfOk result (λ read. read ≡ count) }
+    ensures whole { OnOk result ((error ≡ pos 0) ⊎ (error ≡ ENOENT)) }
+    ensures refused { OnErr result ((error ≢ pos 0) × (error ≢ ENOENT)) }
+{
+    if error == 0 || error == libc::ENOENT {
+        Ok(count)
+    } else {
+        Err(io::Error::from_raw_os_error(error))
+    }
+}
+
+// (The bound names the type of files, since one alone is closed with a status.)
+impl<R: Files<File = File> + Alloc> FolderMachine for R {
     ghost use Rattle.folder_store.specs.MachineCalls.{AnyMachineCall};
 
-    type File = R::File;
+    type File = File;
 
     type Directory = OpenDirectory;
 
     ghost Does = { AnyMachineCall };
 
-    fn open(&mut self, how: &OpenOptions, place: &str) -> io::Result<R::File> {
+    fn open(&mut self, how: &OpenOptions, place: &str) -> io::Result<File> {
         how.open(self, place)
     }
 
@@ -85,32 +118,31 @@ impl<R: Files + Alloc> FolderMachine for R {
         Ok(Looked::of_metadata(&fs::metadata(self, place)?))
     }
 
-    fn examine(&mut self, file: &R::File) -> io::Result<Looked> {
+    fn examine(&mut self, file: &File) -> io::Result<Looked> {
         Ok(Looked::of_metadata(&file.metadata()?))
     }
 
     fn read_names(&mut self, directory: &OpenDirectory, buffer: &mut [u8]) -> io::Result<usize> {
         let count = os::read_dir(directory.number, buffer);
-        let error = os::errno();
-        // A directory that was removed has no more names.
-        if error == 0 || error == libc::ENOENT {
-            Ok(count)
-        } else {
-            Err(io::Error::from_raw_os_error(error))
-        }
+        names_count(count, os::errno())
     }
 
-    fn cut(&mut self, file: &R::File, length: u64) -> io::Result<()> {
+    fn cut(&mut self, file: &File, length: u64) -> io::Result<()> {
         file.set_len(length)
     }
 
-    fn go_to(&mut self, mut file: R::File, offset: u64) -> io::Result<R::File> {
+    fn go_to(&mut self, mut file: File, offset: u64) -> io::Result<File> {
         let _at = file.seek(SeekFrom::Start(offset))?;
         Ok(file)
     }
 
-    fn flush(&mut self, mut file: R::File) -> io::Result<()> {
-        file.flush()
+    fn sync(&mut self, file: &File) -> io::Result<()> {
+        file.sync_data()
+    }
+
+    fn close(&mut self, file: File) -> io::Result<()> {
+        let status = libc::close(file.into_raw_fd());
+        closed(status, os::errno())
     }
 
     fn make_directory(&mut self, place: &str) -> io::Result<()> {

@@ -2,7 +2,7 @@
 
 ghost use Rattle.std.specs.Prelude.{◌≤◌, length, IfOk};
 ghost use Rattle.folder_store.specs.MachineCalls.{names_read};
-ghost use Rattle.folder_store.specs.MachineCalls.MachineCall.{Opens, Enters, Looks, LooksIn, Follows, Examines, Cuts, Goes, Flushes, Reads, MakesDirectory, RemovesDirectory, RemovesFile, Renames};
+ghost use Rattle.folder_store.specs.MachineCalls.MachineCall.{Opens, Enters, Looks, LooksIn, Follows, Examines, Cuts, Goes, Syncs, Closes, Reads, MakesDirectory, RemovesDirectory, RemovesFile, Renames};
 
 use crate::entry_name::EntryName;
 use crate::looked::Looked;
@@ -65,9 +65,14 @@ pub trait FolderMachine: Alloc {
     fn go_to(&mut self, file: Self::File, offset: u64) -> io::Result<Self::File>
         ensures { Does self.old (Goes file offset result) self.new };
 
-    /// Flushes the octets of a file to the machine, and closes it.
-    fn flush(&mut self, file: Self::File) -> io::Result<()>
-        ensures { Does self.old (Flushes file result) self.new };
+    /// Has the octets of a file written to the device, so that they outlast a power cut.
+    fn sync(&mut self, file: &Self::File) -> io::Result<()>
+        ensures { Does self.old (Syncs file.now result) self.new };
+
+    /// Closes a file. A file system that takes octets later, or elsewhere, reports here that it could not. A file whose
+    /// close failed is closed.
+    fn close(&mut self, file: Self::File) -> io::Result<()>
+        ensures { Does self.old (Closes file result) self.new };
 
     /// Makes an empty directory.
     fn make_directory(&mut self, place: &str) -> io::Result<()>

@@ -2,8 +2,9 @@
 
 ghost use Rattle.std.specs.Prelude.{◌≡◌, IfErr, IfOk, Ok, Err, Result};
 ghost use Rattle.std.specs.declared.io.Error.{Error};
-ghost use Rattle.folder_store.specs.MachineCalls.MachineCall.{Examines, Flushes, Looks, Opens};
+ghost use Rattle.folder_store.specs.MachineCalls.MachineCall.{Closes, Examines, Looks, Opens, Syncs};
 ghost use Rattle.folder_store.specs.Opening.{Creates, ExaminesThatFile, GoesTo, LooksAtFile, OpensAtEnd, OpensByEither, OpensOver, OpensToRead, OpensToWrite, WritesInto};
+ghost use Rattle.folder_store.specs.Served.{ClosesFile};
 ghost use Rattle.folder_store.specs.declared.looked.Looked.{Looked};
 
 use crate::fault::MachineFault;
@@ -233,15 +234,42 @@ pub(crate) fn write_at<M: FolderMachine>(
     }
 }
 
-/// Flushes the octets of a file to the machine. A fault of the device has the machine's error.
-pub(crate) fn finish<M: FolderMachine>(machine: &mut M, file: M::File) -> Result<(), MachineFault>
-    ensures flushed { IfOk result (λ done.
-        M.Does machine.old (Flushes file (Ok done)) machine.new) }
+/// Has the octets of a file written to the device. A fault of the device has the machine's error.
+fn sync<M: FolderMachine>(machine: &mut M, file: &M::File) -> Result<(), MachineFault>
+    ensures synced { IfOk result (λ done.
+        M.Does machine.old (Syncs file.now (Ok done)) machine.new) }
     ensures refused { IfErr result (λ _. (error : Error)
-        × M.Does machine.old (Flushes file (Err error)) machine.new) }
+        × M.Does machine.old (Syncs file.now (Err error)) machine.new) }
 {
-    match machine.flush(file) {
+    match machine.sync(file) {
         Ok(()) => Ok(()),
         Err(error) => Err(fault_of(&error)),
     }
+}
+
+/// Closes a file. A fault of the device has the machine's error.
+fn close<M: FolderMachine>(machine: &mut M, file: M::File) -> Result<(), MachineFault>
+    ensures closed { IfOk result (λ done.
+        M.Does machine.old (Closes file (Ok done)) machine.new) }
+    ensures refused { IfErr result (λ _. (error : Error)
+        × M.Does machine.old (Closes file (Err error)) machine.new) }
+{
+    match machine.close(file) {
+        Ok(()) => Ok(()),
+        Err(error) => Err(fault_of(&error)),
+    }
+}
+
+/// Closes a file, after its octets were written to the device if that is wanted.
+pub(crate) fn finish<M: FolderMachine>(
+    machine: &mut M,
+    file: M::File,
+    syncs: bool,
+) -> Result<(), MachineFault>
+    ensures closed { IfOk result (λ _. ClosesFile M.Does syncs machine.old file machine.new) }
+{
+    if syncs {
+        sync(machine, &file)?;
+    }
+    close(machine, file)
 }

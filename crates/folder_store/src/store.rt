@@ -1,6 +1,6 @@
 //! The store.
 
-ghost use Rattle.std.specs.Prelude.{◌≡◌, ◌⊎◌, IfOk, IfErr, Some};
+ghost use Rattle.std.specs.Prelude.{◌≡◌, ◌⊎◌, false, IfOk, IfErr, Some};
 ghost use Rattle.folder_store.specs.Honest.{IsHonest};
 ghost use Rattle.folder_store.specs.Refusals.{store_fault};
 
@@ -27,6 +27,8 @@ pub struct DirStore<M: FolderMachine + Drop> {
     folder: Folder<M>,
     faults: FaultCount,
     fault: LastFault,
+    // files that were written are synced before they are closed
+    syncs: bool,
 }
 
 impl<M: FolderMachine + Drop> Model for DirStore<M> {
@@ -39,6 +41,7 @@ impl<M: FolderMachine + Drop> Model for DirStore<M> {
       machine = store.folder.machine;
       numbered = store.folder.has_proc;
       folder = string_bytes store.folder.path;
+      syncs = store.syncs;
       faults = store.faults;
     } };
 }
@@ -49,6 +52,7 @@ impl<M: FolderMachine + Drop> DirStore<M> {
     pub fn new(machine: M, folder: &str, fault: LastFault) -> Result<DirStore<M>, StoreFault>
         ensures new { IfOk result (λ store. store.faults.count ≡ 0) }
         ensures folder { IfOk result (λ store. store.folder ≡ folder.now) }
+        ensures syncs { IfOk result (λ store. store.syncs ≡ false) }
         ensures faults { IfErr result (λ fault. (fault ≡ StoreFault.NotFound)
             ⊎ (fault ≡ StoreFault.NotDir) ⊎ (fault ≡ StoreFault.Device)
             ⊎ (fault ≡ StoreFault.Memory)) }
@@ -81,7 +85,27 @@ impl<M: FolderMachine + Drop> DirStore<M> {
             },
             faults: FaultCount { count: 0 },
             fault,
+            syncs: false,
         })
+    }
+
+    /// The store, and whether it has the octets of a file that was written put on the device before the file is closed. A
+    /// new store does not.
+    pub fn syncing(self, syncs: bool) -> DirStore<M>
+        ensures same { result ≡ record self { syncs = syncs } }
+    {
+        let DirStore {
+            folder,
+            faults,
+            fault,
+            syncs: _,
+        } = self;
+        DirStore {
+            folder,
+            faults,
+            fault,
+            syncs,
+        }
     }
 
     /// The fault as a store returns it. A fault of the device is counted, and its error kept.
@@ -89,6 +113,7 @@ impl<M: FolderMachine + Drop> DirStore<M> {
         ensures same { result ≡ store_fault fault }
         ensures honest { IsHonest self.old.faults.count self.new.faults.count (Some result) }
         ensures folder { self.new.folder ≡ self.old.folder }
+        ensures syncs { self.new.syncs ≡ self.old.syncs }
     {
         if let MachineFault::Device(error) = fault {
             self.fault.put(error);
@@ -168,7 +193,7 @@ impl<M: FolderMachine + Drop> Store<M::A> for DirStore<M> {
     }
 
     fn finish(&mut self, sink: DirSink<M::File>, _moment: u64) -> Result<(), StoreFault> {
-        match self.folder.finish(sink.into_file()) {
+        match self.folder.finish(sink.into_file(), self.syncs) {
             Ok(reported) => Ok(reported),
             Err(fault) => Err(self.refused(fault)),
         }

@@ -8,8 +8,8 @@ use folder_store::{DirStore, FolderMachine, write_new};
 use last_fault::LastFault;
 use std::alloc::Global;
 use std::env::Env;
+use std::fs::File;
 use std::io::Write;
-use std::os::fd::AsRawFd;
 use std::process::Abort;
 use std::rt::Files;
 use std::{fs, io};
@@ -28,7 +28,7 @@ const LOOP: i32 = 40;
 
 /// A refusal of the machine, a call on a folder with the file `/f`, its result, and the number of the last error. A fault
 /// that is none of the device leaves none.
-static REFUSED: [(Act, &str, Option<i32>); 11] = [
+static REFUSED: [(Act, &str, Option<i32>); 12] = [
     (
         Act::LockFiles,
         "read /f = device fault\nfaults = 1",
@@ -65,6 +65,11 @@ static REFUSED: [(Act, &str, Option<i32>); 11] = [
         Some(STALE),
     ),
     (
+        Act::KeepFromDevice,
+        "append /n x = device fault\nfaults = 1",
+        Some(STALE),
+    ),
+    (
         Act::HideFirst,
         "names / = device fault\nfaults = 1",
         Some(STALE),
@@ -90,15 +95,16 @@ where
 {
     let fault = no_error(rt);
     let other = fault.another().expect(rt, "memory");
-    let mut store = DirStore::new(machine, folder, other).expect(rt, folder);
+    let mut store = DirStore::new(machine, folder, other)
+        .expect(rt, folder)
+        .syncing(true);
     comes_out(rt, &mut store, script);
     last_number(&fault)
 }
 
 fn check_refused<R>(rt: &R, folder: &str)
 where
-    R: Abort + Files + AllocGlobal + Copy + Drop,
-    R::File: AsRawFd,
+    R: Abort + Files<File = File> + AllocGlobal + Copy + Drop,
 {
     comes_out_in(rt, *rt, folder, "new /f abc");
     for (act, script, number) in &REFUSED {
@@ -126,8 +132,7 @@ fn check_cut<S: Store<Global>>(
 
 fn check_cut_in<R>(rt: &R, folder: &str)
 where
-    R: Abort + Files + AllocGlobal + Copy + Drop,
-    R::File: AsRawFd,
+    R: Abort + Files<File = File> + AllocGlobal + Copy + Drop,
 {
     let root = VPath::root(rt.alloc());
     let file = root.child(rt.alloc(), "f").expect(rt, "a path");
@@ -146,8 +151,7 @@ where
 /// A folder whose metadata the machine refuses: links that lead to each other.
 fn check_no_folder<R>(rt: &R, folder: &str)
 where
-    R: Abort + Files + AllocGlobal + Copy + Drop,
-    R::File: AsRawFd,
+    R: Abort + Files<File = File> + AllocGlobal + Copy + Drop,
 {
     let place = place_in(rt, folder, "l");
     rt.symlink("l", place.as_str()).expect(rt, "a link");
@@ -160,8 +164,7 @@ where
 
 fn check<R>(rt: &R)
 where
-    R: Abort + Env + Files + AllocGlobal + Copy + Drop,
-    R::File: AsRawFd,
+    R: Abort + Env + Files<File = File> + AllocGlobal + Copy + Drop,
 {
     let folder = fresh_folder(rt, "errors");
     check_refused(rt, folder.as_str());

@@ -5,8 +5,8 @@ use folder_store::DirStore;
 use last_fault::LastFault;
 use std::alloc::AllocError;
 use std::env::Env;
+use std::fs::File;
 use std::io;
-use std::os::fd::AsRawFd;
 use std::process::Abort;
 use std::rt::Files;
 use std::test::Fail;
@@ -15,8 +15,7 @@ use virtual_tree::{Sink, Store, WriteMode};
 
 fn folder_store<R>(rt: R, folder: &str, fault: LastFault) -> Result<(), Fail>
 where
-    R: Files + AllocGlobal + Copy + Drop,
-    R::File: AsRawFd,
+    R: Files<File = File> + AllocGlobal + Copy + Drop,
 {
     let path = VPath::root(rt.alloc()).resolve(rt.alloc(), "/report")?;
     let mut store = DirStore::new(rt, folder, fault)?; // serves the folder and all beneath it
@@ -41,8 +40,7 @@ const WRITTEN: &str = "read /report = all is well";
 
 fn check<R>(rt: &R)
 where
-    R: Abort + Env + Files + AllocGlobal + Copy + Drop,
-    R::File: AsRawFd,
+    R: Abort + Env + Files<File = File> + AllocGlobal + Copy + Drop,
 {
     let folder = fresh_folder(rt, "examples");
     passes(rt, folder_store(*rt, folder.as_str(), no_error(rt)));

@@ -6,7 +6,6 @@ use last_fault::LastFault;
 use std::alloc::Global;
 use std::env::Env;
 use std::fs;
-use std::os::fd::AsRawFd;
 use std::process::Abort;
 use std::rt::Files;
 use std::test::Fail;

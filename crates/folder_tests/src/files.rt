@@ -4,9 +4,8 @@ use crate::expect::{comes_out_in, fresh_folder, holds, no_error, place_in, take_
 use folder_store::{DirStore, write_new};
 use std::alloc::Global;
 use std::env::Env;
-use std::fs::OpenFile;
+use std::fs::{File, OpenFile};
 use std::io::Write;
-use std::os::fd::AsRawFd;
 use std::process::Abort;
 use std::rt::Files;
 use std::{fs, io};
@@ -64,8 +63,7 @@ static LONG: [(u64, &str); 5] = [
 
 fn check_long<R>(rt: &R, folder: &str)
 where
-    R: Abort + Files + AllocGlobal + Copy + Drop,
-    R::File: AsRawFd,
+    R: Abort + Files<File = File> + AllocGlobal + Copy + Drop,
 {
     let place = place_in(rt, folder, "s");
     for (length, script) in &LONG {
@@ -80,8 +78,7 @@ const MANY: u32 = 5000;
 
 fn check_many<R>(rt: &R, folder: &str)
 where
-    R: Abort + Files + AllocGlobal + Copy + Drop,
-    R::File: AsRawFd,
+    R: Abort + Files<File = File> + AllocGlobal + Copy + Drop,
 {
     for number in 0..MANY {
         let name = format!(in rt.alloc(); "{number}").expect(rt, "memory");
@@ -94,8 +91,7 @@ where
 
 fn check_files<R>(rt: &R, folder: &str)
 where
-    R: Abort + Files + AllocGlobal + Copy + Drop,
-    R::File: AsRawFd,
+    R: Abort + Files<File = File> + AllocGlobal + Copy + Drop,
 {
     comes_out_in(rt, *rt, folder, "new /c abcdef");
     let root = VPath::root(rt.alloc());
@@ -108,8 +104,7 @@ where
 
 fn check<R>(rt: &R)
 where
-    R: Abort + Env + Files + AllocGlobal + Copy + Drop,
-    R::File: AsRawFd,
+    R: Abort + Env + Files<File = File> + AllocGlobal + Copy + Drop,
 {
     let folder = fresh_folder(rt, "files");
     check_files(rt, folder.as_str());

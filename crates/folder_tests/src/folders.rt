@@ -5,7 +5,7 @@ use crate::racing_machine::{Act, acting};
 use folder_store::{DirStore, FolderMachine};
 use std::env::Env;
 use std::fs;
-use std::os::fd::AsRawFd;
+use std::fs::File;
 use std::process::Abort;
 use std::rt::Files;
 use test_store_script::{DIRECTORIES, FILES, RENAMES};
@@ -106,8 +106,7 @@ static ACTS: [(Act, &str); 6] = [
 
 fn check_fresh_folders<R>(rt: &R)
 where
-    R: Abort + Env + Files + AllocGlobal + Copy + Drop,
-    R::File: AsRawFd,
+    R: Abort + Env + Files<File = File> + AllocGlobal + Copy + Drop,
 {
     for script in &SCRIPTS {
         comes_out_afresh(rt, *rt, script);
@@ -139,8 +138,7 @@ fn make_file(rt: &(impl Abort + Files + AllocGlobal), folder: &str, name: &str) 
 
 fn check_names<R>(rt: &R)
 where
-    R: Abort + Env + Files + AllocGlobal + Copy + Drop,
-    R::File: AsRawFd,
+    R: Abort + Env + Files<File = File> + AllocGlobal + Copy + Drop,
 {
     let folder = fresh_folder(rt, "names");
     for name in &NAMES {
@@ -156,8 +154,7 @@ where
 /// An entry of a folder cannot be opened as a store.
 fn check_refused<R>(rt: &R, folder: &str, name: &str, fault: StoreFault)
 where
-    R: Abort + Files + AllocGlobal + Copy + Drop,
-    R::File: AsRawFd,
+    R: Abort + Files<File = File> + AllocGlobal + Copy + Drop,
 {
     let place = place_in(rt, folder, name);
     let opened = DirStore::new(*rt, place.as_str(), no_error(rt));
@@ -166,8 +163,7 @@ where
 
 fn check_no_folder<R>(rt: &R)
 where
-    R: Abort + Env + Files + AllocGlobal + Copy + Drop,
-    R::File: AsRawFd,
+    R: Abort + Env + Files<File = File> + AllocGlobal + Copy + Drop,
 {
     let folder = fresh_folder(rt, "none");
     comes_out_in(rt, *rt, folder.as_str(), "new /f abc");

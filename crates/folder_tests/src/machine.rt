@@ -3,8 +3,7 @@
 use crate::expect::{comes_out_in, fresh_folder, holds, no_error, place_in, take_away};
 use folder_store::{DirStore, EntryName, FolderMachine, Looked};
 use std::alloc::Global;
-use std::fs::Permissions;
-use std::os::fd::AsRawFd;
+use std::fs::{File, Permissions};
 use std::os::unix::fs::PermissionsExt;
 use std::process::Abort;
 use std::rt::Files;
@@ -29,8 +28,7 @@ faults = 2";
 /// A directory that may not be entered. A user with all permissions is refused nothing.
 fn check_permissions<R>(rt: &R, folder: &str)
 where
-    R: Abort + Files + AllocGlobal + Copy + Drop,
-    R::File: AsRawFd,
+    R: Abort + Files<File = File> + AllocGlobal + Copy + Drop,
 {
     comes_out_in(rt, *rt, folder, "make /d\nnew /d/f abc");
     let place = place_in(rt, folder, "d");
@@ -55,8 +53,7 @@ fn append_twice<S: Store<Global>>(rt: &impl Abort, store: &mut S, file: &VPath) 
 
 fn check_two_appends<R>(rt: &R, folder: &str)
 where
-    R: Abort + Files + AllocGlobal + Copy + Drop,
-    R::File: AsRawFd,
+    R: Abort + Files<File = File> + AllocGlobal + Copy + Drop,
 {
     let root = VPath::root(rt.alloc());
     let file = root.child(rt.alloc(), "g").expect(rt, "a path");
@@ -77,8 +74,7 @@ fn is_alike(one: &Looked, other: &Looked) -> bool {
 /// An entry is examined alike by its path and by its name in its open directory.
 fn check_examined<R>(rt: &R, folder: &str, entry: &str)
 where
-    R: Abort + Files + AllocGlobal + Copy + Drop,
-    R::File: AsRawFd,
+    R: Abort + Files<File = File> + AllocGlobal + Copy + Drop,
 {
     let mut machine = *rt;
     let place = place_in(rt, folder, entry);
@@ -95,8 +91,7 @@ where
 /// The calls on one folder, in which a file `f` was modified at a moment.
 fn check_folder<R>(rt: &R, folder: &str)
 where
-    R: Abort + Files + AllocGlobal + Copy + Drop,
-    R::File: AsRawFd,
+    R: Abort + Files<File = File> + AllocGlobal + Copy + Drop,
 {
     comes_out_in(rt, *rt, folder, "modified /f = 951827696");
     check_permissions(rt, folder);

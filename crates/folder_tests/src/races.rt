@@ -5,7 +5,7 @@ use crate::expect::{comes_out_in, fresh_folder, holds, place_in, take_away};
 use crate::racing_machine::{Act, Racing, acting};
 use std::env::Env;
 use std::fs;
-use std::os::fd::AsRawFd;
+use std::fs::File;
 use std::process::Abort;
 use std::rt::Files;
 
@@ -39,8 +39,7 @@ faults = 0";
 
 fn ask_of_links<R>(rt: &R, folder: &str)
 where
-    R: Abort + Files + AllocGlobal + Copy + Drop,
-    R::File: AsRawFd,
+    R: Abort + Files<File = File> + AllocGlobal + Copy + Drop,
 {
     for (name, target) in [("out", ".."), ("k", "../kept"), ("m", "../made")] {
         let place = place_in(rt, folder, name);
@@ -59,8 +58,7 @@ append /f x = not found";
 /// `OPENINGS` opens it.
 fn open_late<R>(rt: &R, folder: &str, act: Act)
 where
-    R: Abort + Files + AllocGlobal + Copy + Drop,
-    R::File: AsRawFd,
+    R: Abort + Files<File = File> + AllocGlobal + Copy + Drop,
 {
     let place = place_in(rt, folder, "f");
     for call in OPENINGS.split('\n') {
@@ -84,8 +82,7 @@ fn holds_text(
 
 fn check_links<R>(rt: &R)
 where
-    R: Abort + Env + Files + AllocGlobal + Copy + Drop,
-    R::File: AsRawFd,
+    R: Abort + Env + Files<File = File> + AllocGlobal + Copy + Drop,
 {
     let above = fresh_folder(rt, "links");
     comes_out_in(rt, *rt, above.as_str(), "new /kept kept\nmake /served");
@@ -148,8 +145,7 @@ fn check_laid_out(rt: &(impl Abort + Files + AllocGlobal), above: &str) {
 /// Carries out one call while the directory is swapped for a link.
 fn call_while_swapped<R>(rt: &R, above: &str, call: &str, act: Act)
 where
-    R: Abort + Files + AllocGlobal + Copy + Drop,
-    R::File: AsRawFd,
+    R: Abort + Files<File = File> + AllocGlobal + Copy + Drop,
 {
     let directory = place_in(rt, above, "served/d");
     let aside = place_in(rt, above, "served/aside");
@@ -168,8 +164,7 @@ where
 /// The same in a fresh folder. The directory that the link leads to is unchanged.
 fn check_swapped<R>(rt: &R, call: &str, act: Act)
 where
-    R: Abort + Env + Files + AllocGlobal + Copy + Drop,
-    R::File: AsRawFd,
+    R: Abort + Env + Files<File = File> + AllocGlobal + Copy + Drop,
 {
     let above = fresh_folder(rt, "directory_swapped");
     comes_out_in(rt, *rt, above.as_str(), LAID_OUT);
@@ -181,8 +176,7 @@ where
 /// A file that becomes a link after the names were read is not listed, and the link is not followed.
 fn check_listed_link<R>(rt: &R)
 where
-    R: Abort + Env + Files + AllocGlobal + Copy + Drop,
-    R::File: AsRawFd,
+    R: Abort + Env + Files<File = File> + AllocGlobal + Copy + Drop,
 {
     let above = fresh_folder(rt, "listed_link");
     comes_out_in(rt, *rt, above.as_str(), LAID_OUT);

@@ -1,7 +1,7 @@
 //! A machine on which another process acts between two calls, or which refuses calls.
 
 use folder_store::{EntryName, FolderMachine, Looked, LookedKind, OpenDirectory};
-use std::fs::OpenOptions;
+use std::fs::{File, OpenOptions};
 use std::io;
 use std::rt::Files;
 
@@ -25,8 +25,10 @@ pub(crate) enum Act {
     SwapLate,
     /// The machine refuses each rename.
     KeepNames,
-    /// The machine fails to flush a file.
+    /// The machine fails to close a file.
     KeepOctets,
+    /// The machine fails to put the octets of a file on the device.
+    KeepFromDevice,
     /// The machine fails when asked for the metadata of `a`.
     HideFirst,
     /// It replaces the entry `a`, whose path is the first of `swapped`, by a link to the second, just before the entry is
@@ -69,7 +71,7 @@ pub(crate) fn acting<R>(rt: R, act: Act) -> Racing<'static, R> {
     }
 }
 
-impl<R: Files + Alloc> Racing<'_, R> {
+impl<R: Files<File = File> + Alloc> Racing<'_, R> {
     /// Swaps the directory for the link, once.
     fn swap(&mut self) -> io::Result<()> {
         let (directory, aside) = self.swapped;
@@ -134,14 +136,14 @@ impl<R: Alloc> Alloc for Racing<'_, R> {
     }
 }
 
-impl<R: Files + Alloc> FolderMachine for Racing<'_, R> {
-    type File = R::File;
+impl<R: Files<File = File> + Alloc> FolderMachine for Racing<'_, R> {
+    type File = File;
 
     type Directory = OpenDirectory;
 
     ghost Does = { λ _ _ _. Unit {0} };
 
-    fn open(&mut self, how: &OpenOptions, path: &str) -> io::Result<R::File> {
+    fn open(&mut self, how: &OpenOptions, path: &str) -> io::Result<File> {
         self.before_opening(path)?;
         let mut less = OpenOptions::new();
         match self.act {
@@ -191,7 +193,7 @@ impl<R: Files + Alloc> FolderMachine for Racing<'_, R> {
         self.rt.follow(path)
     }
 
-    fn examine(&mut self, file: &R::File) -> io::Result<Looked> {
+    fn examine(&mut self, file: &File) -> io::Result<Looked> {
         self.rt.examine(file)
     }
 
@@ -205,19 +207,26 @@ impl<R: Files + Alloc> FolderMachine for Racing<'_, R> {
         Ok(NAMES.len())
     }
 
-    fn cut(&mut self, file: &R::File, length: u64) -> io::Result<()> {
+    fn cut(&mut self, file: &File, length: u64) -> io::Result<()> {
         self.rt.cut(file, length)
     }
 
-    fn go_to(&mut self, file: R::File, offset: u64) -> io::Result<R::File> {
+    fn go_to(&mut self, file: File, offset: u64) -> io::Result<File> {
         self.rt.go_to(file, offset)
     }
 
-    fn flush(&mut self, file: R::File) -> io::Result<()> {
+    fn sync(&mut self, file: &File) -> io::Result<()> {
+        if matches!(&self.act, Act::KeepFromDevice) {
+            return Err(io::Error::from_raw_os_error(STALE));
+        }
+        self.rt.sync(file)
+    }
+
+    fn close(&mut self, file: File) -> io::Result<()> {
         if matches!(&self.act, Act::KeepOctets) {
             return Err(io::Error::from_raw_os_error(STALE));
         }
-        self.rt.flush(file)
+        self.rt.close(file)
     }
 
     fn make_directory(&mut self, path: &str) -> io::Result<()> {

@@ -13,7 +13,7 @@ ghost use Rattle.transfer_worker.specs.Boards.{AreNewPasses};
 
 use client_patience::Patience;
 use ftpd_program::ServeFault;
-use grant_ledger::{Book, Settled, Tally, settle};
+use grant_ledger::{Book, SettledNumbers as Settled, Tally, settle};
 use lane_desk::{Desk, LaneSeat, RoundDesk, Worked, open_desk};
 use lane_rounds::RoundClock;
 use lent_parts::{LentPass, LentSeats, PartsName};
@@ -211,7 +211,7 @@ pub(crate) struct Line {
 
 // Settles a book that issued nothing.
 fn close_book(book: Book<()>, tally: Tally<()>) -> Settled {
-    settle(book, tally)
+    settle(book, tally).numbers()
 }
 
 /// Opens a desk of `lanes` lanes.

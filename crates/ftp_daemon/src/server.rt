@@ -18,7 +18,7 @@ use crate::settling::settle_unlent;
 use crate::watching::{OwnerSigns, wants_looks};
 use event_word::{EventCount, SharedEventCount};
 use ftpd_program::ServeFault;
-use grant_ledger::Settled;
+use grant_ledger::SettledNumbers as Settled;
 use lane_desk::Rounds;
 use lane_rounds::{Engine, RoundClock};
 use lent_parts::{LentBoard, LentDesk, LentPass, LentRounds, LentSeats, PartsName};

@@ -13,7 +13,7 @@ use crate::opening::{Line, Service, open_line};
 use crate::server::Server;
 use crate::watching::{OwnerSigns, is_up};
 use ftpd_program::ServeFault;
-use grant_ledger::Settled;
+use grant_ledger::SettledNumbers as Settled;
 use lane_rounds::RoundClock;
 use lent_parts::PartsName;
 use paced_rounds::seconds_are_kept;

@@ -6,7 +6,7 @@ ghost use Rattle.lane_desk.specs.Workers.{AreWorkers};
 ghost use Rattle.lane_desk.specs.Seats.{desk_id};
 
 use crate::opening::Line;
-use grant_ledger::{Settled, Tally};
+use grant_ledger::{SettledNumbers as Settled, Tally};
 use lane_desk::{Desk, LaneSeat, Rounds, Worked, settle_all};
 
 // Gathers seats that were never used, each with a tally of its own.
@@ -41,5 +41,5 @@ pub(crate) fn settle_unlent(line: Line) -> Settled
         mut room,
     } = line;
     gather_fresh(&desk, seats, &mut tally, &mut room);
-    settle_all(desk, Rounds::new(round, book, tally), room)
+    settle_all(desk, Rounds::new(round, book, tally), room).numbers()
 }

@@ -97,15 +97,38 @@ impl<N> Model for Tally<N> {
     ghost view = { λ t. record { moved = t.moved; back = t.back } };
 }
 
+/// The settlement of a book and a tally with their name. Only [`settle`] makes one, and it cannot be dropped: it is handed
+/// on, or read by [`Settled::numbers`].
+pub struct Settled<N = Plain> {
+    name: PhantomData<N>,
+    numbers: SettledNumbers,
+}
+
+impl<N> Model for Settled<N> {
+    ghost use Rattle.grant_ledger.specs.declared.ledger.SettledNumbers.{SettledNumbers};
+
+    ghost Value = { SettledNumbers };
+
+    ghost view = { λ s. s.numbers };
+}
+
 /// The final numbers of a book and a tally, in octets.
 #[derive(Clone, Copy, Debug, PartialEq, Eq)]
-pub struct Settled {
+pub struct SettledNumbers {
     pub issued: u64,
     pub moved: u64,
     pub back: u64,
 }
 
-impl<N> Book<N> {
+/// A name under which books may be opened. What is generic in a name without this bound can open none: it settles the
+/// books that it was given.
+pub trait BookName {}
+
+impl BookName for Plain {}
+
+impl BookName for () {}
+
+impl<N: BookName> Book<N> {
     /// A book that has issued `carried` octets, and its tally, in which all of them were moved.
     pub fn open(carried: u64) -> (Book<N>, Tally<N>)
         requires few { carried ≤ MAX_ISSUED }
@@ -132,7 +155,9 @@ impl<N> Book<N> {
         };
         (book, tally)
     }
+}
 
+impl<N> Book<N> {
     /// The octets issued so far.
     pub fn issued(&self) -> u64
         ensures issued { result ≡ self.now.issued }
@@ -417,8 +442,18 @@ impl<N> Tally<N> {
     }
 }
 
-/// Consumes a book and a tally, and returns their numbers.
-pub fn settle<N>(book: Book<N>, tally: Tally<N>) -> Settled
+impl<N> Settled<N> {
+    /// Reads the numbers.
+    pub fn numbers(self) -> SettledNumbers
+        ensures numbers { result ≡ self }
+    {
+        let Settled { name: _, numbers } = self;
+        numbers
+    }
+}
+
+/// Consumes a book and a tally, and returns their settlement.
+pub fn settle<N>(book: Book<N>, tally: Tally<N>) -> Settled<N>
     ensures issued { result.issued ≡ book.issued }
     ensures moved { result.moved ≡ tally.moved }
     ensures back { result.back ≡ tally.back }
@@ -436,8 +471,11 @@ pub fn settle<N>(book: Book<N>, tally: Tally<N>) -> Settled
         back,
     } = tally;
     Settled {
-        issued,
-        moved,
-        back,
+        name: PhantomData,
+        numbers: SettledNumbers {
+            issued,
+            moved,
+            back,
+        },
     }
 }

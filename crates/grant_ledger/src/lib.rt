@@ -8,8 +8,12 @@
 //! `Grant<OfDesk>`, which only a `Tally<OfDesk>` accepts. A program that spends a grant into a tally of another name
 //! does not compile. `Book` alone means the book with the name `Plain`.
 //!
-//! None of the four can be copied or dropped: a program that drops one does not compile. The only way to consume a
-//! grant is `spend`; a purse, `close`; a tally, `join` or `settle`; a book, `settle`. No call allocates.
+//! A book is opened under a name that is a [`BookName`]. What is generic in the name without that bound can open none: it
+//! settles the book that it was given, and returns the [`Settled`] of that name, which only [`settle`] makes.
+//!
+//! None of the five can be copied or dropped: a program that drops one does not compile. The only way to consume a
+//! grant is `spend`; a purse, `close`; a tally, `join` or `settle`; a book, `settle`; a settlement, `numbers`. No call
+//! allocates.
 //!
 //! ```text
 //! let sealed = sealed(rt.alloc(), &[100])?;
@@ -25,7 +29,7 @@
 //!     }
 //!     Err(_) => panic!(rt; "a later tick than the last is taken"),
 //! }
-//! let settled = settle(book, tally);
+//! let settled = settle(book, tally).numbers();
 //! assert!(rt; settled.issued == 100 && settled.moved == 60 && settled.back == 40);
 //! ```
 #![tactic(auto)]
@@ -36,4 +40,7 @@ mod ledger;
 
 pub use fault::BookFault;
 pub use laws::{entry_gives_each_lane_its_amount, entry_is_drawn_in_turn};
-pub use ledger::{Book, Grant, MAX_ISSUED, MAX_LANES, Plain, Purse, Settled, Tally, settle};
+pub use ledger::{
+    Book, BookName, Grant, MAX_ISSUED, MAX_LANES, Plain, Purse, Settled, SettledNumbers, Tally,
+    settle,
+};

@@ -1,9 +1,11 @@
 -- The asks of a plan's leaves, found by their lanes.
-use Rattle.std.proofs.Common.{◌≡◌, ℕ, zero, suc, ◌+◌, ◌<◌, ◌≤◌, cond, nat_eq, eq-eqb, ne_eqb, Bool, false, List, [], ◌∷◌, ◌++◌, map, take, length, get_or, count_by, sym, refl, ap, ◌∙◌, subst, arith, Option, Some, None, IsPermutation}
+use Rattle.std.proofs.Common.{◌≡◌, ℕ, zero, suc, ◌+◌, ◌<◌, ◌≤◌, cond, nat_eq, eq-eqb, ne_eqb, Bool, false, List, [], ◌∷◌, ◌++◌, map, take, length, get_or, sym, refl, ap, ◌∙◌, subst, arith, Option, Some, None, IsPermutation}
 use Rattle.std.specs.List.{All, cons_option}
 use Rattle.std.proofs.lemmas.List.{take_more}
 use Rattle.std.proofs.lemmas.List.Elements.{filter_map-append}
-use Rattle.std.proofs.lemmas.List.Sorted.{All-permutation}
+use Rattle.std.proofs.lemmas.List.Sorted.{All-permutation, IsPermutation-trans}
+use Rattle.limit_tree.specs.declared.fault.TreeFault.{TreeFault}
+use Rattle.line_rates.specs.Refused.{HasFault}
 use Rattle.limit_tree.specs.Sharing.{LimitTree}
 use Rattle.line_rates.specs.declared.ask.Ask.{Ask}
 use Rattle.line_rates.specs.Rates.{Rates}
@@ -53,6 +55,24 @@ asked_plan rates tick xs t lanes own apart p e = record {
   plan = p;
   asks_are = e ∙ ap (asks_on xs) p.lanes_are
       ∙ finds_each xs p.order (All-permutation (Finds xs) xs p.order p.all (finds_all xs (apart_many xs apart)));
+}
+
+-- a plan for the same asks in another order, and a fault of one
+pub plan_moved : (rates : Rates) (tick : ℕ) (xs ys : List Asker) (t : LimitTree) (lanes : List ℕ) → IsPermutation xs ys → IsPlan rates tick ys t lanes → IsPlan rates tick xs t lanes
+plan_moved rates tick xs ys t lanes moved p = record {
+  order = p.order;
+  all = IsPermutation-trans xs ys p.order moved p.all;
+  tree = p.tree;
+  lanes_are = p.lanes_are;
+}
+
+pub fault_moved : (A : Type 0) (rates : Rates) (tick : ℕ) (xs ys : List Asker) (fault : TreeFault) → IsPermutation xs ys → HasFault A rates tick ys fault → HasFault A rates tick xs fault
+fault_moved A rates tick xs ys fault moved h = record {
+  order = h.order;
+  root = h.root;
+  all = IsPermutation-trans xs ys h.order moved h.all;
+  tree = h.tree;
+  is = h.is;
 }
 
 -- one lane more

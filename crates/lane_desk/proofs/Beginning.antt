@@ -1,13 +1,13 @@
 -- How a round begins.
-use Rattle.std.proofs.Common.{◌≡◌, ℕ, zero, suc, ◌+◌, ◌≤◌, [], ◌∷◌, ◌++◌, get_or, replicate, false, cond, sym, refl, ◌∙◌, subst, arith}
+use Rattle.std.proofs.Common.{◌≡◌, ℕ, zero, suc, ◌+◌, ◌≤◌, [], ◌∷◌, ◌++◌, get_or, replicate, true, false, cond, sym, refl, ◌∙◌, subst, arith}
 use lib.ListN.{length-replicate}
 use Rattle.atomic_table.specs.Table.{Me}
 use Rattle.desk_rule.specs.declared.view.LaneSlot.{LaneSlot}
 use Rattle.desk_rule.specs.declared.view.LaneSlot.TheVariants.{Blank}
 use Rattle.desk_rule.specs.declared.view.DeskView.{DeskView}
 use Rattle.desk_rule.specs.declared.view.DeskView.TheVariants.{Round}
-use Rattle.desk_rule.specs.Lanes.{untraced}
-use Rattle.lane_desk.specs.Held.{above, KnowsDesk, is_due}
+use Rattle.desk_rule.specs.Lanes.{untraced, is_due, any_due}
+use Rattle.lane_desk.specs.Held.{above, round_in, KnowsDesk}
 use Rattle.lane_desk.specs.Begun.{dealt_round}
 use Rattle.desk_rule.proofs.Keeps.{posted_none}
 
@@ -45,3 +45,7 @@ module _ {N : Type 0} where
 
       no_mark : (i k : ℕ) → get_or (replicate 64 false) i false ≡ is_due (get_or (replicate k untraced) i untraced)
       no_mark i k = no_flag 64 i ∙ sym (free k i)
+
+module _ {N : Type 0} where
+  pub begins_quiet : (m : (Me (LaneSlot N) DeskView)) (k : ℕ) → m ≡ (Round (dealt_round k k), []) → (round_in m.0).answering ≡ true → any_due (round_in m.0).traces ≡ true
+  begins_quiet m k is = subst (λ (u : (Me (LaneSlot N) DeskView)). (round_in u.0).answering ≡ true → any_due (round_in u.0).traces ≡ true) (sym is) (λ e. absurd (cc))

@@ -10,7 +10,8 @@ use Rattle.desk_rule.specs.declared.view.SeatState.TheVariants.{Worker}
 use Rattle.desk_rule.specs.declared.view.LaneView.{LaneView}
 use Rattle.desk_rule.specs.declared.view.DeskView.{DeskView}
 use Rattle.desk_rule.specs.declared.view.DeskView.TheVariants.{Lane}
-use Rattle.desk_rule.specs.Lanes.{Kept, Owns, lane_in, has_asked, held_in, KnowsLane}
+use Rattle.desk_rule.specs.Lanes.{Owns, lane_in, has_asked, held_in, KnowsLane}
+use Rattle.desk_rule.specs.Steps.{Ran}
 use Rattle.desk_rule.specs.Lanes as spec
 use Rattle.desk_rule.proofs.Keeps.{asks}
 
@@ -25,8 +26,8 @@ module _ {N : Type 0} where
   pub ready : (me me' : (Me (LaneSlot N) DeskView)) (i : ℕ) (y : (LaneSlot N)) → KnowsLane me i Worker → me' ≡ (me.0, (i, y) ∷ rest me.1) → me' ≡ (Lane i (lane_in i me.0), (i, y) ∷ [])
   ready me me' i y k is = is ∙ (λ q. (k.0 q, (i, y) ∷ rest (k.2 q)))
 
-  pub asks_of : (n id : ℕ) (me : (Me (LaneSlot N) DeskView)) (i : ℕ) (x : LaneView) (a : Ask) → me ≡ (Lane i x, (i, WithAsk a) ∷ []) → x.state ≡ Worker → Allows Kept n id me i (λ _. 2) (λ _. spec.asks (step n i 2 0 none) me 2)
-  asks_of n id me i x a is st = subst (λ (u : (Me (LaneSlot N) DeskView)). Allows Kept n id u i (λ _. 2) (λ _. spec.asks (step n i 2 0 none) u 2)) (sym is) (asks n id (Lane i x, (i, WithAsk a) ∷ []) i a refl st refl)
+  pub asks_of : (n id : ℕ) (me : (Me (LaneSlot N) DeskView)) (i : ℕ) (x : LaneView) (a : Ask) → me ≡ (Lane i x, (i, WithAsk a) ∷ []) → x.state ≡ Worker → Allows Ran n id me i (λ _. 2) (λ _. spec.asks (step n i 2 0 none) me 2)
+  asks_of n id me i x a is st = subst (λ (u : (Me (LaneSlot N) DeskView)). Allows Ran n id u i (λ _. 2) (λ _. spec.asks (step n i 2 0 none) u 2)) (sym is) (asks n id (Lane i x, (i, WithAsk a) ∷ []) i a refl st refl)
 
   pub asks_then : (n : ℕ) (me me' : (Me (LaneSlot N) DeskView)) (i : ℕ) (x : LaneView) (a : Ask) → me ≡ (Lane i x, (i, WithAsk a) ∷ []) → spec.asks (step n i 2 0 none) me 2 me' → me' ≡ (Lane i (has_asked a x), [])
   asks_then n me me' i x a is reported = subst (λ (u : (Me (LaneSlot N) DeskView)). spec.asks (step n i 2 0 none) u 2 me') is reported a refl

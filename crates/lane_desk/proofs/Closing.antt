@@ -12,8 +12,10 @@ use Rattle.desk_rule.specs.declared.view.TraceView.{TraceView}
 use Rattle.desk_rule.specs.declared.view.RoundView.{RoundView}
 use Rattle.desk_rule.specs.declared.view.DeskView.{DeskView}
 use Rattle.desk_rule.specs.declared.view.DeskView.TheVariants.{Round}
-use Rattle.desk_rule.specs.Lanes.{Kept, fresh, untraced, has_taken, has_looked, has_risen}
-use Rattle.lane_desk.specs.Held.{is_due, round_in, KnowsDesk}
+use Rattle.desk_rule.specs.Lanes.{fresh, untraced, has_taken, has_looked, has_risen}
+use Rattle.desk_rule.specs.Steps.{Ran}
+use Rattle.lane_desk.specs.Held.{round_in, KnowsDesk}
+use Rattle.desk_rule.specs.Lanes.{is_due}
 use Rattle.desk_rule.proofs.Keeps.{index_at}
 use Rattle.desk_rule.specs.Lanes.{has_posted, Phase, free, worker, asked, round, granted, Agrees}
 use Rattle.lane_desk.specs.Close.{Settled, Closes, answered, AllSettled}
@@ -70,11 +72,11 @@ module _ {N : Type 0} where
   no_grant_left (granted k) i n h x t ok is y f g e = omega (arith, ap length (sym is.1 ∙ ok.posted_are), length-append x.taken (k.octets ∷ []))
 
   -- where each lane is settled, no grant lies in a slot at the end
-  pub no_grant_at : (id : ℕ) (m : (Me (LaneSlot N) DeskView)) (lanes : ℕ) (held : List Bool) → KnowsDesk m lanes held → length (round_in m.0).back ≡ lanes → AllSettled (round_in m.0).traces (round_in m.0).back → (ws : List ℕ) (xs : List (LaneSlot N)) → Final (Seen Kept id m.0) ws xs
+  pub no_grant_at : (id : ℕ) (m : (Me (LaneSlot N) DeskView)) (lanes : ℕ) (held : List Bool) → KnowsDesk m lanes held → length (round_in m.0).back ≡ lanes → AllSettled (round_in m.0).traces (round_in m.0).back → (ws : List ℕ) (xs : List (LaneSlot N)) → Final (Seen Ran id m.0) ws xs
       → (i : ℕ) → i < length xs → (y : (LaneSlot N)) → get_elem? xs i ≡ some y → (g : GrantView) → y ≡ WithGrant g → ⊥
   no_grant_at id m lanes held k all settled ws xs fin i near y at g e =
       let s = fin.0 in
-      let r : Kept s = fin.1.0 in
+      let r = fin.1.0.kept in
       let sh : RoundView = round_in m.0 in
       let kn = r.each_view id (Round sh) (fin.1.1 ∙ ap some k.view_is) in
       let here : i < length s.homes = omega (arith, fin.3, near) in

@@ -8,7 +8,7 @@ use Rattle.line_rates.specs.declared.ask.Ask.{Ask}
 use Rattle.line_rates.specs.TickTree.{Asker, lane_in}
 use Rattle.grant_ledger.specs.Books.{NamesNot}
 use Rattle.desk_rule.specs.declared.view.TraceView.{TraceView}
-use Rattle.lane_desk.specs.Held.{is_due}
+use Rattle.desk_rule.specs.Lanes.{is_due}
 use Rattle.lane_desk.proofs.RoundCalls.{collected_due}
 use Rattle.lane_desk.specs.Tried.{tried_by, tried, asks_from, mark_of}
 use Rattle.lane_desk.specs.Posted.{trace_at, AreDue}

@@ -9,7 +9,8 @@ use Rattle.desk_rule.specs.declared.view.LaneSlot.TheVariants.{Blank}
 use Rattle.desk_rule.specs.declared.view.DeskView.{DeskView}
 use Rattle.desk_rule.specs.declared.view.DeskView.TheVariants.{Round}
 use Rattle.lane_desk.specs.declared.seat.LaneSeat.{LaneSeat}
-use Rattle.desk_rule.specs.Lanes.{Kept, fresh, untraced, first_round, posted_in}
+use Rattle.desk_rule.specs.Lanes.{fresh, untraced, first_round, posted_in}
+use Rattle.desk_rule.specs.Steps.{Ran}
 use Rattle.desk_rule.specs.Lanes as spec
 use Rattle.lane_desk.specs.Seats.{seat_view}
 use Rattle.lane_desk.specs.Begun.{dealt_round}
@@ -38,7 +39,7 @@ module _ {N : Type 0} where
     λ i x e. ⊎_elim (k.1 i x) (λ (t : (i ≡ length seats) × (s ≡ x)). subst (λ (y : (LaneSeat N)). (y.lane ≡ i) × (y.seat.table_id ≡ z) × (seat_view y ≡ fresh)) t.1 (a ∙ sym k.0 ∙ sym t.0, b, c)) (get_end seats s x i e),
   )
 
-  pub deals_of : (id : ℕ) (m : (Me (LaneSlot N) DeskView)) (k i : ℕ) → i < k → m ≡ (Round (dealt_round k i), []) → Splits (Kept {N = N}) id m.0 (spec.dealer_after m.0) (spec.dealt_to m.0)
+  pub deals_of : (id : ℕ) (m : (Me (LaneSlot N) DeskView)) (k i : ℕ) → i < k → m ≡ (Round (dealt_round k i), []) → Splits (Ran {N = N}) id m.0 (spec.dealer_after m.0) (spec.dealt_to m.0)
   deals_of id m k i near is = deals id m.0 (dealt_round k i) (ap (λ x. x.0) is) (let e = length-replicate k untraced in omega arith)
 
 abbrev pub zeros : ℕ → List ℕ
@@ -50,7 +51,7 @@ no_word (suc n) zero = refl
 no_word (suc n) (suc i) = no_word n i
 
 module _ {N : Type 0} where
-  pub opens_with : (ws : List ℕ) (xs : List (LaneSlot N)) (k n : ℕ) → k ≤ n → ws ≡ zeros n → xs ≡ replicate k Blank → Kept (opening ws xs (Round (first_round k)))
+  pub opens_with : (ws : List ℕ) (xs : List (LaneSlot N)) (k n : ℕ) → k ≤ n → ws ≡ zeros n → xs ≡ replicate k Blank → Ran (opening ws xs (Round (first_round k)))
   opens_with ws xs k n wide a b =
       opens ws xs k (ap length b ∙ length-replicate k Blank) (omega (arith, ap length a, length-replicate {A = ℕ} n 0)) (λ i near. ap (λ (w : List ℕ). get_or w i 0) a ∙ no_word n i)
       (λ i near. subst (λ (y : List (LaneSlot N)). lib.ListN.get_elem? y i ≡ mathlib.Core.Option.some Blank) (sym b) (at_replicate k i Blank near))

@@ -5,7 +5,7 @@ use Rattle.line_rates.specs.TickTree.{Asker, lane_in}
 use Rattle.grant_ledger.specs.Books.{NamesNot}
 use Rattle.desk_rule.specs.declared.view.TraceView.{TraceView}
 use Rattle.desk_rule.specs.Lanes.{untraced, has_posted, posted_in}
-use Rattle.lane_desk.specs.Held.{is_due}
+use Rattle.desk_rule.specs.Lanes.{is_due}
 use Rattle.desk_rule.proofs.Keeps.{posted_set, sum_more}
 use Rattle.lane_desk.specs.Posted.{trace_at, posted_all, AreDue, nothing_for}
 

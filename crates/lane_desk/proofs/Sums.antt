@@ -10,7 +10,7 @@ use Rattle.desk_rule.specs.declared.view.LaneView.{LaneView}
 use Rattle.desk_rule.specs.declared.view.TraceView.{TraceView}
 use Rattle.lane_desk.specs.declared.worked.Worked.{Worked}
 use Rattle.desk_rule.specs.Lanes.{fresh, untraced, posted_in}
-use Rattle.lane_desk.specs.Held.{is_due}
+use Rattle.desk_rule.specs.Lanes.{is_due}
 use Rattle.lane_desk.specs.Close.{Settled, Closes, AllSettled}
 use Rattle.lane_desk.specs.AllLanes.{taken_in_all}
 use Rattle.lane_desk.specs.Workers.{AreWorkers, moved_by_all}

@@ -11,7 +11,8 @@ use Rattle.desk_rule.specs.declared.view.LaneView.{LaneView}
 use Rattle.desk_rule.specs.declared.view.TraceView.{TraceView}
 use Rattle.desk_rule.specs.declared.view.DeskView.{DeskView}
 use Rattle.desk_rule.specs.declared.view.DeskView.TheVariants.{Spent, Lane, Round}
-use Rattle.desk_rule.specs.Lanes.{Kept, Owns, Leads, Fits, lane_in, with_lane, fresh, untraced, held_in, KnowsLane, has_taken, has_risen}
+use Rattle.desk_rule.specs.Lanes.{Owns, Leads, Fits, lane_in, with_lane, fresh, untraced, held_in, KnowsLane, has_taken, has_risen}
+use Rattle.desk_rule.specs.Steps.{Ran}
 use Rattle.desk_rule.specs.Lanes as spec
 use Rattle.lane_desk.specs.Held.{round_in, KnowsDesk}
 use Rattle.desk_rule.proofs.Keeps.{joins, rises}
@@ -23,7 +24,7 @@ module _ {N : Type 0} where
   held_none l i Worker ne e = absurd (ne refl)
   held_none l i Asked ne e = e
 
-  pub joins_of : (id : ℕ) (m0 : (Me (LaneSlot N) DeskView)) (lanes : ℕ) (held : List Bool) (other : ℕ) (m : (Me (LaneSlot N) DeskView)) (i : ℕ) (st : SeatState) → KnowsDesk m0 lanes held → KnowsLane m i st → i ≡ length (round_in m0.0).back → Joins (Kept {N = N}) id m0.0 other m.0 (spec.taken_in m0.0 m.0) Spent
+  pub joins_of : (id : ℕ) (m0 : (Me (LaneSlot N) DeskView)) (lanes : ℕ) (held : List Bool) (other : ℕ) (m : (Me (LaneSlot N) DeskView)) (i : ℕ) (st : SeatState) → KnowsDesk m0 lanes held → KnowsLane m i st → i ≡ length (round_in m0.0).back → Joins (Ran {N = N}) id m0.0 other m.0 (spec.taken_in m0.0 m.0) Spent
   joins_of id m0 lanes held other m i st k kl e = joins id m0.0 (round_in m0.0) other m.0 (lane_in i m.0) k.view_is (kl.0 ∙ ap (λ (z : ℕ). Lane z (lane_in i m.0)) e)
 
 pub owns_round : (v : DeskView) (i : ℕ) → IsRound v → i < length (round_in v).back → Owns i v
@@ -50,16 +51,16 @@ set_twice (x ∷ xs) (suc i) a b = λ q. x ∷ set_twice xs i a b q
 with_twice : (v : DeskView) (i : ℕ) (x y : LaneView) → with_lane i y (with_lane i x v) ≡ with_lane i y v
 with_twice Spent i x y = refl
 with_twice (Lane k z) i x y = refl
-with_twice (Round sh) i x y = λ q. Round record { dealt = sh.dealt; traces = sh.traces; back = set_twice sh.back i x y q }
+with_twice (Round sh) i x y = λ q. Round record { dealt = sh.dealt; traces = sh.traces; back = set_twice sh.back i x y q; answering = sh.answering }
 
 module _ {N : Type 0} where
   -- the seat once it has put nothing in place of the grant
   pub taken_front : (m1 m2 m3 : (Me (LaneSlot N) DeskView)) (i : ℕ) → spec.Took (step 0 i 4 1 none) m1 m2 → m3 ≡ (m2.0, (i, Blank) ∷ rest m2.1) → (g : GrantView) × (m2.1 ≡ (i, WithGrant g) ∷ m1.1) × (m3 ≡ (with_lane i (has_taken g.octets (lane_in i m1.0)) m1.0, (i, Blank) ∷ m1.1)) × Fits i m1.0 (g.octets ∷ [])
   taken_front m1 m2 m3 i t put = (t.0, ap (λ (u : (Me (LaneSlot N) DeskView)). u.1) t.2, put ∙ ap (λ (u : (Me (LaneSlot N) DeskView)). (u.0, (i, Blank) ∷ rest u.1)) t.2, t.4)
 
-  pub rises_of : (n id : ℕ) (m : (Me (LaneSlot N) DeskView)) (v : DeskView) (l : List (ℕ × (LaneSlot N))) (i k : ℕ) → Owns i v → m ≡ (with_lane i (has_taken k (lane_in i v)) v, (i, Blank) ∷ l) → Allows Kept n id m i (λ _. 0) (λ _. spec.rises (step n i 0 0 none) m 0)
+  pub rises_of : (n id : ℕ) (m : (Me (LaneSlot N) DeskView)) (v : DeskView) (l : List (ℕ × (LaneSlot N))) (i k : ℕ) → Owns i v → m ≡ (with_lane i (has_taken k (lane_in i v)) v, (i, Blank) ∷ l) → Allows Ran n id m i (λ _. 0) (λ _. spec.rises (step n i 0 0 none) m 0)
   rises_of n id m v l i k o is = let w : DeskView = with_lane i (has_taken k (lane_in i v)) v in
-      subst (λ (u : (Me (LaneSlot N) DeskView)). Allows Kept n id u i (λ _. 0) (λ _. spec.rises (step n i 0 0 none) u 0)) (sym is)
+      subst (λ (u : (Me (LaneSlot N) DeskView)). Allows Ran n id u i (λ _. 0) (λ _. spec.rises (step n i 0 0 none) u 0)) (sym is)
       (rises n id (w, (i, Blank) ∷ l) i (still_owns v i (has_taken k (lane_in i v)) o) (ap (λ (x : LaneView). x.state) (now_in v i (has_taken k (lane_in i v)) o)) refl)
 
   pub rises_then : (m m' : (Me (LaneSlot N) DeskView)) (v : DeskView) (l : List (ℕ × (LaneSlot N))) (i k : ℕ) → Owns i v → m ≡ (with_lane i (has_taken k (lane_in i v)) v, (i, Blank) ∷ l) → spec.rises (step 0 i 0 0 none) m 0 m' → m' ≡ (with_lane i (has_risen (has_taken k (lane_in i v))) v, l)

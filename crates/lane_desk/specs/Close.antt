@@ -4,7 +4,7 @@ use Rattle.desk_rule.specs.declared.view.SeatState.TheVariants.{Worker}
 use Rattle.desk_rule.specs.declared.view.LaneView.{LaneView}
 use Rattle.desk_rule.specs.declared.view.TraceView.{TraceView}
 use Rattle.desk_rule.specs.Lanes.{has_posted, fresh, untraced}
-use Rattle.lane_desk.specs.Held.{is_due}
+use Rattle.desk_rule.specs.Lanes.{is_due}
 
 -- all amounts posted were taken, and nothing is pending
 abbrev pub Settled : LaneView → TraceView → Type 0

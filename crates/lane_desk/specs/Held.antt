@@ -1,13 +1,12 @@
 -- The slots that the round's seat has: those of the marked lanes, the greatest lane first.
-use Rattle.std.specs.Prelude.{◌≡◌, ℕ, zero, suc, ◌+◌, ◌<◌, ◌≤◌, List, [], ◌∷◌, ◌++◌, length, slice_index_or, cond, Bool, false, nat_eq}
+use Rattle.std.specs.Prelude.{◌≡◌, ℕ, zero, suc, ◌+◌, ◌<◌, ◌≤◌, List, [], ◌∷◌, ◌++◌, length, slice_index_or, cond, Bool, false}
 use Rattle.atomic_table.specs.Table.{Me}
 use Rattle.desk_rule.specs.declared.view.LaneSlot.{LaneSlot}
 use Rattle.desk_rule.specs.declared.view.LaneSlot.TheVariants.{Blank}
-use Rattle.desk_rule.specs.declared.view.TraceView.{TraceView}
 use Rattle.desk_rule.specs.declared.view.RoundView.{RoundView}
 use Rattle.desk_rule.specs.declared.view.DeskView.{DeskView}
 use Rattle.desk_rule.specs.declared.view.DeskView.TheVariants.{Spent, Lane, Round}
-use Rattle.desk_rule.specs.Lanes.{first_round, trace_in, posted_in, most}
+use Rattle.desk_rule.specs.Lanes.{first_round, is_due, trace_in, posted_in, most}
 
 module _ {N : Type 0} where
   abbrev pub slot_if : List Bool → ℕ → List (ℕ × (LaneSlot N))
@@ -26,10 +25,6 @@ module _ {N : Type 0} where
   -- the same slots, with those below i first
   abbrev pub stack : List Bool → ℕ → ℕ → List (ℕ × (LaneSlot N))
   stack held i n = below held i ++ above held i n
-
--- an ask was collected and not answered
-abbrev pub is_due : TraceView → Bool
-is_due t = nat_eq (length t.collected) (length t.posted + 1)
 
 abbrev pub round_in : DeskView → RoundView
 round_in Spent = first_round 0

@@ -4,7 +4,7 @@ use Rattle.line_rates.specs.TickTree.{Asker}
 use Rattle.grant_ledger.specs.Books.{NamesNot}
 use Rattle.desk_rule.specs.declared.view.TraceView.{TraceView}
 use Rattle.desk_rule.specs.Lanes.{untraced, has_posted}
-use Rattle.lane_desk.specs.Held.{is_due}
+use Rattle.desk_rule.specs.Lanes.{is_due}
 
 -- the round's view of a lane
 abbrev pub trace_at : List TraceView → ℕ → TraceView

@@ -1,5 +1,5 @@
 -- The views of the round's seat and its relation to a desk, under names for callers.
-use Rattle.std.specs.Prelude.{◌≡◌, List}
+use Rattle.std.specs.Prelude.{◌≡◌, List, Bool}
 use Rattle.desk_rule.specs.declared.view.LaneView.{LaneView}
 use Rattle.desk_rule.specs.declared.view.TraceView.{TraceView}
 use Rattle.lane_desk.specs.declared.desk.Desk.{Desk}
@@ -10,6 +10,10 @@ use Rattle.lane_desk.specs.Held.{round_in}
 module _ {N : Type 0} where
   abbrev pub traces : (RoundDesk N) → List TraceView
   traces r = (round_in r.seat.me.0).traces
+
+  -- whether the round has answered a lane and not yet each other one that is due
+  abbrev pub answering : (RoundDesk N) → Bool
+  answering r = (round_in r.seat.me.0).answering
 
   abbrev pub back : (RoundDesk N) → List LaneView
   back r = (round_in r.seat.me.0).back

@@ -1,9 +1,9 @@
 //! Collecting.
 
-ghost use Rattle.std.specs.Prelude.{◌≡◌, ◌<◌, [], List, Option, None, true, slice_set, slice_index_or, IfSome, IfNone, OnSome};
+ghost use Rattle.std.specs.Prelude.{◌≡◌, ◌<◌, [], List, Option, None, true, false, slice_set, slice_index_or, IfSome, IfNone, OnSome};
 ghost use Rattle.desk_rule.specs.Lanes.{untraced, has_collected};
 ghost use Rattle.line_rates.specs.declared.ask.Ask.{Ask};
-ghost use Rattle.lane_desk.specs.Traces.{traces, IsRoundOf, IsSameRound};
+ghost use Rattle.lane_desk.specs.Traces.{answering, traces, IsRoundOf, IsSameRound};
 ghost use Rattle.lane_desk.specs.Tried.{is_given, tried_by, AreTried};
 
 use crate::asks::Asks;
@@ -22,7 +22,9 @@ fn collect_if<N, A: Allocator>(
 ) -> Option<Ask>
     requires desk { IsRoundOf desk.now round.old }
     requires lane { lane < round.old.lanes }
+    requires quiet { answering round.old ≡ false }
     ensures same { IsSameRound round.old round.new }
+    ensures quiet { answering round.new ≡ false }
     ensures some { IfSome result (λ a. traces round.new ≡ slice_set (traces round.old) lane
         (has_collected a (slice_index_or (traces round.old) lane untraced))) }
     ensures none { IfNone result (traces round.new ≡ slice_set (traces round.old) lane
@@ -45,6 +47,7 @@ pub(crate) fn collect_all<N, A: Allocator>(
 )
     requires desk { IsRoundOf desk.now round.old }
     requires empty { asks.old ≡ record { asks = []; answered = 0 } }
+    requires quiet { answering round.old ≡ false }
     ensures same { IsSameRound round.old round.new }
     ensures tried { (found : List (Option Ask))
         × AreTried (is_given given.now) found (traces round.old) (traces round.new) asks.new.asks

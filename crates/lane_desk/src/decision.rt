@@ -1,15 +1,17 @@
 //! The decision of a round.
 
-ghost use Rattle.std.specs.Prelude.{◌≡◌, ◌≤◌, ◌+◌, ◌<◌, sum, length, Some, IfOk, IfErr, OnOk, OnErr};
+ghost use Rattle.std.specs.Prelude.{◌≡◌, ◌≤◌, ◌+◌, ◌<◌, sum, length, Some, IsPermutation, IfOk, IfErr, OnOk, OnErr};
 ghost use Rattle.limit_tree.specs.Outline.{limits as seen};
 ghost use Rattle.limit_tree.specs.Sharing.{IsBest};
 ghost use Rattle.world_terms.specs.Decisions.{IsLater};
 ghost use Rattle.lane_desk.specs.Asked.{ask_on, asks_on, AreApart, IsAskedPlan};
+ghost use Rattle.lane_desk.specs.Turns.{turn_of};
+ghost use Rattle.std.specs.List.Sorted.{IsNonDecreasingBy};
 ghost use Rattle.lane_desk.specs.Refusals.{IsRefused, IsUnshared};
 
 use crate::refusal::RoundRefusal;
 use grant_certificate::{Sealed, seal};
-use grant_ledger::{Book, BookFault, MAX_ISSUED, Purse};
+use grant_ledger::{Book, BookFault, MAX_ISSUED, MAX_LANES, Purse};
 use line_rates::{Ask, Limits, Plan, PlanFault, tree_of};
 use round_allocator::allot;
 use std::alloc::{AllocError, Allocator, Global};
@@ -53,12 +55,56 @@ fn asks_on<A: Allocator>(
     Ok(found)
 }
 
+// The turn of an ask, by what its lane has had: lower ones come first.
+fn turn_of(had: &[u64; MAX_LANES], asker: (u8, Ask)) -> u128
+    ensures turn { result ≡ turn_of had.now asker }
+{
+    let octets = match had.get(asker.0 as usize) {
+        Some(octets) => *octets,
+        None => 0,
+    };
+    u128::from(octets) * 64 + u128::from(asker.0)
+}
+
+fn copied<A: Allocator>(alloc: A, asks: &[(u8, Ask)]) -> Result<Vec<(u8, Ask), A>, AllocError>
+    ensures same { IfOk result (λ copy. copy.items ≡ asks.now) }
+{
+    let mut copy = Vec::with_capacity(alloc, asks.len())?;
+    for asker in asks {
+        copy.push(*asker)?;
+    }
+    Ok(copy)
+}
+
+fn sort_by_turn<A: Allocator>(asks: &mut Vec<(u8, Ask), A>, had: &[u64; MAX_LANES])
+    ensures same { IsPermutation asks.old.items asks.new.items }
+    ensures turns { IsNonDecreasingBy (turn_of had.now) asks.new.items }
+{
+    asks.sort_unstable_by_key(|it| turn_of(had, *it));
+}
+
+// The asks in the order in which they become leaves: those of lanes that have had least come first, and of several the
+// lowest lane. A remainder of whole octets falls to the first, so it goes by turns.
+fn in_turn<A: Allocator>(
+    alloc: A,
+    asks: &[(u8, Ask)],
+    had: &[u64; MAX_LANES],
+) -> Result<Vec<(u8, Ask), A>, AllocError>
+    ensures same { IfOk result (λ turned. IsPermutation asks.now turned.items) }
+    ensures turns { IfOk result (λ turned. IsNonDecreasingBy (turn_of had.now) turned.items) }
+{
+    let mut turned = copied(alloc, asks)?;
+    sort_by_turn(&mut turned, had);
+    Ok(turned)
+}
+
 // The lanes, the asks and the best grants of a plan for the asks.
 fn shares<L: Allocator, A: Allocator + Clone>(
     alloc: A,
     limits: &Limits<L>,
     tick: u64,
     asks: &[(u8, Ask)],
+    had: &[u64; MAX_LANES],
 ) -> Result<(Vec<u8, A>, Vec<Ask, A>, Sealed<A>), RoundRefusal>
     requires apart { AreApart asks.now }
     ensures plan { IfOk result
@@ -67,7 +113,8 @@ fn shares<L: Allocator, A: Allocator + Clone>(
     ensures best { IfOk result (λ r. IsBest (seen r.2.tree) r.2.grants) }
     ensures fault { IfErr result (IsUnshared A limits.now tick asks.now) }
 {
-    let Plan { tree, lanes } = match tree_of(alloc.clone()?, limits, tick, asks) {
+    let turned = in_turn(alloc.clone()?, asks, had)?;
+    let Plan { tree, lanes } = match tree_of(alloc.clone()?, limits, tick, &turned) {
         Ok(plan) => plan,
         Err(PlanFault::Tree(fault)) => return Err(RoundRefusal::Plan(fault)),
         Err(PlanFault::Memory) => return Err(RoundRefusal::Memory),
@@ -80,13 +127,15 @@ fn shares<L: Allocator, A: Allocator + Clone>(
     }
 }
 
-/// Decides for asks, each with its lane, at a tick, and enters the decision into the book. If it is refused, the book
+/// Decides for asks, each with its lane, at a tick, and enters the decision into the book. Those of lanes that have had
+/// least are the first leaves. If it is refused, the book
 /// is unchanged. The reasons are checked in the order `NotYet`, `Plan`, `Memory`, `BookFull`.
 pub(crate) fn decide<L: Allocator, A: Allocator + Clone, N>(
     alloc: A,
     limits: &Limits<L>,
     tick: u64,
     asks: &[(u8, Ask)],
+    had: &[u64; MAX_LANES],
     book: &mut Book<N>,
 ) -> Result<Decision<N, A>, RoundRefusal>
     requires apart { AreApart asks.now }
@@ -109,7 +158,7 @@ pub(crate) fn decide<L: Allocator, A: Allocator + Clone, N>(
             return Err(RoundRefusal::NotYet(last));
         }
     }
-    let (lanes, leaf_asks, sealed) = shares(alloc, limits, tick, asks)?;
+    let (lanes, leaf_asks, sealed) = shares(alloc, limits, tick, asks, had)?;
     match book.enter_out(&sealed, tick) {
         Ok(purse) => Ok(Decision {
             lanes,

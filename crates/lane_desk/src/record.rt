@@ -46,7 +46,8 @@ pub struct RoundFault {
 
 impl<N> RoundDesk<N> {
     /// Tries each of the given lanes once in rising order, and no other: those whose place in `given` is true. Decides
-    /// for the asks found at a moment in milliseconds, enters the decision into the book, and answers each ask. A refused
+    /// for the asks found at a moment in milliseconds, enters the decision into the book, and answers each ask. The asks of
+    /// lanes that have had least, by `had`, are the first leaves. A refused
     /// round answers each with 0 octets, and leaves the book unchanged.
     ///
     /// Returns `NotYet` if the tick is not above that of the book's last entry; otherwise `Plan` if the limit tree of
@@ -59,6 +60,7 @@ impl<N> RoundDesk<N> {
         moment: u64,
         book: &mut Book<N>,
         given: &[bool; MAX_LANES],
+        had: &[u64; MAX_LANES],
     ) -> Result<RoundRecord<A>, RoundFault>
         requires desk { IsRoundOf desk.now self.old }
         requires answered { AllAnswered (traces self.old) }
@@ -84,9 +86,10 @@ impl<N> RoundDesk<N> {
     {
         let tick = moment / 100;
         let mut asks = Asks::new();
+        self.answers_end();
         collect_all(self, desk, given, &mut asks);
         let answered = asks.answered();
-        match decide(alloc, limits, tick, asks.as_slice(), book) {
+        match decide(alloc, limits, tick, asks.as_slice(), had, book) {
             Ok(decision) => {
                 let Decision {
                     lanes,
@@ -142,6 +145,14 @@ impl<N> RoundDesk<N> {
             (posted_in (traces self.new) ≡ posted_in (traces self.old)) }
         ensures unchanged { OnErr result (book.new ≡ book.old) }
     {
-        self.round_of(alloc, desk, limits, moment, book, &[true; MAX_LANES])
+        self.round_of(
+            alloc,
+            desk,
+            limits,
+            moment,
+            book,
+            &[true; MAX_LANES],
+            &[0; MAX_LANES],
+        )
     }
 }

@@ -1,9 +1,9 @@
 //! The round's seat: collect and post.
 
-ghost use Rattle.std.specs.Prelude.{◌≡◌, ◌+◌, ◌-◌, ◌<◌, ◌≤◌, [], true, length, slice_set, slice_index_or, IfSome, IfNone};
+ghost use Rattle.std.specs.Prelude.{◌≡◌, ◌+◌, ◌-◌, ◌<◌, ◌≤◌, [], true, false, length, slice_set, slice_index_or, IfSome, IfNone};
 ghost use Rattle.grant_ledger.specs.declared.ledger.TheConstants.{MAX_LANES};
-ghost use Rattle.desk_rule.specs.Lanes.{untraced, has_missed, has_collected, has_posted, posted_in, most};
-ghost use Rattle.lane_desk.specs.Held.{stack, KnowsDesk, is_due};
+ghost use Rattle.desk_rule.specs.Lanes.{any_due, is_due, untraced, has_missed, has_collected, has_posted, posted_in, most};
+ghost use Rattle.lane_desk.specs.Held.{stack, round_in, KnowsDesk};
 
 use crate::desk::Desk;
 use atomic_table::Seat;
@@ -21,6 +21,8 @@ pub struct RoundDesk<N> {
     held: [bool; MAX_LANES],
     ghost few: { lanes ≤ MAX_LANES },
     ghost knows: { KnowsDesk seat.me lanes held },
+    ghost answers: { (round_in seat.me.0).answering ≡ true
+        → any_due (round_in seat.me.0).traces ≡ true },
 }
 
 // A seat can access only the first of its slots. This moves the slots of lanes from `from` down to `to` to the end.
@@ -46,7 +48,8 @@ fn rotate_down<N>(
 }
 
 impl<N> RoundDesk<N> {
-    ghost use Rattle.lane_desk.specs.Traces.{traces, IsRoundOf, IsSameRound};
+    ghost use Rattle.lane_desk.specs.Posted.{AllAnswered};
+    ghost use Rattle.lane_desk.specs.Traces.{answering, traces, IsRoundOf, IsSameRound};
     ghost use Rattle.desk_rule.specs.declared.view.DeskView.TheVariants.{Round};
     ghost use Rattle.lane_desk.specs.Begun.{dealt_round};
 
@@ -91,11 +94,19 @@ impl<N> RoundDesk<N> {
         self.held[lane]
     }
 
-    /// Tries a lane: collects its ask; `None` if none waited at that moment. Either way it counts as a try.
+    /// A law of the type: once each ask collected is answered, lanes may be tried again.
+    pub fn answers_end(&self)
+        ensures quiet { AllAnswered (traces self.now) → answering self.now ≡ false }
+    {}
+
+    /// Tries a lane: collects its ask; `None` if none waited at that moment. Either way it counts as a try. No lane is
+    /// tried from an answer on until each ask collected is answered.
     pub fn collect<A: Allocator>(&mut self, desk: &Desk<N, A>, lane: usize) -> Option<Ask>
         requires desk { IsRoundOf desk.now self.old }
         requires lane { lane < self.old.lanes }
+        requires quiet { answering self.old ≡ false }
         ensures same { IsSameRound self.old self.new }
+        ensures quiet { answering self.new ≡ false }
         ensures some { IfSome result (λ a. traces self.new ≡ slice_set (traces self.old) lane
             (has_collected a (slice_index_or (traces self.old) lane untraced))) }
         ensures none { IfNone result (traces self.new ≡ slice_set (traces self.old) lane
@@ -127,6 +138,7 @@ impl<N> RoundDesk<N> {
         ensures same { IsSameRound self.old self.new }
         ensures posted { traces self.new ≡ slice_set (traces self.old) lane
             (has_posted grant.octets (slice_index_or (traces self.old) lane untraced)) }
+        ensures answering { answering self.new ≡ any_due (traces self.new) }
     {
         let shared = desk.shared();
         let lanes = self.lanes;

@@ -52,7 +52,8 @@ impl<N> Rounds<N> {
     }
 
     /// A round of the given lanes, which may be refused: tries each of them once and no other, decides for the asks found
-    /// at a moment in milliseconds, and answers each. Lanes are given by `true` in their place.
+    /// at a moment in milliseconds, and answers each. Lanes are given by `true` in their place. The asks of lanes that have had
+    /// least, by `had`, are the first leaves: the remainder of whole octets falls to them.
     pub fn round_of<L: Allocator, A: Allocator + Clone, D: Allocator>(
         &mut self,
         alloc: A,
@@ -60,6 +61,7 @@ impl<N> Rounds<N> {
         limits: &Limits<L>,
         moment: u64,
         given: &[bool; MAX_LANES],
+        had: &[u64; MAX_LANES],
     ) -> Result<RoundRecord<A>, RoundFault>
         requires desk { IsRoundOf desk.now self.old.desk }
         ensures same { IsSameRound self.old.desk self.new.desk }
@@ -78,6 +80,6 @@ impl<N> Rounds<N> {
         ensures unchanged { OnErr result (self.new.book ≡ self.old.book) }
     {
         self.desk
-            .round_of(alloc, desk, limits, moment, &mut self.book, given)
+            .round_of(alloc, desk, limits, moment, &mut self.book, given, had)
     }
 }

@@ -19,7 +19,7 @@ pub fn settle_all<N, A: Allocator, B: Allocator>(
     desk: Desk<N, A>,
     rounds: Rounds<N>,
     mut workers: Vec<Worked<N>, B>,
-) -> Settled
+) -> Settled<N>
     requires round { IsRoundOf desk rounds.desk × (back rounds.desk ≡ []) }
     requires seats { AreWorkers (desk_id desk) desk.lanes workers.items }
     ensures issued { result.issued ≡ rounds.book.issued }

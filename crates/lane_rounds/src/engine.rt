@@ -3,7 +3,7 @@
 ghost use Rattle.std.specs.Prelude.{◌≡◌, ◌+◌};
 ghost use Rattle.paced_rounds.specs.Seconds.{HasKept};
 
-use grant_ledger::Settled;
+use grant_ledger::SettledNumbers as Settled;
 use lent_parts::{LentDesk, LentRounds, LentSeats, PartsName};
 use std::sync::{Mutex, Wait};
 

@@ -12,7 +12,7 @@ ghost use Rattle.round_pace.specs.Earned.{tick_of};
 ghost use Rattle.round_pace.specs.Histories.{rates_of, after};
 ghost use Rattle.round_pace.specs.Offered.{offer_round};
 ghost use Rattle.round_tally.specs.Counts.{tallied};
-ghost use Rattle.paced_rounds.specs.History.{round_at, history, ended_in, stretch_under};
+ghost use Rattle.paced_rounds.specs.History.{round_at, history, ended_in, stretch_under, stretches};
 ghost use Rattle.paced_rounds.specs.HeldLeaves.{AreHeld};
 ghost use Rattle.paced_rounds.specs.Beating.{has_plenty, is_open, due_open};
 ghost use Rattle.paced_rounds.specs.Seconds.{AreAt, AreAllowed, HasKept};
@@ -24,7 +24,7 @@ use crate::name::PartsName;
 use grant_ledger::MAX_LANES;
 use lane_desk::{RoundFault, RoundRecord, Rounds};
 use line_rates::{Limits, Way};
-use paced_rounds::{HeldNames, PacedRounds};
+use paced_rounds::{HeldNames, PacedRounds, RoundsAccount};
 use round_cadence::Cadence;
 use round_pace::{Due, TICK_MICROS};
 use round_tally::Tallies;
@@ -215,11 +215,18 @@ impl<B: PartsName> LentRounds<B> {
         self.rounds.change(alloc, limits, cadence)
     }
 
-    /// Returns the rounds, once no thread has them any more: there is a history of rounds, under rates and at moments that
-    /// pass the tests of the name, in which each rate was kept, and which granted the octets issued beyond those carried.
-    pub fn into_rounds(self) -> Rounds<()>
-        ensures rounds { (result ≡ self.rounds.rounds) × RoundsAt B.desk B.lanes result.desk }
-        ensures kept { HasKept B.rates B.when B.carried result.book.issued }
+    /// Returns the rounds and their account, once no thread has them any more: there is a history of rounds, under rates
+    /// and at moments that pass the tests of the name, in which each rate was kept, and which granted the octets issued
+    /// beyond those carried.
+    pub fn into_rounds(self) -> (Rounds<()>, RoundsAccount<()>)
+        ensures rounds { (result.0 ≡ self.rounds.rounds) × RoundsAt B.desk B.lanes result.0.desk }
+        ensures kept { HasKept B.rates B.when B.carried result.0.book.issued }
+        ensures account { (result.1.issued ≡ result.0.book.issued)
+            × (result.1.carried ≡ self.rounds.carried) }
+        ensures moments { (result.1.opened ≡ self.rounds.opened)
+            × (result.1.latest ≡ self.rounds.latest) }
+        ensures history { ended_in result.1.rounds.items ≡ stretches self.rounds.ended.items
+            self.rounds.pace self.rounds.log.items }
     {
         let LentRounds {
             rounds,

@@ -9,7 +9,7 @@ use crate::name::PartsName;
 use crate::rounds::LentRounds;
 use crate::settlement::settle_lent;
 use crate::worker::LentWorker;
-use grant_ledger::{Settled, Tally};
+use grant_ledger::{SettledNumbers as Settled, Tally};
 use lane_desk::{LaneSeat, Worked};
 use std::alloc::{AllocError, Global};
 use std::sync::{Mutex, Wait};

@@ -9,7 +9,7 @@ use crate::desk::LentDesk;
 use crate::name::PartsName;
 use crate::rounds::LentRounds;
 use crate::worker::LentWorker;
-use grant_ledger::Settled;
+use grant_ledger::SettledNumbers as Settled;
 use lane_desk::{Worked, settle_all};
 use std::alloc::Allocator;
 use std::sync::Wait;
@@ -65,7 +65,8 @@ pub fn settle_lent<R: Wait, B: PartsName, A: Allocator, D: Allocator>(
     gather(rt, workers, &mut gathered);
     let desk = desk.into_desk();
     if gathered.len() == desk.lanes() {
-        settle_all(desk, rounds.into_rounds(), gathered)
+        let (rounds, account) = rounds.into_rounds();
+        account.settle(settle_all(desk, rounds, gathered)).numbers()
     } else {
         for _ in rt.forever() {}
         unreachable!()

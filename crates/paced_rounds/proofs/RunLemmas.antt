@@ -1,5 +1,5 @@
 -- Steps of a history.
-use Rattle.std.proofs.Common.{◌≡◌, ℕ, suc, ◌+◌, ◌/◌, ◌<◌, ◌≤◌, List, [], ◌∷◌, ◌++◌, map, drop, length, get_or, sum, sym, refl, ap, ◌∙◌, subst, arith, Bool, Result, Ok, Err}
+use Rattle.std.proofs.Common.{◌≡◌, ℕ, suc, ◌+◌, ◌/◌, ◌<◌, ◌≤◌, List, [], ◌∷◌, ◌++◌, map, drop, length, get_or, sum, inl, inr, sym, refl, ap, ◌∙◌, subst, arith, Bool, Result, Ok, Err}
 use Rattle.std.specs.Prelude.{sum_by, IfOk, OnErr}
 use Rattle.std.proofs.Math.Logic.{∥∥₁_map, ∥∥₁_elim}
 use Rattle.std.proofs.Props.{props}
@@ -22,7 +22,7 @@ use Rattle.round_pace.specs.Earned.{tick_of}
 use Rattle.round_pace.specs.Offered.{offer_round}
 use Rattle.round_pace.specs.Paced.{Paced, IsPacedFrom}
 use Rattle.round_pace.specs.Changed.{IsChangedTo, idle}
-use Rattle.round_pace.specs.Histories.{Held, take_one, take_all, after, after_all, KeepsLimits, IsHeld, AreHeld, rates_of, RatesStay, NewRates, TicksBegin}
+use Rattle.round_pace.specs.Histories.{Held, take_all, after, after_all, KeepsLimits, AreBest, IsHeld, AreHeld, rates_of, RatesStay, NewRates, TicksBegin}
 use Rattle.round_pace.specs.Rounds.{granted_where, is_in}
 use Rattle.round_pace.specs.Stretches.{Stretch, Lead, round_of, rated_under, rates_where, changes, AreWithin, IsWindowed, AreWindowed, StretchesKeep, StretchesKeepRates, NewIsChanged}
 use Rattle.paced_rounds.specs.History.{leaves, granted_by, round_at, octets_of, octets_in, Entry, granted_in, held_in, history, Ended, stretch_under, stretch_in, ended_in, stretches, IsRun}
@@ -41,12 +41,6 @@ leaves-octets [] [] e = refl
 leaves-octets [] (n ∷ ns) e = absurd (omega (arith, e))
 leaves-octets (x ∷ xs) [] e = absurd (omega (arith, e))
 leaves-octets (x ∷ xs) (n ∷ ns) e = ap (λ (l : List ℕ). n ∷ l) (leaves-octets xs ns (omega (arith, e)))
-
-pub take_next : (xs : List Ask) (ns : List ℕ) (d : Ask) (i : ℕ) (p q : Paced) → i < length xs → length xs ≡ length ns → q ≡ take_one p (record { ask = get_or xs i d; octets = get_or ns i 0 })
-    → take_all (leaves (drop (i + 1) xs) (drop (i + 1) ns)) q ≡ take_all (leaves (drop i xs) (drop i ns)) p
-take_next xs ns d i p q h e is =
-    ap (take_all (leaves (drop (i + 1) xs) (drop (i + 1) ns))) is
-    ∙ (λ k. take_all (leaves (sym (drops xs d i h) k) (sym (drops ns 0 i (omega (arith, h, e))) k)) p)
 
 -- one round more
 after_more : (p : Paced) (hs : List Held) (h : Held) → after_all p (hs ++ h ∷ []) ≡ after (after_all p hs) h
@@ -67,11 +61,11 @@ lead_change : (p q x : Paced) (ss : List Stretch) (r : Rates) → Lead p ss q �
 lead_change p q x [] r lead to = (x, subst (λ (y : Paced). IsChangedTo r y x) (sym lead) to, tt, refl)
 lead_change p q x (s ∷ ss) r lead to = (lead.0, lead.1, lead.2, lead_change (after_all lead.0 s.rounds) q x ss r lead.3 to)
 
-run_next : TicksBegin → RatesStay → (p q : Paced) (latest : ℕ) (ss : List Stretch) (hs : List Held) (h : Held) → latest ≤ h.now → KeepsLimits (offer_round (tick_of h.now) p).offered ((offer_round (tick_of h.now) p).moment / 100) h.leaves → q ≡ after p h
+run_next : TicksBegin → RatesStay → (p q : Paced) (latest : ℕ) (ss : List Stretch) (hs : List Held) (h : Held) → latest ≤ h.now → KeepsLimits (offer_round (tick_of h.now) p).offered ((offer_round (tick_of h.now) p).moment / 100) h.leaves → AreBest (offer_round (tick_of h.now) p).offered ((offer_round (tick_of h.now) p).moment / 100) h.leaves → q ≡ after p h
     → IsRun p latest (ss ++ stretch_under p hs ∷ []) → IsRun q h.now (ss ++ stretch_under q (hs ++ h ∷ []) ∷ [])
-run_next ticks stay p q latest ss hs h later kept is r =
+run_next ticks stay p q latest ss hs h later kept best is r =
     let soon : p.begun ≤ tick_of h.now + 1 = omega (arith, later, r.near) in
-    let held : IsHeld p h = record { later = soon; kept = kept } in
+    let held : IsHeld p h = record { later = soon; kept = kept; best = best } in
     let same : rates_of q ≡ rates_of p = ap rates_of is ∙ stay p h in
     let lead : Lead (idle r.begun) (ss ++ record { rates = rates_of p; rounds = hs ++ h ∷ [] } ∷ []) (after p h) = lead_more (idle r.begun) p ss (rates_of p) hs h r.lead held in
     record {
@@ -81,10 +75,10 @@ run_next ticks stay p q latest ss hs h later kept is r =
     }
 
 pub run_more : TicksBegin → RatesStay → (p q : Paced) (latest : ℕ) (ss new : List Stretch) (hs : List Held) (h : Held) → latest ≤ h.now
-    → KeepsLimits (offer_round (tick_of h.now) p).offered ((offer_round (tick_of h.now) p).moment / 100) h.leaves → q ≡ after p h → new ≡ ss ++ stretch_under q (hs ++ h ∷ []) ∷ []
+    → KeepsLimits (offer_round (tick_of h.now) p).offered ((offer_round (tick_of h.now) p).moment / 100) h.leaves → AreBest (offer_round (tick_of h.now) p).offered ((offer_round (tick_of h.now) p).moment / 100) h.leaves → q ≡ after p h → new ≡ ss ++ stretch_under q (hs ++ h ∷ []) ∷ []
     → ∥ IsRun p latest (ss ++ stretch_under p hs ∷ []) ∥₁ → ∥ IsRun q h.now new ∥₁
-run_more ticks stay p q latest ss new hs h later kept is e old =
-    ∥∥₁_map old (λ r. subst (IsRun q h.now) (sym e) (run_next ticks stay p q latest ss hs h later kept is r))
+run_more ticks stay p q latest ss new hs h later kept best is e old =
+    ∥∥₁_map old (λ r. subst (IsRun q h.now) (sym e) (run_next ticks stay p q latest ss hs h later kept best is r))
 
 -- other rates
 run_changed : (p q : Paced) (latest : ℕ) (ss : List Stretch) (limits : Rates) → IsChangedTo limits p q → rates_of q ≡ limits → IsRun p latest ss → IsRun q latest (ss ++ stretch_under q [] ∷ [])
@@ -111,7 +105,7 @@ taken_next xs ns d i old new h e is =
 
 -- what a round grants keeps the limits
 pub keeps : GrantsKeepNames → (given : ℕ → Bool) (rates : Rates) (tick : ℕ) (old new : List TraceView) (marks : ℕ) (tree : LimitTree) (lanes : List ℕ) (asks : List Ask) (grants : List ℕ) → IsRoundOver given rates tick old new marks tree lanes asks grants → IsBest tree grants
-    → (length asks ≡ length grants) × KeepsLimits rates tick (leaves asks grants)
+    → (length asks ≡ length grants) × KeepsLimits rates tick (leaves asks grants) × AreBest rates tick (leaves asks grants)
 keeps law given rates tick old new marks tree lanes asks grants round best =
     let tree_of : IsTickTree rates tick asks tree = subst (λ (xs : List Ask). IsTickTree rates tick xs tree) (sym round.asks_are) round.plan.tree in
     let each : length asks ≡ length grants = sym (best.within.wanted.leaves ∙ ap length tree_of.wants ∙ long want_of asks) in (
@@ -119,6 +113,7 @@ keeps law given rates tick old new marks tree lanes asks grants round best =
       law rates tick tree (leaves asks grants)
           (subst (λ (xs : List Ask). IsTickTree rates tick xs tree) (sym (leaves-asks asks grants each)) tree_of)
           (subst (λ (ns : List ℕ). Rattle.limit_tree.specs.Sharing.IsWithin tree ns) (sym (leaves-octets asks grants each)) best.within),
+      inr (tree, subst (λ (xs : List Ask). IsTickTree rates tick xs tree) (sym (leaves-asks asks grants each)) tree_of, subst (λ (ns : List ℕ). IsBest tree ns) (sym (leaves-octets asks grants each)) best),
     )
   where
     long : (f : Ask → ℕ) (xs : List Ask) → length (map f xs) ≡ length xs
@@ -187,6 +182,7 @@ stretches_changed ended more p q items new e f = λ i. e i ++ stretch_under q (h
 -- is in the log, and the book issues what is granted.
 pub record Leads {A : Type 0} (p q : Paced) (now old new : ℕ) (taken : List (Ask × ℕ)) (out : Outcome A) : Type 0 where
   pub kept : KeepsLimits (offer_round (tick_of now) p).offered ((offer_round (tick_of now) p).moment / 100) (granted_by out)
+  pub best : AreBest (offer_round (tick_of now) p).offered ((offer_round (tick_of now) p).moment / 100) (granted_by out)
   pub is : q ≡ after p (round_at now out)
   pub log : map granted_in taken ≡ granted_by out
   pub issued : new ≡ old + octets_of (round_at now out)
@@ -203,6 +199,7 @@ leads_ok {A} law given p o q now moment before issued rates taken out r old new 
     let kept = keeps law given rates (moment / 100) old new r.answered (seen r.sealed.tree) r.lanes.items r.asks.items r.sealed.grants round best in
     subst (Leads p q now before issued taken) (sym is) (record {
       kept = subst (λ (z : Rates × ℕ). KeepsLimits z.0 (z.1 / 100) (leaves r.asks.items r.sealed.grants)) (λ i. ((limits ∙ ap (λ (x : Paced). x.offered) offered) i, (at ∙ ap (λ (x : Paced). x.moment) offered) i)) kept.1;
+      best = subst (λ (z : Rates × ℕ). AreBest z.0 (z.1 / 100) (leaves r.asks.items r.sealed.grants)) (λ i. ((limits ∙ ap (λ (x : Paced). x.offered) offered) i, (at ∙ ap (λ (x : Paced). x.moment) offered) i)) kept.2;
       is = charged ∙ (λ i. take_all (leaves (asks i) (grants i)) (offered i));
       log = logged ∙ (λ i. leaves (asks i) (grants i));
       issued = reported ∙ ap (λ (n : ℕ). before + n) (sym (octets_granted r.asks.items r.sealed.grants kept.0));
@@ -213,6 +210,7 @@ leads_err {A} p o q now before issued taken out f is offered same none reports =
     let reported : issued ≡ before = subst (λ (x : Outcome A). OnErr x (issued ≡ before)) is reports in
     subst (Leads p q now before issued taken) (sym is) (record {
       kept = keeps_none (offer_round (tick_of now) p).offered ((offer_round (tick_of now) p).moment / 100);
+      best = inl refl;
       is = same ∙ offered;
       log = ap (map granted_in) none;
       issued = reported ∙ (let e : before ≡ before + 0 = omega arith in e);

@@ -1,5 +1,5 @@
 -- The octets of a history, second by second.
-use Rattle.std.proofs.Common.{◌≡◌, ◌≢◌, ℕ, zero, suc, ◌+◌, ◌*◌, ◌/◌, ◌≤◌, Bool, true, false, cond, List, [], ◌∷◌, ◌++◌, map, inl, inr, sym, refl, ap, ◌∙◌, arith}
+use Rattle.std.proofs.Common.{◌≡◌, ◌≢◌, ℕ, zero, suc, ◌+◌, ◌*◌, ◌/◌, ◌<◌, ◌≤◌, Bool, true, false, cond, List, [], ◌∷◌, ◌++◌, map, inl, inr, sym, refl, ap, ◌∙◌, arith}
 use Rattle.std.specs.Prelude.{nat_eq, nat_lt, sum_by}
 use Rattle.std.specs.List.{list_all}
 use Rattle.std.proofs.lemmas.Bool.{and_parts, eqb-true, eqb-false, cases_lt, lt-ltb, le-ltb, eq-eqb, ne_eqb, cond-true, cond-false}
@@ -13,11 +13,23 @@ use Rattle.paced_rounds.specs.History.{octets_of, octets_in}
 use Rattle.paced_rounds.specs.Seconds.{AreAt, is_allowed, AreAllowed, AreInSeconds, SecondsAreKept, changes_in, ChangesAreKept}
 
 -- the octets of a round, and those before a second
-octets : RatedRound → ℕ
+pub octets : RatedRound → ℕ
 octets r = r.round.granted
 
-before : ℕ → RatedRound → ℕ
+pub granted_plain : (rs : List RatedRound) → sum_by (λ (r : RatedRound). r.round.granted) rs ≡ sum_by octets rs
+unfolding octets
+granted_plain rs = refl
+
+pub before : ℕ → RatedRound → ℕ
 before s r = cond (nat_lt (r.round.now / 1000000) s) r.round.granted 0
+
+pub before_none : (s : ℕ) (r : RatedRound) → s ≤ r.round.now / 1000000 → before s r ≡ 0
+unfolding before
+before_none s r h = cond-false (nat_lt (r.round.now / 1000000) s) r.round.granted 0 (le-ltb (r.round.now / 1000000) s h)
+
+pub before_all : (s : ℕ) (r : RatedRound) → r.round.now / 1000000 < s → before s r ≡ octets r
+unfolding before octets
+before_all s r h = cond-true (nat_lt (r.round.now / 1000000) s) r.round.granted 0 (lt-ltb (r.round.now / 1000000) s h)
 
 split : (x s o : ℕ) → cond (nat_lt x (s + 1)) o 0 ≡ cond (nat_lt x s) o 0 + cond (nat_eq x s) o 0
 split x s o = elim (cases_lt x s) [
@@ -49,7 +61,7 @@ unfolding before
 split_at s r = split (r.round.now / 1000000) s r.round.granted
 
 -- one second more
-next : (s : ℕ) (rs : List RatedRound) → sum_by (before (s + 1)) rs ≡ sum_by (before s) rs + granted_where (is_in s) (map round_of rs)
+pub next : (s : ℕ) (rs : List RatedRound) → sum_by (before (s + 1)) rs ≡ sum_by (before s) rs + granted_where (is_in s) (map round_of rs)
 next s [] = refl
 next s (r ∷ rs) =
     let a = sum_by-cons (before (s + 1)) r rs in
@@ -59,7 +71,7 @@ next s (r ∷ rs) =
     omega (arith, a, b, c, split_at s r, next s rs)
 
 -- each round of a list
-abbrev Each : (RatedRound → Type 0) → List RatedRound → Type 0
+abbrev pub Each : (RatedRound → Type 0) → List RatedRound → Type 0
 Each P [] = Unit {0}
 Each P (r ∷ rs) = P r × Each P rs
 
@@ -125,7 +137,7 @@ octets_stretch : (rates : Rates) (hs : List Held) → sum_by octets (map (rated 
 octets_stretch rates [] = refl
 octets_stretch rates (h ∷ hs) = omega (arith, octets_first rates h hs, sum_by-cons octets_of h hs, octets_stretch rates hs)
 
-octets_all : (ss : List Stretch) → sum_by octets (rated_under Server ss) ≡ sum_by octets_in ss
+pub octets_all : (ss : List Stretch) → sum_by octets (rated_under Server ss) ≡ sum_by octets_in ss
 octets_all [] = refl
 octets_all (s ∷ ss) = omega (arith, sum_by-append octets (map (rated s.rates Server) s.rounds) (rated_under Server ss), octets_stretch s.rates s.rounds, octets_all ss, sum_by-cons octets_in s ss)
 
@@ -146,7 +158,7 @@ same_from at of rate (r ∷ rs) are x is = go (of r.round) (same_from at of rate
     go true next rest = omega (arith, next, cond-true {A = ℕ} (nat_eq x r.rate) 0 1 (eq-eqb x r.rate (is ∙ sym are.0.1)))
     go false next rest = rest
 
-same_rate : (at : ℕ → Bool) (of : Round → Bool) (rate : ℕ) (rs : List RatedRound) → Each (λ r. (at r.round.now ≡ true) × (r.rate ≡ rate)) rs → changes (rates_where of rs) ≡ 0
+pub same_rate : (at : ℕ → Bool) (of : Round → Bool) (rate : ℕ) (rs : List RatedRound) → Each (λ r. (at r.round.now ≡ true) × (r.rate ≡ rate)) rs → changes (rates_where of rs) ≡ 0
 same_rate at of rate [] are = refl
 same_rate at of rate (r ∷ rs) are = go (of r.round) (same_from at of rate rs are.1 r.rate are.0.1) (same_rate at of rate rs are.1)
   where

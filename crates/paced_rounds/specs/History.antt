@@ -12,11 +12,15 @@ use Rattle.round_pace.specs.Histories.{Held, rates_of}
 use Rattle.round_pace.specs.Paced.{Paced}
 use Rattle.round_pace.specs.Stretches.{Stretch, Lead}
 
+-- an ask with its grant
+abbrev pub granted : Ask → ℕ → Granted
+granted ask octets = record { ask = ask; octets = octets }
+
 -- each ask with its grant
 abbrev pub leaves : List Ask → List ℕ → List Granted
 leaves [] ns = []
 leaves (x ∷ xs) [] = []
-leaves (x ∷ xs) (n ∷ ns) = record { ask = x; octets = n } ∷ leaves xs ns
+leaves (x ∷ xs) (n ∷ ns) = granted x n ∷ leaves xs ns
 
 -- the asks that a round answered, with their grants; a refused round grants nothing
 abbrev pub granted_by : {A : Type 0} → Result (RoundRecord A) RoundFault → List Granted
@@ -36,7 +40,7 @@ abbrev pub Entry : Type 0
 Entry = ℕ × ProofLog Ask ℕ
 
 abbrev pub granted_in : Ask × ℕ → Granted
-granted_in x = record { ask = x.0; octets = x.1 }
+granted_in x = granted x.0 x.1
 
 abbrev pub held_in : Entry → Held
 held_in x = record { now = x.0; leaves = map granted_in x.1.items }

@@ -10,12 +10,15 @@
 //! the limit that held back each leaf of the last round.
 #![tactic(auto)]
 
+mod account;
 mod beats;
 mod charge;
 mod held;
 mod laws;
 mod rounds;
+mod turns;
 
+pub use account::{RoundsAccount, Settlement};
 pub use held::HeldNames;
-pub use laws::seconds_are_kept;
+pub use laws::{seconds_are_kept, spans_are_kept, turns_are_even};
 pub use rounds::{MOST_ASKED, PacedRounds};

@@ -1,6 +1,6 @@
 //! The rounds of a desk at a pace.
 
-ghost use Rattle.std.specs.Prelude.{◌≡◌, ◌+◌, ◌/◌, ◌++◌, [], ◌∷◌, max, true, Some, sum, sum_by, IfOk, IfErr, OnOk, OnErr};
+ghost use Rattle.std.specs.Prelude.{◌≡◌, ◌+◌, ◌≤◌, ◌/◌, ◌++◌, [], ◌∷◌, max, true, Some, sum, sum_by, IfOk, IfErr, OnOk, OnErr};
 ghost use Rattle.limit_tree.specs.Outline.{limits as seen};
 ghost use Rattle.limit_tree.specs.Sharing.{IsBest};
 ghost use Rattle.line_rates.specs.Rates.{Rates};
@@ -14,12 +14,17 @@ ghost use Rattle.round_pace.specs.Paced.{IsPacedFrom};
 ghost use Rattle.round_pace.specs.Histories.{rates_of, after};
 ghost use Rattle.round_pace.specs.Stretches.{StretchesKeep};
 ghost use Rattle.paced_rounds.specs.History.{round_at, history, ended_in, stretch_under, stretches, octets_in, IsRun};
+ghost use Rattle.paced_rounds.specs.Spans.{AllBetween};
 ghost use Rattle.paced_rounds.specs.HeldLeaves.{AreHeld};
-ghost use Rattle.paced_rounds.specs.Beating.{beats_after, closed_in, has_plenty, is_open, due_open};
+ghost use Rattle.paced_rounds.specs.Beating.{beats_after, closed_in, has_plenty, is_open, due_open, opens_in};
+ghost use Rattle.paced_rounds.specs.Turning.{had_at, had_after};
+ghost use Rattle.round_pace.specs.Rows.{rows_of};
 
+use crate::account::RoundsAccount;
 use crate::beats::beat;
 use crate::charge::charge;
 use crate::held::{HeldNames, see};
+use crate::turns::{RISING, had_at, have};
 use grant_ledger::{MAX_LANES, Tally};
 use lane_desk::{Desk, RoundFault, RoundRecord, Rounds};
 use line_rates::{Ask, Limits, Name, Way, grants_keep_names};
@@ -39,13 +44,19 @@ pub struct PacedRounds<N, A: Allocator = Global> {
     pace: Pace<A>,
     /// The moment of the last round, in microseconds.
     latest: u64,
+    /// The moment at which the pace was made, in microseconds.
+    opened: u64,
     /// The octets issued before the first round.
     carried: u64,
     /// The ticks in which the rows are open.
     cadence: Cadence<A>,
+    /// The octets that each lane has had in the second of the last round, in 64ths.
+    had: [u64; MAX_LANES],
     log: ProofLog<u64, ProofLog<Ask, u64>>,
     /// The stretches that have ended, each with the pace that its rounds left.
     ended: ProofLog<Pace<A>, ProofLog<u64, ProofLog<Ask, u64>>>,
+    ghost begun: { opened ≤ latest },
+    ghost spanned: { ∥ AllBetween opened latest (stretches ended.items pace log.items) ∥₁ },
     ghost run: { ∥ IsRun pace latest (stretches ended.items pace log.items) ∥₁ },
     ghost reported: { rounds.book.issued
         ≡ carried + sum_by octets_in (stretches ended.items pace log.items) },
@@ -58,6 +69,7 @@ impl<N, A: Allocator> PacedRounds<N, A> {
         ensures rounds { result.rounds ≡ rounds }
         ensures pace { result.pace ≡ pace }
         ensures latest { result.latest ≡ now }
+        ensures opened { result.opened ≡ now }
         ensures carried { result.carried ≡ rounds.book.issued }
         ensures cadence { result.cadence ≡ cadence }
         ensures none { history result.log.items ≡ [] }
@@ -70,8 +82,10 @@ impl<N, A: Allocator> PacedRounds<N, A> {
             rounds,
             pace,
             latest: now,
+            opened: now,
             carried,
             cadence,
+            had: RISING,
             log: ProofLog::new(),
             ended: ProofLog::new(),
         }
@@ -101,6 +115,16 @@ impl<N, A: Allocator> PacedRounds<N, A> {
         self.cadence.opens(way, user, &rows) <= now / TICK_MICROS && rows.have_left(MOST_ASKED)
     }
 
+    /// The first tick in which all rows that a transfer of a user is within are open, and whether its session has a
+    /// guarantee.
+    pub fn opening(&self, way: Way, user: u32) -> (u64, bool)
+        ensures opens { result.0 ≡ opens_in way user self.now.pace self.now.cadence }
+        ensures floor { result.1 ≡ (rows_of way user self.now.pace).has_floor }
+    {
+        let rows = self.pace.rows_of(way, user);
+        (self.cadence.opens(way, user, &rows), rows.has_floor)
+    }
+
     /// The earliest moment of the next round for a transfer of a user: that at which its rows open; if they are open,
     /// that of `Pace::due_for`.
     pub fn due_for(&self, way: Way, user: u32, now: u64) -> Due
@@ -125,8 +149,9 @@ impl<N, A: Allocator> PacedRounds<N, A> {
 
     /// Holds a round of the given lanes (those with `true` in their place) at a moment in microseconds; one before that
     /// of the last round counts as that moment. Tries each given lane once, divides what is left under the rates among
-    /// the asks found, answers each, and subtracts each grant from the rows of its own ask. A refused round answers each
-    /// ask with 0 octets. Names what held back each leaf, if that is wanted.
+    /// the asks found, answers each, and subtracts each grant from the rows of its own ask. The asks of lanes that have had
+    /// least in the second of this moment are the first leaves, to which remainders of whole octets fall. A refused round
+    /// answers each ask with 0 octets. Names what held back each leaf, if that is wanted.
     pub fn hold<B: Allocator + Clone, D: Allocator>(
         &mut self,
         alloc: B,
@@ -155,6 +180,7 @@ impl<N, A: Allocator> PacedRounds<N, A> {
             f.answered f.reason) }
         ensures unchanged { OnErr result (self.new.rounds.book ≡ self.old.rounds.book) }
         ensures latest { self.new.latest ≡ max now self.old.latest }
+        ensures opened { self.new.opened ≡ self.old.opened }
         ensures carried { self.new.carried ≡ self.old.carried }
         ensures grows { history self.new.log.items ≡ history self.old.log.items
             ++ round_at (max now self.old.latest) result ∷ [] }
@@ -164,6 +190,8 @@ impl<N, A: Allocator> PacedRounds<N, A> {
         ensures rates { rates_of self.new.pace ≡ rates_of self.old.pace }
         ensures beats { self.new.cadence ≡ beats_after self.new.pace
             (tick_of (max now self.old.latest)) result self.old.cadence }
+        ensures had { self.new.had ≡ had_after result
+            (had_at (max now self.old.latest) self.old.latest self.old.had) }
         ensures wanted { names.new.is_wanted ≡ names.old.is_wanted }
         ensures held { let p = offer_round (tick_of (max now self.old.latest)) self.old.pace in
             names.old.is_wanted ≡ true → IfOk result (λ r. AreHeld p.offered r.tick r.asks.items
@@ -172,16 +200,19 @@ impl<N, A: Allocator> PacedRounds<N, A> {
         grants_keep_names();
         histories_keep_rates();
         let now = now.max(self.latest);
+        let mut had = had_at(now, self.latest, self.had);
         let moment = self.pace.offer(now);
         let result = self
             .rounds
-            .round_of(alloc, desk, self.pace.limits(), moment, given);
+            .round_of(alloc, desk, self.pace.limits(), moment, given, &had);
         see(names, self.pace.limits(), &result);
         let taken = match &result {
             Ok(made) => charge(&mut self.pace, &made.asks, made.sealed.grants()),
             Err(_) => ProofLog::new(),
         };
         beat(&mut self.cadence, &self.pace, &result, now / TICK_MICROS);
+        have(&mut had, &result);
+        self.had = had;
         self.log = self.log.and(&now, &taken);
         self.latest = now;
         result
@@ -199,24 +230,34 @@ impl<N, A: Allocator> PacedRounds<N, A> {
         stretches_keep_rates();
     }
 
-    /// Returns the rounds, once no thread holds one any more.
-    pub fn into_rounds(self) -> Rounds<N>
-        ensures rounds { result ≡ self.rounds }
+    /// Returns the rounds and their account, once no thread holds one any more.
+    pub fn into_rounds(self) -> (Rounds<N>, RoundsAccount<N, A>)
+        ensures rounds { result.0 ≡ self.rounds }
         ensures kept { StretchesKeep (stretches self.ended.items self.pace self.log.items) }
-        ensures issued { result.book.issued ≡ self.carried
+        ensures issued { result.0.book.issued ≡ self.carried
             + sum_by octets_in (stretches self.ended.items self.pace self.log.items) }
+        ensures account { result.1.issued ≡ self.rounds.book.issued }
+        ensures carried { result.1.carried ≡ self.carried }
+        ensures moments { (result.1.opened ≡ self.opened) × (result.1.latest ≡ self.latest) }
+        ensures history { ended_in result.1.rounds.items
+            ≡ stretches self.ended.items self.pace self.log.items }
     {
         self.rates_are_kept();
+        let all = self.ended.and(&self.pace, &self.log);
+        let issued = self.rounds.issued();
         let PacedRounds {
             rounds,
             pace: _,
-            latest: _,
-            carried: _,
+            latest,
+            opened,
+            carried,
             cadence: _,
+            had: _,
             log: _,
             ended: _,
         } = self;
-        rounds
+        let account = RoundsAccount::of(issued, carried, opened, latest, all);
+        (rounds, account)
     }
 }
 
@@ -231,11 +272,13 @@ impl<N, A: Allocator + Clone> PacedRounds<N, A> {
     ) -> Result<(), AllocError>
         ensures rounds { self.new.rounds ≡ self.old.rounds }
         ensures latest { self.new.latest ≡ self.old.latest }
+        ensures opened { self.new.opened ≡ self.old.opened }
         ensures carried { self.new.carried ≡ self.old.carried }
         ensures pace { OnOk result (IsChangedTo limits self.old.pace self.new.pace) }
         ensures rates { OnOk result (rates_of self.new.pace ≡ limits) }
         ensures cadence { OnOk result (self.new.cadence ≡ cadence) }
         ensures none { OnOk result (history self.new.log.items ≡ []) }
+        ensures had { self.new.had ≡ self.old.had }
         ensures ended { OnOk result (ended_in self.new.ended.items ≡ ended_in self.old.ended.items
             ++ stretch_under self.old.pace (history self.old.log.items) ∷ []) }
         ensures unchanged { OnErr result ((self.new.pace ≡ self.old.pace)

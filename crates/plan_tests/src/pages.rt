@@ -203,57 +203,57 @@ fn answered(
 }
 
 /// A request, and the beginning, a part and the end of its answer.
-const ANSWERS: [(&str, &str, &str, &str); 13] = [
+const ANSWERS: [(&str, &str, &str, &str); 15] = [
     (
-        "GET / HTTP/1.1\r\nHost: h\r\n\r\n",
+        "GET / HTTP/1.1\r\nHost: localhost\r\n\r\n",
         "HTTP/1.1 200 OK\r\n",
         "content-type: text/html; charset=utf-8\r\n",
         "</html>\n",
     ),
     (
-        "GET /status.json HTTP/1.1\r\nHost: h\r\n\r\n",
+        "GET /status.json HTTP/1.1\r\nHost: localhost\r\n\r\n",
         "HTTP/1.1 200 OK\r\n",
         "content-type: application/json\r\n",
         "\"users\":2,\"version\":1}\n",
     ),
     (
-        "GET /metrics?x=1 HTTP/1.1\r\nHost: h\r\n\r\n",
+        "GET /metrics?x=1 HTTP/1.1\r\nHost: localhost\r\n\r\n",
         "HTTP/1.1 200 OK\r\n",
         "content-type: text/plain; version=0.0.4; charset=utf-8\r\n",
         "} 5\n",
     ),
     (
-        "GET /metrics HTTP/1.0\r\n\r\n",
+        "GET /metrics HTTP/1.0\r\nHost: 127.0.0.1:80\r\n\r\n",
         "HTTP/1.0 200 OK\r\n",
         FIELDS,
         "} 5\n",
     ),
     (
-        "HEAD / HTTP/1.1\r\nHost: h\r\n\r\n",
+        "HEAD / HTTP/1.1\r\nHost: localhost\r\n\r\n",
         "HTTP/1.1 200 OK\r\n",
         FIELDS,
         "\r\n\r\n",
     ),
     (
-        "GET /other HTTP/1.1\r\nHost: h\r\n\r\n",
+        "GET /other HTTP/1.1\r\nHost: localhost\r\n\r\n",
         "HTTP/1.1 404 Not Found\r\n",
         FIELDS,
         "content-length: 10\r\n\r\nnot found\n",
     ),
     (
-        "POST /metrics HTTP/1.1\r\nHost: h\r\nContent-Length: 0\r\n\r\n",
+        "POST /metrics HTTP/1.1\r\nHost: localhost\r\nContent-Length: 0\r\n\r\n",
         "HTTP/1.1 405 Method Not Allowed\r\n",
         "allow: GET, HEAD\r\n",
         "\r\n\r\nmethod not allowed\n",
     ),
     (
-        "POST /metrics HTTP/1.1\r\nHost: h\r\nContent-Length: 1\r\n\r\nx",
+        "POST /metrics HTTP/1.1\r\nHost: localhost\r\nContent-Length: 1\r\n\r\nx",
         "HTTP/1.1 413 Payload Too Large\r\n",
         "connection: close\r\n",
         "content-length: 0\r\n\r\n",
     ),
     (
-        "GET / HTTP/1.1\r\nHost: h\r\n\r\nGET /other HTTP/1.1\r\nHost: h\r\n\r\n",
+        "GET / HTTP/1.1\r\nHost: localhost\r\n\r\nGET /other HTTP/1.1\r\nHost: localhost\r\n\r\n",
         "HTTP/1.1 200 OK\r\n",
         "",
         "</html>\n",
@@ -263,6 +263,18 @@ const ANSWERS: [(&str, &str, &str, &str); 13] = [
         "HTTP/1.1 400 Bad Request\r\n",
         "",
         "\r\n\r\n",
+    ),
+    (
+        "GET /status.json HTTP/1.1\r\nHost: localhost.example\r\n\r\n",
+        "HTTP/1.1 421 Misdirected Request\r\n",
+        FIELDS,
+        "\r\n\r\nmisdirected request\n",
+    ),
+    (
+        "GET http://a.example/ HTTP/1.1\r\nHost: localhost\r\n\r\n",
+        "HTTP/1.1 421 Misdirected Request\r\n",
+        FIELDS,
+        "\r\n\r\nmisdirected request\n",
     ),
     (
         "garbage\r\n\r\n",
@@ -288,7 +300,7 @@ fn answers_by_path_and_method(rt: HostRuntime) -> Result<(), Fail> {
         holds(&rt, answer.as_str().contains(has));
         holds(&rt, answer.as_str().ends_with(ends));
     }
-    let answer = answered(&rt, &status, "GET / HTTP/1.1\r\nHost: h\r\n\r\n")?;
+    let answer = answered(&rt, &status, "GET / HTTP/1.1\r\nHost: localhost\r\n\r\n")?;
     holds(&rt, answer.as_str().ends_with(PAGE));
     Ok(())
 }

@@ -16,6 +16,7 @@ new_beat = record {
   sharers = 1;
   granted = 0;
   greatest = 0;
+  kept = 0;
   worth = WORTH;
   is_asked = false;
 }
@@ -27,7 +28,21 @@ added grant worth b = record {
   sharers = b.sharers;
   granted = min (b.granted + grant) (2 ^ 64 - 1);
   greatest = max b.greatest grant;
-  worth = min b.worth worth;
+  kept = b.kept;
+  worth = if b.is_asked then max b.worth worth else worth;
+  is_asked = true;
+}
+
+-- a beat after a grant of the current round to a transfer whose session has a guarantee, which may
+-- be far above those of others: it is a sharer
+abbrev pub kept : ℕ → Beat → Beat
+kept worth b = record {
+  opens = b.opens;
+  sharers = b.sharers;
+  granted = b.granted;
+  greatest = b.greatest;
+  kept = min (b.kept + 1) (2 ^ 64 - 1);
+  worth = if b.is_asked then max b.worth worth else worth;
   is_asked = true;
 }
 
@@ -39,6 +54,7 @@ asked worth b = record {
   sharers = b.sharers;
   granted = b.granted;
   greatest = b.greatest;
+  kept = b.kept;
   worth = min b.worth worth;
   is_asked = true;
 }
@@ -48,9 +64,9 @@ abbrev pub div_up : ℕ → ℕ → ℕ
 div_up x y = x / y + min 1 (x % y)
 
 -- how many grants as great as the greatest are all that was granted: with equal grants, as many as
--- there are; small ones beside great ones count little
+-- there are; small ones beside great ones count little; and those with a guarantee
 abbrev pub parts_of : Beat → ℕ
-parts_of b = max (div_up b.granted (max b.greatest 1)) 1
+parts_of b = max (min (div_up b.granted (max b.greatest 1) + b.kept) (2 ^ 64 - 1)) 1
 
 -- the sharers after a round: an eighth fewer than before, or as many as shared in it
 abbrev pub sharers_after : Beat → ℕ
@@ -76,9 +92,22 @@ settled tick c b = if b.is_asked then record {
   sharers = sharers_after b;
   granted = 0;
   greatest = 0;
+  kept = 0;
   worth = WORTH;
   is_asked = false;
 } else b
+
+-- a beat that opens in a tick at the latest; 0 is no such tick
+abbrev pub capped : ℕ → Beat → Beat
+capped most b = record {
+  opens = if nat_eq most 0 then b.opens else min b.opens most;
+  sharers = b.sharers;
+  granted = b.granted;
+  greatest = b.greatest;
+  kept = b.kept;
+  worth = b.worth;
+  is_asked = b.is_asked;
+}
 
 -- Beats of the two directions.
 
@@ -97,15 +126,16 @@ change Up f b = record { down = b.down; up = f b.up }
 -- codes, by which proofs distinguish values
 abbrev pub beat_code : Coded Beat
 beat_code =
-    code_by ((ℕ × ℕ) × ((ℕ × ℕ) × (ℕ × Bool)))
+    code_by ((ℕ × ℕ) × ((ℕ × (ℕ × ℕ)) × (ℕ × Bool)))
     (coded× (coded× coded_ℕ coded_ℕ)
-    (coded× (coded× coded_ℕ coded_ℕ) (coded× coded_ℕ coded_bool)))
-    (λ b. ((b.opens, b.sharers), ((b.granted, b.greatest), (b.worth, b.is_asked))))
+    (coded× (coded× coded_ℕ (coded× coded_ℕ coded_ℕ)) (coded× coded_ℕ coded_bool)))
+    (λ b. ((b.opens, b.sharers), ((b.granted, (b.greatest, b.kept)), (b.worth, b.is_asked))))
     (λ p. record {
       opens = p.0.0;
       sharers = p.0.1;
       granted = p.1.0.0;
-      greatest = p.1.0.1;
+      greatest = p.1.0.1.0;
+      kept = p.1.0.1.1;
       worth = p.1.1.0;
       is_asked = p.1.1.1;
     })

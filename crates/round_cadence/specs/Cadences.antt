@@ -1,5 +1,5 @@
 -- The beats of all rows of a line.
-use Rattle.std.specs.Prelude.{ℕ, ◌/◌, max, min, Bool, true, false, List, slice_index_or, slice_set, replicate, Option, Some, None, refl}
+use Rattle.std.specs.Prelude.{ℕ, ◌/◌, max, min, nat_eq, if◌then◌else◌, Bool, true, false, List, slice_index_or, slice_set, replicate, Option, Some, None, refl}
 use Rattle.std.specs.Coded.{Coded, code_by, coded×, coded_list}
 use Rattle.line_rates.specs.declared.ask.Ask.{Ask}
 use Rattle.line_rates.specs.declared.ask.Way.{Way}
@@ -8,7 +8,7 @@ use Rattle.round_cadence.specs.declared.intervals.TheConstants.{WORTH, WORTH_UP}
 use Rattle.round_pace.specs.declared.rows.TransferRows.{TransferRows}
 use Rattle.round_cadence.specs.declared.beat.Beat.{Beat}
 use Rattle.round_cadence.specs.declared.beat.WayBeats.{WayBeats}
-use Rattle.round_cadence.specs.Beats.{new_beat, new_beats, added, asked, settled, in_way, change, beat_code, beats_code as way_beats_code}
+use Rattle.round_cadence.specs.Beats.{new_beat, new_beats, added, kept, asked, capped, settled, in_way, change, beat_code, beats_code as way_beats_code}
 
 -- the beats of the server and the directions, those of groups and users by their numbers, and those
 -- of the sessions of each user, which have one beat in common, by the user's number
@@ -28,11 +28,10 @@ new_cadence users groups = record {
   sessions = replicate users new_beats;
 }
 
--- the octets that a transfer is to have in a round: any, if its session has a guarantee
-abbrev pub worth_of : Way → Bool → ℕ
-worth_of way true = 0
-worth_of Down false = WORTH
-worth_of Up false = WORTH_UP
+-- the octets that a transfer is to have in a round
+abbrev pub worth_of : Way → ℕ
+worth_of Down = WORTH
+worth_of Up = WORTH_UP
 
 -- the first tick in which the row of a number is open; a number without a beat is never closed
 abbrev pub opens_at : Way → List WayBeats → ℕ → ℕ
@@ -61,29 +60,69 @@ change_for way f (Some number) beats = change_at way f number beats
 -- The octets that a session is to have in a round of its own rate: a quarter of what it wants, if
 -- that is less. Sessions share their credit, so what one that has all it wants leaves of a round's
 -- is lost to it.
-abbrev pub session_worth : Ask → TransferRows → ℕ
-session_worth a rows = min (worth_of a.way rows.has_floor) (a.want / 4)
+abbrev pub session_worth : Ask → ℕ
+session_worth a = min (worth_of a.way) (a.want / 4)
+
+-- a beat after a grant of the current round to an ask, whose session has a guarantee or not
+abbrev pub added_to : Bool → ℕ → ℕ → Beat → Beat
+added_to true grant worth b = kept worth b
+added_to false grant worth b = added grant worth b
 
 -- the beats after a grant of the current round to an ask; each session has its rate to itself
 abbrev pub add_to : Ask → TransferRows → ℕ → Beats → Beats
 add_to a rows grant c = record {
-  server = added grant (worth_of a.way rows.has_floor) c.server;
-  ways = change a.way (added grant (worth_of a.way rows.has_floor)) c.ways;
-  groups =
-      change_for a.way (added grant (worth_of a.way rows.has_floor)) rows.group_number c.groups;
-  users = change_at a.way (added grant (worth_of a.way rows.has_floor)) a.user c.users;
-  sessions = change_at a.way (asked (session_worth a rows)) a.user c.sessions;
+  server = added_to rows.has_floor grant (worth_of a.way) c.server;
+  ways = change a.way (added_to rows.has_floor grant (worth_of a.way)) c.ways;
+  groups = change_for a.way (added_to rows.has_floor grant (worth_of a.way)) rows.group_number
+      c.groups;
+  users = change_at a.way (added_to rows.has_floor grant (worth_of a.way)) a.user c.users;
+  sessions = change_at a.way (asked (session_worth a)) a.user c.sessions;
 }
 
+-- the sooner of two ticks in which rows open; 0 is that of a row that is open
+abbrev pub soonest : ℕ → ℕ → ℕ
+soonest one other =
+    if nat_eq one 0 then other else if nat_eq other 0 then one else min one other
+
+-- the tick in which the first of the outer rows opens: of the line, of the group, of the user too
+abbrev pub line_opens : Way → Beats → ℕ
+line_opens way c = soonest c.server.opens (in_way way c.ways).opens
+
+abbrev pub inner_opens : Way → TransferRows → Beats → ℕ
+inner_opens way rows c = soonest (line_opens way c) (opens_for way c.groups rows.group_number)
+
+abbrev pub own_opens : Way → ℕ → TransferRows → Beats → ℕ
+own_opens way user rows c = soonest (inner_opens way rows c) (opens_at way c.users user)
+
+-- each row of a transfer opens no later than those that it is within
+abbrev pub aligned : Way → ℕ → TransferRows → Beats → Beats
+aligned way user rows c = record {
+  server = c.server;
+  ways = change way (capped c.server.opens) c.ways;
+  groups = change_for way (capped (line_opens way c)) rows.group_number c.groups;
+  users = change_at way (capped (inner_opens way rows c)) user c.users;
+  sessions = change_at way (capped (own_opens way user rows c)) user c.sessions;
+}
+
+-- with a guarantee they are aligned: others may drain the outer rows in their round
+abbrev pub align_if : Bool → Way → ℕ → TransferRows → Beats → Beats
+align_if true way user rows c = aligned way user rows c
+align_if false way user rows c = c
+
 -- the beats after a round in a tick that left these credits, for a user's transfer
-abbrev pub settle_of : Way → ℕ → TransferRows → ℕ → Beats → Beats
-settle_of way user rows tick c = record {
+abbrev pub settled_of : Way → ℕ → TransferRows → ℕ → Beats → Beats
+settled_of way user rows tick c = record {
   server = settled tick rows.server c.server;
   ways = change way (settled tick rows.way) c.ways;
   groups = change_for way (settled tick rows.group) rows.group_number c.groups;
   users = change_at way (settled tick rows.user) user c.users;
   sessions = change_at way (settled tick rows.session) user c.sessions;
 }
+
+-- the same, and aligned with a guarantee
+abbrev pub settle_of : Way → ℕ → TransferRows → ℕ → Beats → Beats
+settle_of way user rows tick c =
+    align_if rows.has_floor way user rows (settled_of way user rows tick c)
 
 -- a code, by which proofs distinguish values
 abbrev pub beats_code : Coded Beats

@@ -2,7 +2,7 @@
 
 ghost use Rattle.std.specs.Prelude.{◌≡◌, ◌≤◌, ◌+◌, false, true};
 ghost use Rattle.round_cadence.specs.declared.intervals.TheConstants.{LONGEST};
-ghost use Rattle.round_cadence.specs.Beats.{new_beat, new_beats, added, asked, parts_of, sharers_after, is_drained, opens_after, settled, in_way, change};
+ghost use Rattle.round_cadence.specs.Beats.{new_beat, new_beats, added, kept, asked, parts_of, sharers_after, is_drained, opens_after, capped, settled, in_way, change};
 
 use crate::intervals::{WORTH, interval, next_opening};
 use line_rates::Way;
@@ -20,7 +20,11 @@ pub struct Beat {
     pub granted: u64,
     /// The greatest of these grants.
     pub greatest: u64,
-    /// The least number of octets that one of these transfers is to have in a round.
+    /// Number of asks of the current round whose sessions have a guarantee: each is a sharer, and its grant is not among
+    /// these.
+    pub kept: u64,
+    /// The octets that one of these transfers is to have in a round: the most of those that share the row, the least of
+    /// those that have its rate to themselves.
     pub worth: u64,
     /// True if the current round has asks within the row.
     pub is_asked: bool,
@@ -52,6 +56,7 @@ impl Beat {
             sharers: 1,
             granted: 0,
             greatest: 0,
+            kept: 0,
             worth: WORTH,
             is_asked: false,
         }
@@ -61,9 +66,27 @@ impl Beat {
     pub fn add(self, grant: u64, worth: u64) -> Beat
         ensures added { result ≡ added grant worth self }
     {
-        let mut beat = self.ask(worth);
-        beat.granted = self.granted.saturating_add(grant);
-        beat.greatest = self.greatest.max(grant);
+        Beat {
+            opens: self.opens,
+            sharers: self.sharers,
+            granted: self.granted.saturating_add(grant),
+            greatest: self.greatest.max(grant),
+            kept: self.kept,
+            worth: if self.is_asked {
+                self.worth.max(worth)
+            } else {
+                worth
+            },
+            is_asked: true,
+        }
+    }
+
+    /// Adds a grant of the current round to a transfer whose session has a guarantee: it may be far above those of others.
+    pub fn keep(self, worth: u64) -> Beat
+        ensures kept { result ≡ kept worth self }
+    {
+        let mut beat = self.add(0, worth);
+        beat.kept = self.kept.saturating_add(1);
         beat
     }
 
@@ -77,6 +100,7 @@ impl Beat {
             sharers: self.sharers,
             granted: self.granted,
             greatest: self.greatest,
+            kept: self.kept,
             worth: self.worth.min(worth),
             is_asked: true,
         }
@@ -86,8 +110,9 @@ impl Beat {
     fn sharers_after(self) -> u64
         ensures sharers { result ≡ sharers_after self }
     {
-        let parts = self.granted.div_ceil(self.greatest.max(1)).max(1);
-        parts.max(self.sharers.saturating_sub(self.sharers.div_ceil(8)))
+        let parts = self.granted.div_ceil(self.greatest.max(1));
+        let sharers = parts.saturating_add(self.kept).max(1);
+        sharers.max(self.sharers.saturating_sub(self.sharers.div_ceil(8)))
     }
 
     // The first tick in which the row is open after the current round.
@@ -102,6 +127,17 @@ impl Beat {
         next_opening(tick, interval(credit.rate, octets))
     }
 
+    /// This beat, open in `most` at the latest; 0 is no such tick.
+    pub fn cap(self, most: u64) -> Beat
+        ensures capped { result ≡ capped most self }
+    {
+        let mut beat = self;
+        if most != 0 {
+            beat.opens = self.opens.min(most);
+        }
+        beat
+    }
+
     /// The beat after the current round, which was held in `tick` and left this credit. If nothing was added in it,
     /// nothing changes. If it drained the row, this is closed to the next tick of its interval, at most [`LONGEST`] ticks
     /// later; otherwise it is open. A beat of asks alone keeps its one sharer.
@@ -109,8 +145,8 @@ impl Beat {
         ensures settled { result ≡ settled tick credit self }
         ensures done { result.is_asked ≡ false }
         ensures soon { self.is_asked ≡ true → result.opens ≤ tick + LONGEST }
-        ensures alone { self.granted ≡ 0 → self.sharers ≡ 1
-            → (result.granted ≡ 0) × (result.sharers ≡ 1) }
+        ensures alone { self.granted ≡ 0 → self.kept ≡ 0 → self.sharers ≡ 1
+            → (result.granted ≡ 0) × (result.kept ≡ 0) × (result.sharers ≡ 1) }
     {
         if !self.is_asked {
             return self;
@@ -120,6 +156,7 @@ impl Beat {
             sharers: self.sharers_after(),
             granted: 0,
             greatest: 0,
+            kept: 0,
             worth: WORTH,
             is_asked: false,
         }
@@ -163,6 +200,22 @@ impl WayBeats {
         }
     }
 
+    /// Adds a grant of the current round to a transfer whose session has a guarantee, to the beat of a direction.
+    pub fn keep(self, way: Way, worth: u64) -> WayBeats
+        ensures kept { result ≡ change way (kept worth) self }
+    {
+        match way {
+            Way::Down => WayBeats {
+                down: self.down.keep(worth),
+                up: self.up,
+            },
+            Way::Up => WayBeats {
+                down: self.down,
+                up: self.up.keep(worth),
+            },
+        }
+    }
+
     /// Adds an ask of the current round to the beat of a direction whose rate no transfer shares with another.
     pub fn ask(self, way: Way, worth: u64) -> WayBeats
         ensures asked { result ≡ change way (asked worth) self }
@@ -175,6 +228,22 @@ impl WayBeats {
             Way::Up => WayBeats {
                 down: self.down,
                 up: self.up.ask(worth),
+            },
+        }
+    }
+
+    /// These beats, that of a direction open in `most` at the latest; 0 is no such tick.
+    pub fn cap(self, way: Way, most: u64) -> WayBeats
+        ensures capped { result ≡ change way (capped most) self }
+    {
+        match way {
+            Way::Down => WayBeats {
+                down: self.down.cap(most),
+                up: self.up,
+            },
+            Way::Up => WayBeats {
+                down: self.down,
+                up: self.up.cap(most),
             },
         }
     }

@@ -2,9 +2,9 @@
 
 ghost use Rattle.std.specs.Prelude.{◌≡◌, ◌≤◌, ◌+◌, replicate, IfOk};
 ghost use Rattle.round_cadence.specs.declared.intervals.TheConstants.{LONGEST};
-ghost use Rattle.round_cadence.specs.Beats.{new_beats, added, asked, settled};
+ghost use Rattle.round_cadence.specs.Beats.{new_beats, asked, capped, change, settled};
 ghost use Rattle.round_cadence.specs.Closed.{closed_by, closed_group, closed_line};
-ghost use Rattle.round_cadence.specs.Cadences.{worth_of, session_worth, new_cadence, opens_at, opens_for, change_at, change_for, opens_of, add_to, settle_of};
+ghost use Rattle.round_cadence.specs.Cadences.{worth_of, session_worth, new_cadence, opens_at, opens_for, added_to, soonest, aligned, change_at, change_for, opens_of, add_to, align_if, settled_of, settle_of};
 
 use crate::beat::{Beat, WayBeats};
 use crate::intervals::{LONGEST, WORTH, WORTH_UP};
@@ -44,13 +44,11 @@ impl<A: Allocator> Model for Cadence<A> {
     } };
 }
 
-// The octets that a transfer is to have in a round: any, if its session has a guarantee, which is earned from one round
-// to the next.
-fn worth_of(way: Way, has_floor: bool) -> u64
-    ensures worth { result ≡ worth_of way has_floor }
+// The octets that a transfer is to have in a round.
+fn worth_of(way: Way) -> u64
+    ensures worth { result ≡ worth_of way }
 {
     match way {
-        _ if has_floor => 0,
         Way::Down => WORTH,
         Way::Up => WORTH_UP,
     }
@@ -58,10 +56,10 @@ fn worth_of(way: Way, has_floor: bool) -> u64
 
 // The octets that a session is to have in a round of its own rate: at most a quarter of what it wants. Sessions share
 // their credit, so what one that has all it wants leaves of a round's is lost to it.
-fn session_worth(ask: Ask, rows: &TransferRows) -> u64
-    ensures worth { result ≡ session_worth ask rows.now }
+fn session_worth(ask: Ask) -> u64
+    ensures worth { result ≡ session_worth ask }
 {
-    worth_of(ask.way, rows.has_floor).min(ask.want / 4)
+    worth_of(ask.way).min(ask.want / 4)
 }
 
 fn open_beats<A: Allocator>(alloc: A, count: usize) -> Result<Vec<WayBeats, A>, AllocError>
@@ -81,12 +79,41 @@ fn opens_at(beats: &[WayBeats], number: u32, way: Way) -> u64
     }
 }
 
-fn add_at<A: Allocator>(beats: &mut Vec<WayBeats, A>, number: u32, way: Way, grant: u64, worth: u64)
-    ensures added { beats.new.items ≡ change_at way (added grant worth) number beats.old.items }
+// A beat after a grant of the current round to an ask, whose session has a guarantee or not.
+fn added_to(beat: Beat, has_floor: bool, grant: u64, worth: u64) -> Beat
+    ensures added { result ≡ added_to has_floor grant worth beat }
+{
+    if has_floor {
+        beat.keep(worth)
+    } else {
+        beat.add(grant, worth)
+    }
+}
+
+fn ways_added_to(beats: WayBeats, way: Way, has_floor: bool, grant: u64, worth: u64) -> WayBeats
+    ensures added { result ≡ change way (added_to has_floor grant worth) beats }
+{
+    if has_floor {
+        beats.keep(way, worth)
+    } else {
+        beats.add(way, grant, worth)
+    }
+}
+
+fn add_at<A: Allocator>(
+    beats: &mut Vec<WayBeats, A>,
+    number: u32,
+    way: Way,
+    has_floor: bool,
+    grant: u64,
+    worth: u64,
+)
+    ensures added { beats.new.items
+        ≡ change_at way (added_to has_floor grant worth) number beats.old.items }
 {
     let place = number as usize;
     if place < beats.len() {
-        beats[place] = beats[place].add(way, grant, worth);
+        beats[place] = ways_added_to(beats[place], way, has_floor, grant, worth);
     }
 }
 
@@ -111,6 +138,28 @@ fn settle_at<A: Allocator>(
     let place = number as usize;
     if place < beats.len() {
         beats[place] = beats[place].settle(way, credit, tick);
+    }
+}
+
+fn cap_at<A: Allocator>(beats: &mut Vec<WayBeats, A>, number: u32, way: Way, most: u64)
+    ensures capped { beats.new.items ≡ change_at way (capped most) number beats.old.items }
+{
+    let place = number as usize;
+    if place < beats.len() {
+        beats[place] = beats[place].cap(way, most);
+    }
+}
+
+// The sooner of two ticks in which rows open; 0 is that of a row that is open.
+fn soonest(one: u64, other: u64) -> u64
+    ensures soonest { result ≡ soonest one other }
+{
+    if one == 0 {
+        other
+    } else if other == 0 {
+        one
+    } else {
+        one.min(other)
     }
 }
 
@@ -192,23 +241,41 @@ impl<A: Allocator> Cadence<A> {
     pub fn add(&mut self, ask: Ask, rows: &TransferRows, grant: u64)
         ensures added { self.new ≡ add_to ask rows.now grant self.old }
     {
-        let worth = worth_of(ask.way, rows.has_floor);
-        self.server = self.server.add(grant, worth);
-        self.ways = self.ways.add(ask.way, grant, worth);
+        let worth = worth_of(ask.way);
+        let has_floor = rows.has_floor;
+        self.server = added_to(self.server, has_floor, grant, worth);
+        self.ways = ways_added_to(self.ways, ask.way, has_floor, grant, worth);
         if let Some(group) = rows.group_number {
-            add_at(&mut self.groups, group, ask.way, grant, worth);
+            add_at(&mut self.groups, group, ask.way, has_floor, grant, worth);
         }
-        add_at(&mut self.users, ask.user, ask.way, grant, worth);
-        let own = session_worth(ask, rows);
+        add_at(&mut self.users, ask.user, ask.way, has_floor, grant, worth);
+        let own = session_worth(ask);
         ask_at(&mut self.sessions, ask.user, ask.way, own);
     }
 
-    /// Settles the rows that a user's transfer is within, those of its session too, after a round that was held in `tick`
-    /// and left these credits. They open at most [`LONGEST`] ticks later. No memory.
-    pub fn settle(&mut self, way: Way, user: u32, rows: &TransferRows, tick: u64)
-        ensures settled { self.new ≡ settle_of way user rows.now tick self.old }
-        ensures soon { opens_of way user rows.now self.old ≤ tick + LONGEST
-            → opens_of way user rows.now self.new ≤ tick + LONGEST }
+    // Lets each row of a transfer with a guarantee open no later than the rows that it is within: others may drain those.
+    fn align(&mut self, way: Way, user: u32, rows: &TransferRows)
+        ensures aligned { self.new ≡ aligned way user rows.now self.old }
+    {
+        let server = self.server.opens;
+        let line = soonest(server, self.ways.beat(way).opens);
+        let group = match rows.group_number {
+            Some(group) => opens_at(&self.groups, group, way),
+            None => 0,
+        };
+        let inner = soonest(line, group);
+        let own = soonest(inner, opens_at(&self.users, user, way));
+        self.ways = self.ways.cap(way, server);
+        if let Some(group) = rows.group_number {
+            cap_at(&mut self.groups, group, way, line);
+        }
+        cap_at(&mut self.users, user, way, inner);
+        cap_at(&mut self.sessions, user, way, own);
+    }
+
+    // Settles the rows that a user's transfer is within, without a guarantee.
+    fn settle_rows(&mut self, way: Way, user: u32, rows: &TransferRows, tick: u64)
+        ensures settled { self.new ≡ settled_of way user rows.now tick self.old }
     {
         self.server = self.server.settle(rows.server, tick);
         self.ways = self.ways.settle(way, rows.way, tick);
@@ -217,5 +284,26 @@ impl<A: Allocator> Cadence<A> {
         }
         settle_at(&mut self.users, user, way, rows.user, tick);
         settle_at(&mut self.sessions, user, way, rows.session, tick);
+    }
+
+    // Aligns the rows of a transfer with a guarantee.
+    fn align_if(&mut self, way: Way, user: u32, rows: &TransferRows)
+        ensures aligned { self.new ≡ align_if rows.now.has_floor way user rows.now self.old }
+    {
+        if rows.has_floor {
+            self.align(way, user, rows);
+        }
+    }
+
+    /// Settles the rows that a user's transfer is within, those of its session too, after a round that was held in `tick`
+    /// and left these credits. They open at most [`LONGEST`] ticks later, and with a guarantee each no later than those that
+    /// it is within. No memory.
+    pub fn settle(&mut self, way: Way, user: u32, rows: &TransferRows, tick: u64)
+        ensures settled { self.new ≡ settle_of way user rows.now tick self.old }
+        ensures soon { opens_of way user rows.now self.old ≤ tick + LONGEST
+            → opens_of way user rows.now self.new ≤ tick + LONGEST }
+    {
+        self.settle_rows(way, user, rows, tick);
+        self.align_if(way, user, rows);
     }
 }

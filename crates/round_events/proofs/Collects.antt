@@ -67,7 +67,7 @@ pub posted_got : (f : ℕ → Option Ask) (k : ℕ) (ls : List Lane) → AllPost
 posted_got f k [] h = h
 posted_got f k (l ∷ ls) h = All-cons IsPosted (collected (f k) l) (got f (suc k) ls) (still_posted (f k) l (All-head IsPosted l ls h)) (posted_got f (suc k) ls (All-tail IsPosted l ls h))
 
-module _ (rates : Rates) (last : Option ℕ) (issued : ℕ) (given : ℕ → Bool) (f : ℕ → Option Ask) (only : OfGiven given f) where
+module _ (rates : ℕ → Rates) (last : Option ℕ) (issued : ℕ) (given : ℕ → Bool) (f : ℕ → Option Ask) (only : OfGiven given f) where
   abbrev replies_of : List ℕ → List Reply
   replies_of lanes = map (λ i. Ok (try_answer (f i))) lanes
 

@@ -21,10 +21,11 @@ use Rattle.desk_rule.specs.declared.view.DeskView.{DeskView}
 use Rattle.desk_rule.specs.declared.view.LaneSlot.{LaneSlot}
 use Rattle.desk_rule.specs.declared.view.LaneSlot.TheVariants.{Blank, WithAsk, WithGrant}
 use Rattle.desk_rule.specs.Events.{HasLane, HasTraces, after}
-use Rattle.desk_rule.specs.Lanes.{Kept, has_collected, has_posted, has_taken, lane_in, trace_in, with_lane, with_trace}
+use Rattle.desk_rule.specs.Lanes.{Kept, has_collected, has_posted, has_taken, lane_in, trace_in, with_answer, with_lane, with_trace}
 use Rattle.desk_rule.specs.Shown.{Changes, StepsTo, shown_in}
 use Rattle.desk_rule.proofs.Events.{sit_is, ask_is, collect_is, miss_is, post_is, take_is, look_is, rise_is}
-use Rattle.round_events.specs.Desk.{HoldStep, Holdings, LookStep, NoneDecided, TableStep, held_lanes, lanes_by, world_of}
+use Rattle.desk_rule.specs.Steps.{LookStep, TableStep}
+use Rattle.round_events.specs.Desk.{HoldStep, Holdings, NoneDecided, held_lanes, lanes_by, world_of}
 
 pub lanes_same : (f g : ℕ → Shown) (k : ℕ) (xs : List Hidden) → ((j : ℕ) → k ≤ j → g j ≡ f j) → lanes_by g k xs ≡ lanes_by f k xs
 lanes_same f g k [] h = refl
@@ -108,12 +109,12 @@ module _ {N : Type 0} where
   exchanged (event.Asked i a) answer.Done {s} r t h h' long c k =
       exchange r t _ h h' i (event.Asked i a) answer.Done k.before k.after c.4 (length-set s.homes i (some (WithAsk a))) long (ask_is s r c.0 i c.1 a c.2 c.3) k.there k.step k.rest
   exchanged (event.Collect i) answer.Got {s} r t h h' long c k =
-      exchange r t _ h h' i (event.Collect i) answer.Got k.before k.after c.6 (length-set s.homes i none) long (collected_step s r c.0 i c.1 c.2 c.3 c.4 c.5) k.there k.step k.rest
+      exchange r t _ h h' i (event.Collect i) answer.Got k.before k.after c.7 (length-set s.homes i none) long (collected_step s r c.0 i c.1 c.2 c.3 c.4 c.5) k.there k.step k.rest
   exchanged (event.Collect i) answer.Missed {s} r t h h' long c k =
-      exchange r t _ h h' i (event.Collect i) answer.Missed k.before k.after c.4 refl long (miss_is s r c.0 i c.1 c.2 c.3) k.there k.step k.rest
+      exchange r t _ h h' i (event.Collect i) answer.Missed k.before k.after c.5 refl long (miss_is s r c.0 i c.1 c.2 c.3) k.there k.step k.rest
   exchanged (event.Post i) (answer.Posted n) {s} r t h h' long c k =
       exchange r t _ h h' i (event.Post i) (answer.Posted n) k.before k.after c.8 (length-set s.homes i (some (WithGrant c.2))) long
-      (subst (λ (m : ℕ). StepsTo r (after s i 4 (some (WithGrant c.2)) c.0 (with_trace i (has_posted c.2.octets (trace_in i c.1)) c.1)) i (ShownStep (event.Post i) (answer.Posted m))) c.7 (post_is s r c.0 i c.1 c.2 c.3 c.4 c.5 c.6)) k.there k.step k.rest
+      (subst (λ (m : ℕ). StepsTo r (after s i 4 (some (WithGrant c.2)) c.0 (with_answer i (has_posted c.2.octets (trace_in i c.1)) c.1)) i (ShownStep (event.Post i) (answer.Posted m))) c.7 (post_is s r c.0 i c.1 c.2 c.3 c.4 c.5 c.6)) k.there k.step k.rest
   exchanged (event.Taken i) (answer.Taken n) {s} r t h h' long c k =
       exchange r t _ h h' i (event.Taken i) (answer.Taken n) k.before k.after c.7 (length-set s.homes i none) long
       (subst (λ (m : ℕ). StepsTo r (after s i 1 none c.0 (with_lane i (has_taken c.2.octets (lane_in i c.1)) c.1)) i (ShownStep (event.Taken i) (answer.Taken m))) c.6 (taken_step s r c.0 i c.1 c.2 c.3 c.4 c.5)) k.there k.step k.rest

@@ -47,7 +47,7 @@ module _ {N : Type 0} (s : State (LaneSlot N) DeskView) (r : Kept s) (id : ℕ) 
   -- a lane that has had no seat gets one
   module _ (room : sh.dealt < length sh.traces) where
     abbrev left : RoundView
-    left = record { dealt = sh.dealt + 1; traces = sh.traces; back = sh.back }
+    left = record { dealt = sh.dealt + 1; traces = sh.traces; back = sh.back; answering = sh.answering }
 
     abbrev views' : List DeskView
     views' = set s.views id (Round left)
@@ -70,7 +70,7 @@ module _ {N : Type 0} (s : State (LaneSlot N) DeskView) (r : Kept s) (id : ℕ) 
       within = kn.within;
     }
 
-    pub dealt_kept : Kept record { words = s.words; homes = s.homes; views = set s.views id (Round record { dealt = sh.dealt + 1; traces = sh.traces; back = sh.back }) ++ LaneOf sh.dealt fresh ∷ [] }
+    pub dealt_kept : Kept record { words = s.words; homes = s.homes; views = set s.views id (Round record { dealt = sh.dealt + 1; traces = sh.traces; back = sh.back; answering = sh.answering }) ++ LaneOf sh.dealt fresh ∷ [] }
     dealt_kept = record {
       lane = r.lane;
       trace = r.trace;
@@ -101,7 +101,7 @@ module _ {N : Type 0} (s : State (LaneSlot N) DeskView) (r : Kept s) (id : ℕ) 
     lane_kn = r.each_view other (LaneOf (length sh.back) x) there
 
     abbrev all_back : RoundView
-    all_back = record { dealt = sh.dealt; traces = sh.traces; back = sh.back ++ x ∷ [] }
+    all_back = record { dealt = sh.dealt; traces = sh.traces; back = sh.back ++ x ∷ []; answering = sh.answering }
 
     abbrev owner'' : ℕ → ℕ
     owner'' = put r.owner (length sh.back) id
@@ -124,7 +124,7 @@ module _ {N : Type 0} (s : State (LaneSlot N) DeskView) (r : Kept s) (id : ℕ) 
       within = kn.within;
     }
 
-    pub joined_kept : Kept record { words = s.words; homes = s.homes; views = set (set s.views id (Round record { dealt = sh.dealt; traces = sh.traces; back = sh.back ++ x ∷ [] })) other Spent }
+    pub joined_kept : Kept record { words = s.words; homes = s.homes; views = set (set s.views id (Round record { dealt = sh.dealt; traces = sh.traces; back = sh.back ++ x ∷ []; answering = sh.answering })) other Spent }
     joined_kept = record {
       lane = r.lane;
       trace = r.trace;

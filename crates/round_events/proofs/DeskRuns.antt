@@ -1,5 +1,5 @@
 -- Runs of the desk are runs of the core: any list of steps.
-use Rattle.std.proofs.Common.{◌≡◌, ℕ, suc, inl, inr, List, [], ◌∷◌, map, length, sym, refl, ap, ◌∙◌, subst, Option, Some, None, Ok}
+use Rattle.std.proofs.Common.{◌≡◌, ℕ, suc, ◌/◌, inl, inr, List, [], ◌∷◌, map, length, sym, refl, ap, ◌∙◌, subst, Option, Some, None, Ok}
 use Rattle.atomic_table.specs.Table.{State}
 use Rattle.line_rates.specs.Rates.{Rates}
 use Rattle.world_terms.specs.declared.event.Event.{Event}
@@ -7,13 +7,14 @@ use Rattle.world_terms.specs.declared.event.Event.TheVariants as event
 use Rattle.world_terms.specs.declared.event.EventAnswer.{EventAnswer}
 use Rattle.world_terms.specs.declared.event.EventAnswer.TheVariants as answer
 use Rattle.world_terms.specs.Lanes.{Hidden, Lane, World}
-use Rattle.world_terms.specs.Runs.{IsRun}
+use Rattle.world_terms.specs.Runs.{IsRun, tick_of}
 use Rattle.world_terms.specs.Steps.{Step}
 use Rattle.desk_rule.specs.declared.view.DeskView.{DeskView}
 use Rattle.desk_rule.specs.declared.view.LaneSlot.{LaneSlot}
 use Rattle.desk_rule.specs.Lanes.{Kept}
 use Rattle.desk_rule.specs.Shown.{shown_in}
-use Rattle.round_events.specs.Desk.{DecideStep, DeskRunsAreRuns, DeskState, DeskStep, Holdings, SilentStep, decided_by, done_event, done_reply, events_of, grant_on, world_of}
+use Rattle.desk_rule.specs.Steps.{SilentStep}
+use Rattle.round_events.specs.Desk.{DecideStep, DeskRunsAreRuns, DeskState, DeskStep, Holdings, decided_by, done_event, done_reply, events_of, grant_on, world_of}
 use Rattle.round_events.proofs.Desk.{Leads, all_decided, exchanged, lanes_same, looked, spent}
 use Rattle.round_events.proofs.DeskEnds.{dealt_kept, dealt_shown, joined_kept, joined_shown}
 use Rattle.round_events.proofs.DeskDecision.{decided_step}
@@ -23,20 +24,20 @@ length-decided : (f : ℕ → Option ℕ) (k : ℕ) (xs : List Hidden) → lengt
 length-decided f k [] = refl
 length-decided f k (x ∷ xs) = ap suc (length-decided f (suc k) xs)
 
-abbrev Follows : Rates → Event → EventAnswer → World → World → Type 0
-Follows rates e a w w' = Step rates w e (Ok a) w'
+abbrev Follows : (ℕ → Rates) → Event → EventAnswer → World → World → Type 0
+Follows rates e a w w' = Step (rates (tick_of e)) w e (Ok a) w'
 
 module _ {N : Type 0} where
-  decides : (rates : Rates) (m tick total : ℕ) (x y : DeskState N) (r : Kept x.table) → length x.held.lanes ≡ length x.table.homes → DecideStep rates m tick total x y → Leads r x.held y.table y.held (Follows rates (event.Decide m) (answer.Decided tick total))
+  decides : (rates : ℕ → Rates) (m tick total : ℕ) (x y : DeskState N) (r : Kept x.table) → length x.held.lanes ≡ length x.table.homes → DecideStep (rates (m / 100)) m tick total x y → Leads r x.held y.table y.held (Follows rates (event.Decide m) (answer.Decided tick total))
   decides rates m tick total x y r long d =
       subst (λ (t : State (LaneSlot N) DeskView). Leads r x.held t y.held (Follows rates (event.Decide m) (answer.Decided tick total))) (sym d.still) (
         r,
         ap (λ (h : Holdings). length h.lanes) d.holds.rest ∙ length-decided (grant_on d.holds.lanes d.holds.grants) 0 x.held.lanes ∙ long,
-        decided_step x.table r x.held y.held long d.seat d.view d.there rates m tick total d.holds,
+        decided_step x.table r x.held y.held long d.seat d.view d.there (rates (m / 100)) m tick total d.holds,
       )
 
   -- a step that is an event
-  done_step : (rates : Rates) (e : Event) (a : EventAnswer) (x y : DeskState N) (r : Kept x.table) → length x.held.lanes ≡ length x.table.homes → DeskStep rates (Some (e, a)) x y → Leads r x.held y.table y.held (Follows rates e a)
+  done_step : (rates : ℕ → Rates) (e : Event) (a : EventAnswer) (x y : DeskState N) (r : Kept x.table) → length x.held.lanes ≡ length x.table.homes → DeskStep rates (Some (e, a)) x y → Leads r x.held y.table y.held (Follows rates e a)
   done_step rates (event.Decide m) (answer.Decided tick total) x y r long d = decides rates m tick total x y r long d
   done_step rates (event.Decide m) a x y r long d = absurd d.0
   done_step rates (event.Moved i n) answer.Done x y r long d = spent r y.table x.held y.held i n answer.Done long d.0 d.1 refl

@@ -13,3 +13,4 @@ pub mod DeskDecision
 pub mod DeskRuns
 pub mod DeskEnds
 pub mod DeskTables
+mod Tries

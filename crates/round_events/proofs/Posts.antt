@@ -64,7 +64,7 @@ post_change n i ls last issued h = record {
   rest = ap (λ (l : Lane). at last issued (set ls i (granted n l))) (lane_is n i ls h);
 }
 
-pub posts_run : (rates : Rates) (last : Option ℕ) (issued : ℕ) (is ns : List ℕ) (ls : List Lane) → AreWaiting is ns ls → IsRun rates (at last issued ls) (posts is) (post_replies ns) (at last issued (posted is ns ls))
+pub posts_run : (rates : ℕ → Rates) (last : Option ℕ) (issued : ℕ) (is ns : List ℕ) (ls : List Lane) → AreWaiting is ns ls → IsRun rates (at last issued ls) (posts is) (post_replies ns) (at last issued (posted is ns ls))
 posts_run rates last issued [] [] ls h = run_none rates (at last issued ls)
 posts_run rates last issued [] (n ∷ ns) ls h = absurd h
 posts_run rates last issued (i ∷ is) [] ls h = absurd h

@@ -124,8 +124,8 @@ reported_on given t t' o a e h = ap (λ (x : TraceView). x.posted) (subst (λ (p
 unreported_on : (given : Bool) (t t' : TraceView) (o : Option Ask) → o ≡ None → IsTurnedAway given o t t' → t'.posted ≡ t.posted
 unreported_on given t t' o e h = ap (λ (x : TraceView). x.posted) (subst (λ (p : Option Ask). IsTurnedAway given p t t') e h) ∙ posted_same given None t
 
-module _ (A : Type 0) (given : ℕ → Bool) (rates : Rates) (moment : ℕ) (book : BookView) (old new : List TraceView) (marks : ℕ) (why : RoundRefusal) (w : World) (r : IsRefusedRoundOver A given rates (moment / 100) book old new marks why)
-    (fit : AreFitRates rates) (few : length old ≤ MAX_LANES) (books : HasBook book w) (before : AreShownBy old w.lanes) (on : AreFoundOn given r.found w.lanes) where
+module _ (A : Type 0) (given : ℕ → Bool) (rates : ℕ → Rates) (moment : ℕ) (book : BookView) (old new : List TraceView) (marks : ℕ) (why : RoundRefusal) (w : World) (r : IsRefusedRoundOver A given (rates (moment / 100)) (moment / 100) book old new marks why)
+    (fit : AreFitRates (rates (moment / 100))) (few : length old ≤ MAX_LANES) (books : HasBook book w) (before : AreShownBy old w.lanes) (on : AreFoundOn given r.found w.lanes) where
   abbrev found : List (Option Ask)
   found = r.found
 
@@ -176,8 +176,8 @@ module _ (A : Type 0) (given : ℕ → Bool) (rates : Rates) (moment : ℕ) (boo
     asks_are = tried_asks rates given found old w before on r.only wide;
   }
 
-  refusal : Refuses rates (at w.last_tick w.issued tried) (event.Decide moment) (refusal_for asks why)
-  refusal = refused_for A rates moment w.last_tick w.issued asks tried asking fit (omega (arith, few_asks 0 found, r.wide, few)) (λ order p. (are_found found order p).once) why book books.last_is books.issued_is r.refused
+  refusal : Refuses (rates (moment / 100)) (at w.last_tick w.issued tried) (event.Decide moment) (refusal_for asks why)
+  refusal = refused_for A (rates (moment / 100)) moment w.last_tick w.issued asks tried asking fit (omega (arith, few_asks 0 found, r.wide, few)) (λ order p. (are_found found order p).once) why book books.last_is books.issued_is r.refused
 
   decision : IsRun rates (at w.last_tick w.issued tried) (event.Decide moment ∷ posts lanes) (Err (refusal_for asks why) ∷ post_replies zeros) end
   decision = run_from rates (at w.last_tick w.issued tried) (at w.last_tick w.issued tried) end (event.Decide moment) (Err (refusal_for asks why)) (posts lanes) (post_replies zeros) (refl, refusal) (posts_run rates w.last_tick w.issued lanes zeros tried waits)

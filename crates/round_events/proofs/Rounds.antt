@@ -74,7 +74,7 @@ is_ready n (Some a) l idle = refl
 
 -- ---- the tries
 
-module _ (rates : Rates) (given : ℕ → Bool) (found : List (Option Ask)) (old : List TraceView) (w : World) (before : AreShownBy old w.lanes) (on : AreFoundOn given found w.lanes) (only : OfGiven given (find found)) where
+module _ (rates : ℕ → Rates) (given : ℕ → Bool) (found : List (Option Ask)) (old : List TraceView) (w : World) (before : AreShownBy old w.lanes) (on : AreFoundOn given found w.lanes) (only : OfGiven given (find found)) where
   pub tries : IsRun rates w (collects (given_lanes given 0 (length old))) (try_replies found (given_lanes given 0 (length old))) (at w.last_tick w.issued (tried_lanes found w.lanes))
   tries = tries_run rates w.last_tick w.issued given (find found) only [] w.lanes 0 (length old) refl before.wide (found_each given found w.lanes on) (All-nil IsPosted) (all_settled old w.lanes before)
 
@@ -93,7 +93,7 @@ unreported_on : (given : Bool) (t t' : TraceView) (o : Option Ask) → o ≡ Non
 unreported_on given t t' o e h = ap (λ (x : TraceView). x.posted) (subst (λ (p : Option Ask). IsAnswered given p t t') e h) ∙ posted_same given None t
 
 -- a decided round, from what is known of its plan
-record IsKnown (given : ℕ → Bool) (found : List (Option Ask)) (rates : Rates) (moment : ℕ) (old new : List TraceView) (t : LimitTree) (lanes grants : List ℕ) (w : World) : Type 0 where
+record IsKnown (given : ℕ → Bool) (found : List (Option Ask)) (rates : ℕ → Rates) (moment : ℕ) (old new : List TraceView) (t : LimitTree) (lanes grants : List ℕ) (w : World) : Type 0 where
   decided : IsDecided moment t grants w
   before : AreShownBy old w.lanes
   on : AreFoundOn given found w.lanes
@@ -101,12 +101,12 @@ record IsKnown (given : ℕ → Bool) (found : List (Option Ask)) (rates : Rates
   wide : length found ≡ length w.lanes
   still : length new ≡ length old
   are : AreFound found lanes
-  plan : IsPlan rates (moment / 100) (in_round (tried_lanes found w.lanes)) t lanes
+  plan : IsPlan (rates (moment / 100)) (moment / 100) (in_round (tried_lanes found w.lanes)) t lanes
   small : has_large_want (tried_lanes found w.lanes) ≡ false
   unreported : (i : ℕ) → i < length old → get_or found i None ≡ None → (trace_at new i).posted ≡ (trace_at old i).posted
   reported : (j : ℕ) → j < length lanes → (trace_at new (get_or lanes j 0)).posted ≡ (trace_at old (get_or lanes j 0)).posted ++ get_or grants j 0 ∷ []
 
-module _ (given : ℕ → Bool) (found : List (Option Ask)) (rates : Rates) (moment : ℕ) (old new : List TraceView) (t : LimitTree) (lanes grants : List ℕ) (w : World) (k : IsKnown given found rates moment old new t lanes grants w) where
+module _ (given : ℕ → Bool) (found : List (Option Ask)) (rates : ℕ → Rates) (moment : ℕ) (old new : List TraceView) (t : LimitTree) (lanes grants : List ℕ) (w : World) (k : IsKnown given found rates moment old new t lanes grants w) where
   abbrev amounts : ℕ → ℕ
   amounts = amount_on lanes grants
 
@@ -117,7 +117,7 @@ module _ (given : ℕ → Bool) (found : List (Option Ask)) (rates : Rates) (mom
   ready_lanes = give amounts 0 tried
 
   long : length lanes ≡ length grants
-  long = lanes_length rates (moment / 100) tried t lanes grants (tried_asked rates given found old w k.before k.on k.only) k.plan k.decided.best k.are.once
+  long = lanes_length (rates (moment / 100)) (moment / 100) tried t lanes grants (tried_asked rates given found old w k.before k.on k.only) k.plan k.decided.best k.are.once
 
   ready : (i : ℕ) (l : Lane) → slice_get w.lanes i ≡ Some l → (m : Lane) × (slice_get ready_lanes i ≡ Some m) × IsReadyFor (Some (amounts i)) (get_or found i None) l m
   ready i l e =
@@ -133,7 +133,7 @@ module _ (given : ℕ → Bool) (found : List (Option Ask)) (rates : Rates) (mom
   decision : IsRun rates (at w.last_tick w.issued tried) (event.Decide moment ∷ posts lanes) (Ok (answer.Decided (moment / 100) (sum grants)) ∷ post_replies grants) (at (Some (moment / 100)) (w.issued + sum grants) (posted lanes grants ready_lanes))
   decision = run_from rates (at w.last_tick w.issued tried) (at (Some (moment / 100)) (w.issued + sum grants) ready_lanes) (at (Some (moment / 100)) (w.issued + sum grants) (posted lanes grants ready_lanes))
       (event.Decide moment) (Ok (answer.Decided (moment / 100) (sum grants))) (posts lanes) (post_replies grants)
-      (decides rates moment w.last_tick w.issued tried t lanes grants (tried_asked rates given found old w k.before k.on k.only) k.plan k.decided.best k.are.once
+      (decides (rates (moment / 100)) moment w.last_tick w.issued tried t lanes grants (tried_asked rates given found old w k.before k.on k.only) k.plan k.decided.best k.are.once
       (record { posted = tried_posted rates given found old w k.before k.on k.only; later = k.decided.later; wants = k.small }) k.decided.room)
       (posts_run rates (Some (moment / 100)) (w.issued + sum grants) lanes grants ready_lanes waits)
 
@@ -161,7 +161,7 @@ round_is_events given rates moment old new answered t lanes asks grants w r few 
       wide = wide;
       still = r.still;
       are = subst (AreFound found) (sym r.plan.lanes_are) (are_found found r.plan.order r.plan.all);
-      plan = subst (λ (xs : List Asker). IsPlan rates (moment / 100) xs t lanes) (sym same) r.plan;
+      plan = subst (λ (xs : List Asker). IsPlan (rates (moment / 100)) (moment / 100) xs t lanes) (sym same) r.plan;
       small = ap (list_any wants_too_much) same ∙ few;
       unreported = λ i less e. unreported_on (given i) (trace_at old i) (trace_at new i) (get_or found i None) e (r.each i less);
       reported = r.posted;

@@ -1,10 +1,9 @@
 -- Runs of the desk: steps on its table, and what its threads hold beside it.
-use Rattle.std.specs.Prelude.{◌≡◌, ◌≢◌, ◌⊎◌, ℕ, suc, ◌+◌, ◌/◌, ◌<◌, ◌≤◌, nat_eq, if◌then◌else◌, Bool, cond, List, [], ◌∷◌, ◌++◌, length, map, replicate, sum, All, slice_get, slice_index, slice_set, Option, Some, None, Ok}
+use Rattle.std.specs.Prelude.{◌≡◌, ℕ, suc, ◌+◌, ◌/◌, ◌<◌, ◌≤◌, nat_eq, if◌then◌else◌, Bool, cond, List, [], ◌∷◌, length, map, replicate, sum, All, slice_get, slice_index, slice_set, Option, Some, None, Ok}
 use Rattle.std.specs.List.{filter_map}
-use mathlib.Core.Option.{none, some}
+use mathlib.Core.Option.{some}
 use lib.ListN.{get_elem?}
 use Rattle.atomic_table.specs.Table.{State, opening}
-use Rattle.grant_ledger.specs.Books.{GrantView}
 use Rattle.grant_ledger.specs.declared.ledger.TheConstants.{MAX_ISSUED}
 use Rattle.limit_tree.specs.Sharing.{LimitTree, IsBest}
 use Rattle.line_rates.specs.declared.ask.Ask.{Ask}
@@ -20,17 +19,14 @@ use Rattle.world_terms.specs.Lanes as core
 use Rattle.world_terms.specs.Runs.{IsRun}
 use Rattle.world_terms.specs.Steps.{HiddenStep, lane_of}
 use Rattle.desk_rule.specs.declared.view.DeskView.{DeskView}
-use Rattle.desk_rule.specs.declared.view.DeskView.TheVariants.{Lane, Round, Spent}
+use Rattle.desk_rule.specs.declared.view.DeskView.TheVariants.{Round}
 use Rattle.desk_rule.specs.declared.view.LaneSlot.{LaneSlot}
-use Rattle.desk_rule.specs.declared.view.LaneSlot.TheVariants.{Blank, WithAsk, WithGrant}
-use Rattle.desk_rule.specs.declared.view.LaneView.{LaneView}
 use Rattle.desk_rule.specs.declared.view.RoundView.{RoundView}
-use Rattle.desk_rule.specs.declared.view.SeatState.TheVariants.{Free, Worker}
 use Rattle.desk_rule.specs.declared.view.TraceView.{TraceView}
-use Rattle.desk_rule.specs.Events.{HasLane, HasTraces, after, noted}
-use Rattle.desk_rule.specs.Lanes.{Kept, first_round, dealer_after, dealt_to, taken_in, lane_in, with_lane, trace_in, with_trace, posted_by, most, sat_down, has_asked, has_taken, has_looked, has_risen, has_missed, has_collected, has_posted}
+use Rattle.desk_rule.specs.Events.{HasLane, HasTraces}
+use Rattle.desk_rule.specs.Lanes.{Kept, first_round, is_due}
 use Rattle.desk_rule.specs.Shown.{last_of, shown_in}
-use Rattle.lane_desk.specs.Held.{is_due}
+use Rattle.desk_rule.specs.Steps.{Done, SilentStep, TableStep}
 use Rattle.lane_desk.specs.Posted.{AllAnswered}
 use Rattle.lane_desk.specs.Rounded.{IsRoundOver}
 use Rattle.lane_desk.specs.Tried.{asks_from, tried}
@@ -104,10 +100,6 @@ pub record HoldStep (e : Event) (a : EventAnswer) (h h' : Holdings) : Type 0 whe
   pub step : HiddenStep e a before after
   pub rest : h' ≡ held_lanes (slice_set h.lanes (lane_of e) after) h
 
--- an event with its answer, if a step is one
-abbrev pub Done : Type 0
-Done = Option (Event × EventAnswer)
-
 -- the table of the desk, and what is held beside it
 pub record DeskState (N : Type 0) : Type 0 where
   pub table : State (LaneSlot N) DeskView
@@ -123,68 +115,6 @@ module _ {N : Type 0} where
         issued = h.issued;
       }
 
-  -- the table with other views of its seats
-  abbrev pub with_views : State (LaneSlot N) DeskView → List DeskView → State (LaneSlot N) DeskView
-  with_views s vs = record { words = s.words; homes = s.homes; views = vs }
-
-  -- A step of a seat on the table that is this event, with this answer, as `desk_rule` has it.
-  abbrev pub TableStep : Event → EventAnswer → State (LaneSlot N) DeskView
-      → State (LaneSlot N) DeskView → Type 0
-  TableStep (event.Sit i) answer.Done s s' =
-      (id : ℕ) × (v : DeskView) × HasLane s id i v × ((lane_in i v).state ≡ Free)
-      × (s' ≡ after s i 1 none id (with_lane i (sat_down (lane_in i v)) v))
-  TableStep (event.Asked i a) answer.Done s s' =
-      (id : ℕ) × (v : DeskView) × HasLane s id i v × ((lane_in i v).state ≡ Worker)
-      × (s' ≡ after s i 2 (some (WithAsk a)) id (with_lane i (has_asked a (lane_in i v)) v))
-  TableStep (event.Collect i) answer.Got s s' =
-      (id : ℕ) × (v : DeskView) × (a : Ask) × HasTraces s id i v × (slice_index s.words i ≡ 2)
-      × (get_elem? s.homes i ≡ some (some (WithAsk a)))
-      × (s' ≡ after s i 3 none id (with_trace i (has_collected a (trace_in i v)) v))
-  TableStep (event.Collect i) answer.Missed s s' =
-      (id : ℕ) × (v : DeskView) × HasTraces s id i v × (slice_index s.words i ≢ 2)
-      × (s' ≡ noted s id (with_trace i (has_missed (trace_in i v)) v))
-  TableStep (event.Post i) (answer.Posted n) s s' =
-      (id : ℕ) × (v : DeskView) × (g : GrantView) × HasTraces s id i v
-      × (length (trace_in i v).collected ≡ length (trace_in i v).posted + 1) × (g.lane ≡ i)
-      × (posted_by v + g.octets ≤ most) × (g.octets ≡ n)
-      × (s' ≡ after s i 4 (some (WithGrant g)) id
-      (with_trace i (has_posted g.octets (trace_in i v)) v))
-  TableStep (event.Taken i) (answer.Taken n) s s' =
-      (id : ℕ) × (v : DeskView) × (g : GrantView) × HasLane s id i v × (slice_index s.words i ≡ 4)
-      × (get_elem? s.homes i ≡ some (some (WithGrant g))) × (g.octets ≡ n)
-      × (s' ≡ after s i 1 none id (with_lane i (has_taken g.octets (lane_in i v)) v))
-  TableStep (event.Rise i) answer.Done s s' =
-      (id : ℕ) × (v : DeskView) × HasLane s id i v × ((lane_in i v).state ≡ Worker)
-      × (s' ≡ after s i 0 (some Blank) id (with_lane i (has_risen (lane_in i v)) v))
-  TableStep e a s s' = ⊥
-
-  -- a take that finds nothing
-  abbrev pub LookStep : State (LaneSlot N) DeskView → State (LaneSlot N) DeskView → Type 0
-  LookStep s s' =
-      (id : ℕ) × (i : ℕ) × (v : DeskView) × HasLane s id i v × (slice_index s.words i ≢ 4)
-      × (s' ≡ noted s id (with_lane i (has_looked (lane_in i v)) v))
-
-  -- the seat of the next lane is split off the round's
-  abbrev pub DealStep : State (LaneSlot N) DeskView → State (LaneSlot N) DeskView → Type 0
-  DealStep s s' =
-      (id : ℕ) × (v : RoundView) × (get_elem? s.views id ≡ some (Round v))
-      × (v.dealt < length v.traces)
-      × (s' ≡ with_views s
-      (slice_set s.views id (dealer_after (Round v)) ++ dealt_to (Round v) ∷ []))
-
-  -- the seat of the next lane is joined to the round's
-  abbrev pub GatherStep : State (LaneSlot N) DeskView → State (LaneSlot N) DeskView → Type 0
-  GatherStep s s' =
-      (id : ℕ) × (v : RoundView) × (other : ℕ) × (w : LaneView)
-      × (get_elem? s.views id ≡ some (Round v)) × (other ≢ id)
-      × (get_elem? s.views other ≡ some (Lane (length v.back) w))
-      × (s' ≡ with_views s
-      (slice_set (slice_set s.views id (taken_in (Round v) (Lane (length v.back) w))) other Spent))
-
-  -- a step that is no event
-  abbrev pub SilentStep : State (LaneSlot N) DeskView → State (LaneSlot N) DeskView → Type 0
-  SilentStep s s' = LookStep s s' ⊎ (DealStep s s' ⊎ GatherStep s s')
-
   -- A decision of a round: the table stays, and the round's seat knows these turns.
   pub record DecideStep (rates : Rates) (moment tick total : ℕ) (x y : DeskState N) : Type 0 where
     pub seat : ℕ
@@ -193,12 +123,12 @@ module _ {N : Type 0} where
     pub holds : HoldsDecision rates view.traces moment tick total x.held y.held
     pub still : y.table ≡ x.table
 
-  -- One step of the desk, by any of its threads. A round tries a lane only if all amounts decided
-  -- are posted.
-  abbrev pub DeskStep : Rates → Done → DeskState N → DeskState N → Type 0
+  -- One step of the desk, by any of its threads; a decision is under the rates of its tick. A round
+  -- tries a lane only if all amounts decided are posted.
+  abbrev pub DeskStep : (ℕ → Rates) → Done → DeskState N → DeskState N → Type 0
   DeskStep rates None x y = SilentStep x.table y.table × (y.held ≡ x.held)
   DeskStep rates (Some (event.Decide m, answer.Decided tick total)) x y =
-      DecideStep rates m tick total x y
+      DecideStep (rates (m / 100)) m tick total x y
   DeskStep rates (Some (event.Moved i n, answer.Done)) x y =
       (y.table ≡ x.table) × HoldStep (event.Moved i n) answer.Done x.held y.held
   DeskStep rates (Some (event.Collect i, a)) x y =
@@ -207,7 +137,7 @@ module _ {N : Type 0} where
   DeskStep rates (Some (e, a)) x y = TableStep e a x.table y.table × HoldStep e a x.held y.held
 
   -- these steps, the oldest first, lead from `x` to `z`
-  abbrev pub DeskRuns : Rates → DeskState N → List Done → DeskState N → Type 0
+  abbrev pub DeskRuns : (ℕ → Rates) → DeskState N → List Done → DeskState N → Type 0
   DeskRuns rates x [] z = z ≡ x
   DeskRuns rates x (d ∷ ds) z = (y : DeskState N) × DeskStep rates d x y × DeskRuns rates y ds z
 
@@ -226,7 +156,7 @@ events_of ds = filter_map (λ d. d) ds
 -- any order, with decisions and the spending of grants between them.
 abbrev pub DeskRunsAreRuns : Type 0 → Type 0
 DeskRunsAreRuns N =
-    (rates : Rates) (x : DeskState N) (ds : List Done) (z : DeskState N) (r : Kept x.table)
+    (rates : ℕ → Rates) (x : DeskState N) (ds : List Done) (z : DeskState N) (r : Kept x.table)
     → length x.held.lanes ≡ length x.table.homes → DeskRuns rates x ds z
     → (r' : Kept z.table) × (length z.held.lanes ≡ length z.table.homes)
     × IsRun rates (world_of r x.held) (map done_event (events_of ds))

@@ -4,3 +4,4 @@ pub mod Decided
 pub mod Rounds
 pub mod Refused
 pub mod Desk
+pub mod Tries

@@ -47,11 +47,11 @@ pub record HasBook (book : BookView) (w : World) : Type 0 where
 -- issued.
 abbrev pub RefusedRoundIsEvents : Type 0 → Type 0
 RefusedRoundIsEvents A =
-    (given : ℕ → Bool) (rates : Rates) (moment : ℕ) (book : BookView)
+    (given : ℕ → Bool) (rates : ℕ → Rates) (moment : ℕ) (book : BookView)
     (old new : List TraceView) (answered : ℕ) (why : RoundRefusal) (w : World)
-    (r : IsRefusedRoundOver A given rates (moment / 100) book old new answered why)
-    → AreFitRates rates → length old ≤ MAX_LANES → HasBook book w → AreShownBy old w.lanes
-    → AreFoundOn given r.found w.lanes
+    (r : IsRefusedRoundOver A given (rates (moment / 100)) (moment / 100) book old new answered why)
+    → AreFitRates (rates (moment / 100)) → length old ≤ MAX_LANES → HasBook book w
+    → AreShownBy old w.lanes → AreFoundOn given r.found w.lanes
     → LeadsOn rates w
     (round_events (given_lanes given 0 (length old)) moment (map lane_in (asks_from 0 r.found)))
     (round_replies r.found (given_lanes given 0 (length old))

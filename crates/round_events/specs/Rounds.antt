@@ -42,9 +42,10 @@ pub record IsDecided (moment : ℕ) (t : LimitTree) (grants : List ℕ) (w : Wor
 -- issued are more by the sum of the grants.
 abbrev pub RoundIsEvents : Type 0
 RoundIsEvents =
-    (given : ℕ → Bool) (rates : Rates) (moment : ℕ) (old new : List TraceView) (answered : ℕ)
+    (given : ℕ → Bool) (rates : ℕ → Rates) (moment : ℕ) (old new : List TraceView) (answered : ℕ)
     (t : LimitTree) (lanes : List ℕ) (asks : List Ask) (grants : List ℕ) (w : World)
-    (r : IsRoundOver given rates (moment / 100) old new answered t lanes asks grants)
+    (r : IsRoundOver given (rates (moment / 100)) (moment / 100) old new answered t lanes asks
+    grants)
     → AreSmall (asks_from 0 r.found) → IsDecided moment t grants w → AreShownBy old w.lanes
     → AreFoundOn given r.found w.lanes
     → LeadsOn rates w (round_events (given_lanes given 0 (length old)) moment lanes)

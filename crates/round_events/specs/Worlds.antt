@@ -54,7 +54,7 @@ AreLeft found ts ls ms =
 
 -- These events, with these replies, lead from `w` to a world that shows each lane as the round
 -- leaves it, with this last tick, and with these octets issued.
-pub record LeadsOn (rates : Rates) (w : World) (events : List Event) (replies : List Reply)
+pub record LeadsOn (rates : ℕ → Rates) (w : World) (events : List Event) (replies : List Reply)
     (found : List (Option Ask)) (traces : List TraceView) (last : Option ℕ) (issued : ℕ) : Type 0
   where
     pub end : World

@@ -4,6 +4,7 @@ ghost use Rattle.round_events.specs.Decided.{OneDecision};
 ghost use Rattle.round_events.specs.Desk.{DeskRunsAreRuns, OpenedIsNew, RoundDecides, ShownIsOne, TablesAreShown, TriedAreDue};
 ghost use Rattle.round_events.specs.Refused.{RefusedRoundIsEvents};
 ghost use Rattle.round_events.specs.Rounds.{PlansAreSmall, RoundIsEvents};
+ghost use Rattle.round_events.specs.Tries.{TriesComeFirst};
 
 /// A round of the desk is a list of the core's events, with these replies, from each world that shows the lanes as the
 /// round finds them to one that shows them as it leaves them.
@@ -37,4 +38,10 @@ pub fn rounds_are_of_the_desk<N>()
     ensures between { TablesAreShown N }
     ensures due { TriedAreDue }
     ensures decision { RoundDecides }
+{}
+
+/// In each list of steps of the desk, by any of its threads in any order, each ask that is due while the round may try a
+/// lane was collected since its last answer.
+pub fn tries_come_first<N>()
+    ensures tries { TriesComeFirst N }
 {}

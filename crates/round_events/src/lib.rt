@@ -3,7 +3,8 @@
 //! `lane_desk` states the effect of a round on the round's views of the lanes, `desk_rule` that of each exchange on the
 //! desk's table, and `world_terms` that of a list of events. By [`round_is_events`] and [`refused_round_is_events`] a
 //! round is a list of events, by [`decisions_are_one`] its decision is that of the core, and by [`desk_runs_are_runs`]
-//! each list of steps of the desk, of all threads in any order, is a run.
+//! each list of steps of the desk, of all threads in any order, is a run. By [`tries_come_first`] each
+//! ask that is due while the round tries was collected since its last answer.
 //!
 //! For example, a server with a rate of 30 octets a second, which are 3 in each tick, has two lanes: on lane 0 an ask for
 //! 5 octets waits, and lane 1 is free. A round of both at moment 12,345 is these events with these answers:
@@ -24,5 +25,5 @@ mod laws;
 
 pub use laws::{
     decisions_are_one, desk_runs_are_runs, refused_round_is_events, round_is_events,
-    rounds_are_of_the_desk,
+    rounds_are_of_the_desk, tries_come_first,
 };

@@ -1,5 +1,5 @@
 -- Rows of new rates.
-use Rattle.std.proofs.Common.{◌≡◌, ℕ, ◌≤◌, List, map, sym, refl, ap, ◌∙◌, subst, arith, Some}
+use Rattle.std.proofs.Common.{◌≡◌, ℕ, ◌*◌, ◌≤◌, List, map, sym, refl, ap, ◌∙◌, subst, arith, Some}
 use Rattle.std.specs.Prelude.{min}
 use Rattle.std.specs.FinMap as finite
 use Rattle.std.specs.Option.{is_some}
@@ -32,6 +32,9 @@ users_made f same r rows us e are up = (
   subst (AreTheUsers r) (sym e) (λ q. ap (λ (m : Users). is_some (finite.get m q)) (sym are) ∙ sym (keys_mapped user_number pace_number f same rows q)),
 )
 
+none : (x : ℕ) → 0 ≤ x
+none x = omega arith
+
 cut : (x m : ℕ) → min x m ≤ m
 cut x m = omega arith
 
@@ -53,6 +56,8 @@ user_changed us row h =
       up_rate = refl;
       session_down_rate = refl;
       session_up_rate = refl;
+      down_owed = none (row.session_down_floor * 50);
+      up_owed = none (row.session_up_floor * 50);
     }
 
 abbrev paced : Paced → Rates → Credit → Credit → Credit → List GroupPace → List UserPace → Paced

@@ -1,7 +1,7 @@
 -- Full credits: no refill in the same second changes them.
-use Rattle.std.proofs.Common.{◌≡◌, ℕ, ◌+◌, ◌-◌, ◌*◌, ◌/◌, ◌%◌, ◌<◌, ◌≤◌, Bool, true, false, ◌&&◌, ◌||◌, cond, List, get_or, refl, sym, ap, ◌∙◌, arith}
+use Rattle.std.proofs.Common.{◌≡◌, ℕ, ◌+◌, ◌-◌, ◌*◌, ◌/◌, ◌%◌, ◌<◌, ◌≤◌, Bool, true, false, ◌&&◌, ◌||◌, List, get_or, refl, sym, ap, ◌∙◌, arith}
 use Rattle.std.specs.List.{All}
-use Rattle.std.specs.Prelude.{min, nat_eq, nat_le}
+use Rattle.std.specs.Prelude.{min, nat_eq}
 use Rattle.std.proofs.lemmas.Bool.{eqb-true, and_parts}
 use Rattle.line_rates.specs.declared.row.UserRate.{UserRate}
 use Rattle.line_rates.specs.Rates.{Rates}
@@ -10,7 +10,7 @@ use Rattle.round_pace.specs.declared.paced.GroupPace.{GroupPace}
 use Rattle.round_pace.specs.declared.paced.UserPace.{UserPace}
 use Rattle.round_pace.specs.Credits.{IsCredit, refill_row}
 use Rattle.round_pace.specs.Earned.{share, most_kept, begun_in, carried, earned, refilled}
-use Rattle.round_pace.specs.FloorsFit.{floor_in, ticks_due}
+use Rattle.round_pace.specs.FloorsFit.{ticks_since, owed_in}
 use Rattle.round_pace.specs.Offered.{refill_group, refill_user, credit_rate, floor_rate, offer_user}
 use Rattle.round_pace.specs.Paced.{IsGroupPace, IsUserPace}
 use Rattle.round_pace.specs.Quiet.{is_full, is_full_group, is_full_user, AllMarked, AreOfSecond, IsQuietGroup, IsQuietUser}
@@ -75,6 +75,15 @@ user_parts u full =
       up_floor = eqb-true u.row.session_up_floor 0 f.1;
     }
 
+-- without a guarantee nothing is owed
+owed_none : (floor owed begun tick : ℕ) → floor ≡ 0 → owed ≤ floor * 50 → owed_in floor owed begun tick ≡ owed
+owed_none floor owed begun tick zero most =
+    let no : floor * 50 ≡ 0 = ap (λ (f : ℕ). f * 50) zero in
+    plain (carried owed (begun_in begun tick) + floor * ticks_since begun tick) (floor * 50) owed no most
+  where
+    plain : (x m o : ℕ) → m ≡ 0 → o ≤ m → min x m ≡ o
+    plain x m o a b = omega (arith, a, b)
+
 full_user : (begun tick : ℕ) (u : UserPace) → IsUserPace u → 0 < begun_in begun tick → is_full_user u ≡ true → refill_user begun tick u ≡ u
 full_user begun tick u paced some full =
     let parts = user_parts u full in
@@ -82,7 +91,9 @@ full_user begun tick u paced some full =
     let up : refill_row begun tick u.up ≡ u.up = full_row begun tick u.up paced.up some parts.up in
     let session_down : refill_row begun tick u.session_down ≡ u.session_down = full_row begun tick u.session_down paced.session_down some parts.session_down in
     let session_up : refill_row begun tick u.session_up ≡ u.session_up = full_row begun tick u.session_up paced.session_up some parts.session_up in
-    λ i. record { row = u.row; down = down i; up = up i; session_down = session_down i; session_up = session_up i }
+    let down_owed : owed_in u.row.session_down_floor u.down_owed begun tick ≡ u.down_owed = owed_none u.row.session_down_floor u.down_owed begun tick parts.down_floor paced.down_owed in
+    let up_owed : owed_in u.row.session_up_floor u.up_owed begun tick ≡ u.up_owed = owed_none u.row.session_up_floor u.up_owed begun tick parts.up_floor paced.up_owed in
+    λ i. record { row = u.row; down = down i; up = up i; session_down = session_down i; session_up = session_up i; down_owed = down_owed i; up_owed = up_owed i }
 
 -- quiet rows stay as they are in a later tick of the same second
 pub groups_stay : (offered : Rates) (begun tick : ℕ) (old new : List Bool) (gs : List GroupPace) → All IsGroupPace gs → AreOfSecond begun tick old new → AllMarked (IsQuietGroup offered) old gs → AllMarked (λ g. refill_group begun tick g ≡ g) new gs
@@ -97,16 +108,15 @@ users_stay offered begun tick old new us paces of quiet k d lt m =
     let q = quiet k d lt s.0 in
     full_user begun tick (get_or us k d) (paces k d lt) s.1 q.0
 
--- the limits have the same row for each tick
-floor_none : (floor begun tick : ℕ) → floor ≡ 0 → floor_rate floor begun tick ≡ 0
-floor_none floor begun tick zero = ap (λ (f : ℕ). floor_rate f begun tick) zero ∙ go (nat_le begun tick)
+-- the limits have the same row for each number of ticks
+floor_none : (floor owed ticks : ℕ) → floor ≡ 0 → floor_rate floor owed ticks ≡ 0
+floor_none floor owed ticks zero = ap (λ (f : ℕ). floor_rate f owed ticks) zero ∙ none (0 * ticks) (no ticks)
   where
-    none : (k : ℕ) → 10 * (k * 0 / 500) ≡ 0
-    none k = omega arith
+    no : (k : ℕ) → 0 * k ≡ 0
+    no k = omega arith
 
-    go : (b : Bool) → cond b (10 * floor_in begun tick 0) 0 ≡ 0
-    go true = none (ticks_due begun tick)
-    go false = refl
+    none : (x : ℕ) → x ≡ 0 → 10 * (min owed x / 500) ≡ 0
+    none x e = omega (arith, e)
 
 with_floors : UserPace → ℕ → ℕ → UserRate
 with_floors u a b = record {
@@ -120,10 +130,10 @@ with_floors u a b = record {
   session_up_floor = b;
 }
 
-pub offer_full : (begun tick b t : ℕ) (u : UserPace) → is_full_user u ≡ true → offer_user begun tick u ≡ offer_user b t u
+pub offer_full : (a b s t : ℕ) (u : UserPace) → is_full_user u ≡ true → offer_user a b u ≡ offer_user s t u
 unfolding with_floors
-offer_full begun tick b t u full =
+offer_full a b s t u full =
     let parts = user_parts u full in
-    let down : floor_rate u.row.session_down_floor begun tick ≡ floor_rate u.row.session_down_floor b t = floor_none u.row.session_down_floor begun tick parts.down_floor ∙ sym (floor_none u.row.session_down_floor b t parts.down_floor) in
-    let up : floor_rate u.row.session_up_floor begun tick ≡ floor_rate u.row.session_up_floor b t = floor_none u.row.session_up_floor begun tick parts.up_floor ∙ sym (floor_none u.row.session_up_floor b t parts.up_floor) in
-    ap (λ x. with_floors u x (floor_rate u.row.session_up_floor begun tick)) down ∙ ap (λ x. with_floors u (floor_rate u.row.session_down_floor b t) x) up
+    let down : floor_rate u.row.session_down_floor u.down_owed a ≡ floor_rate u.row.session_down_floor u.down_owed s = floor_none u.row.session_down_floor u.down_owed a parts.down_floor ∙ sym (floor_none u.row.session_down_floor u.down_owed s parts.down_floor) in
+    let up : floor_rate u.row.session_up_floor u.up_owed b ≡ floor_rate u.row.session_up_floor u.up_owed t = floor_none u.row.session_up_floor u.up_owed b parts.up_floor ∙ sym (floor_none u.row.session_up_floor u.up_owed t parts.up_floor) in
+    ap (λ x. with_floors u x (floor_rate u.row.session_up_floor u.up_owed b)) down ∙ ap (λ x. with_floors u (floor_rate u.row.session_down_floor u.down_owed s) x) up

@@ -4,7 +4,7 @@ use Rattle.line_rates.specs.Rates.{Rates}
 use Rattle.rate_floors.specs.Kept.{PromisesAreKept}
 use Rattle.round_pace.specs.Changed.{idle}
 use Rattle.round_pace.specs.Earned.{tick_of}
-use Rattle.round_pace.specs.Guaranteed.{AreBounded, IsGuaranteed, AreGuaranteed, LeadGuaranteed, StretchesAreGuaranteed, NextIsGuaranteed, HistoriesAreGuaranteed}
+use Rattle.round_pace.specs.Guaranteed.{IsGuaranteed, AreGuaranteed, LeadGuaranteed, StretchesAreGuaranteed, NextIsGuaranteed, HistoriesAreGuaranteed}
 use Rattle.round_pace.specs.Histories.{Held, after, after_all, AreHeld, rates_of}
 use Rattle.round_pace.specs.Paced.{Paced}
 use Rattle.round_pace.specs.Stretches.{Stretch, Lead}
@@ -16,11 +16,11 @@ use Rattle.round_pace.proofs.StatedRates.{new_rates, rates_stay}
 use Rattle.round_pace.proofs.Stretching.{good_last, changed_rates}
 
 module _ (law : PromisesAreKept) where
-  rounds_guaranteed : (rates : Rates) (p : Paced) (hs : List Held) → Good rates p → rates_of p ≡ rates → AreHeld p hs → AreBounded rates → AreGuaranteed rates p hs
-  rounds_guaranteed rates p [] good are held small = tt
-  rounds_guaranteed rates p (h ∷ hs) good are held small = (
-    guaranteed law rates (tick_of h.now) p good are small,
-    rounds_guaranteed rates (after p h) hs (good_after rates p h good held.0) (rates_stay p h ∙ are) held.1 small,
+  rounds_guaranteed : (rates : Rates) (p : Paced) (hs : List Held) → Good rates p → rates_of p ≡ rates → AreHeld p hs → AreGuaranteed rates p hs
+  rounds_guaranteed rates p [] good are held = tt
+  rounds_guaranteed rates p (h ∷ hs) good are held = (
+    guaranteed law rates (tick_of h.now) p good are,
+    rounds_guaranteed rates (after p h) hs (good_after rates p h good held.0) (rates_stay p h ∙ are) held.1,
   )
 
   lead_guaranteed : (p : Paced) (ss : List Stretch) (q : Paced) → IsWhole p.moment → Lead p ss q → LeadGuaranteed p ss q
@@ -39,20 +39,20 @@ module _ (law : PromisesAreKept) where
   rates_last rates p [] are = are
   rates_last rates p (h ∷ hs) are = rates_last rates (after p h) hs (rates_stay p h ∙ are)
 
-  next_guaranteed : (p : Paced) (ss : List Stretch) (s : Stretch) (q : Paced) → IsWhole p.moment → Lead p (ss ++ s ∷ []) q → AreBounded s.rates → (tick : ℕ) → IsGuaranteed s.rates tick q
-  next_guaranteed p [] s q whole lead small tick =
+  next_guaranteed : (p : Paced) (ss : List Stretch) (s : Stretch) (q : Paced) → IsWhole p.moment → Lead p (ss ++ s ∷ []) q → (tick : ℕ) → IsGuaranteed s.rates tick q
+  next_guaranteed p [] s q whole lead tick =
       subst (IsGuaranteed s.rates tick) lead.3
       (guaranteed law s.rates tick (after_all lead.0 s.rounds) (good_last s.rates lead.0 s.rounds (good_changed s.rates p lead.0 lead.1 whole) lead.2)
-      (rates_last s.rates lead.0 s.rounds (changed_rates s.rates p lead.0 lead.1)) small)
-  next_guaranteed p (x ∷ ss) s q whole lead small tick =
+      (rates_last s.rates lead.0 s.rounds (changed_rates s.rates p lead.0 lead.1)))
+  next_guaranteed p (x ∷ ss) s q whole lead tick =
       let last : Good x.rates (after_all lead.0 x.rounds) = good_last x.rates lead.0 x.rounds (good_changed x.rates p lead.0 lead.1 whole) lead.2 in
-      next_guaranteed (after_all lead.0 x.rounds) ss s q last.whole lead.3 small tick
+      next_guaranteed (after_all lead.0 x.rounds) ss s q last.whole lead.3 tick
 
   pub stretches_are_guaranteed : StretchesAreGuaranteed
   stretches_are_guaranteed begun ss p lead = lead_guaranteed (idle begun) ss p whole_idle lead
 
   pub next_is_guaranteed : NextIsGuaranteed
-  next_is_guaranteed begun ss s p lead small tick = next_guaranteed (idle begun) ss s p whole_idle lead small tick
+  next_is_guaranteed begun ss s p lead tick = next_guaranteed (idle begun) ss s p whole_idle lead tick
 
   pub histories_are_guaranteed : HistoriesAreGuaranteed
-  histories_are_guaranteed begun rates p hs from held small = rounds_guaranteed rates p hs (good_new begun rates p from) (new_rates begun rates p from) held small
+  histories_are_guaranteed begun rates p hs from held = rounds_guaranteed rates p hs (good_new begun rates p from) (new_rates begun rates p from) held

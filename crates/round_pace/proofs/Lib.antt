@@ -5,6 +5,7 @@ mod Lost
 mod Floors
 mod Sessions
 mod Promised
+mod CreditsFit
 mod Keys
 mod Places
 mod NewPaces
@@ -20,6 +21,7 @@ mod Credited
 mod Limits
 mod StatedRates
 mod Starting
+mod OwnCovers
 mod Holding
 mod Rated
 mod Stretching
@@ -27,3 +29,5 @@ mod Changing
 mod RowValues
 mod Guarantees
 mod Guaranteeing
+mod OverTime
+mod Giving

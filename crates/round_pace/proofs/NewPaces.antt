@@ -1,5 +1,5 @@
 -- Rows with nothing earned.
-use Rattle.std.proofs.Common.{◌≡◌, ℕ, ◌≤◌, List, refl, arith, ap, ◌∙◌}
+use Rattle.std.proofs.Common.{◌≡◌, ℕ, ◌*◌, ◌≤◌, List, refl, arith, ap, ◌∙◌}
 use Rattle.line_rates.specs.declared.row.GroupRate.{GroupRate}
 use Rattle.line_rates.specs.declared.row.UserRate.{UserRate}
 use Rattle.line_rates.specs.Rates.{Rates}
@@ -31,6 +31,8 @@ user_new row h =
       up_rate = refl;
       session_down_rate = refl;
       session_up_rate = refl;
+      down_owed = none (row.session_down_floor * 50);
+      up_owed = none (row.session_up_floor * 50);
     }
 
 abbrev paced : ℕ → Rates → ℕ → ℕ → ℕ → List GroupPace → List UserPace → Paced

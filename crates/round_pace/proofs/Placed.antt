@@ -11,6 +11,7 @@ use Rattle.std.proofs.lemmas.Cmp.{nat_cmp_total}
 use Rattle.std.proofs.lemmas.List.{take_more, get_or-map, get_or-take, length-map, length-take-le}
 use Rattle.std.proofs.Math.Seq.{take-length}
 use Rattle.std.proofs.lemmas.List.Sums.{fold-append}
+use Rattle.line_rates.specs.declared.ask.Way.TheVariants.{Down, Up}
 use Rattle.line_rates.specs.declared.row.GroupRate.{GroupRate}
 use Rattle.line_rates.specs.declared.row.UserRate.{UserRate}
 use Rattle.line_rates.specs.Put.{put, put_over, with_group, with_user}
@@ -19,7 +20,7 @@ use Rattle.line_rates.specs.Stated.{by_number, group_number, user_number, IsRisi
 use Rattle.line_rates.proofs.RowLemmas.{first_row, get-by_number, same_test, rising_below, at_any}
 use Rattle.round_pace.specs.declared.paced.GroupPace.{GroupPace}
 use Rattle.round_pace.specs.declared.paced.UserPace.{UserPace}
-use Rattle.round_pace.specs.Offered.{offer_group, offer_user, put_groups, put_users}
+use Rattle.round_pace.specs.Offered.{offer_group, user_ticks, handed_user, put_groups, put_users}
 use Rattle.round_pace.specs.Paced.{group_key, pace_number, AreTheGroups, AreTheUsers}
 use Rattle.round_pace.specs.Quiet.{is_full_group, is_full_user, AllMarked, IsQuietGroup, IsQuietUser}
 use Rattle.round_pace.proofs.Full.{offer_full}
@@ -122,49 +123,49 @@ groups_quiet r new gs marks place up keys end is full k d lt m =
     (full k d lt m, ap (λ (x : Rates). finite.get x.groups (group_key (get_or gs k d))) all ∙ groups_in r gs up keys k d lt)
 
 -- users
-module _ (begun tick : ℕ) where
+module _ (down up : ℕ) (groups : List GroupPace) where
   abbrev put_user : Rates → UserPace → Rates
-  put_user r u = with_user r (offer_user begun tick u)
+  put_user r u = with_user r (handed_user down up groups u)
 
-  users_folded : (r : Rates) (us : List UserPace) → (put_users begun tick r us).users ≡ put_all pace_number (offer_user begun tick) r.users us
+  users_folded : (r : Rates) (us : List UserPace) → (put_users down up groups r us).users ≡ put_all pace_number (handed_user down up groups) r.users us
   users_folded r [] = refl
-  users_folded r (u ∷ us) = users_folded (with_user r (offer_user begun tick u)) us
+  users_folded r (u ∷ us) = users_folded (with_user r (handed_user down up groups u)) us
 
-  user_at : (r : Rates) (us : List UserPace) (k : ℕ) (d : UserPace) → IsRising pace_number us → k < length us → finite.get r.users (pace_number (get_or us k d)) ≡ Some (offer_user begun tick (get_or us k d))
-      → put_users begun tick r (take (k + 1) us) ≡ put_users begun tick r (take k us)
-  user_at r us k d up lt there =
+  user_at : (r : Rates) (us : List UserPace) (k : ℕ) (d : UserPace) → IsRising pace_number us → k < length us → finite.get r.users (pace_number (get_or us k d)) ≡ Some (handed_user down up groups (get_or us k d))
+      → put_users down up groups r (take (k + 1) us) ≡ put_users down up groups r (take k us)
+  user_at r us k d rising lt there =
       let u = get_or us k d in
-      let rest = put_users begun tick r (take k us) in
-      let same : finite.get rest.users (pace_number u) ≡ Some (offer_user begun tick u) =
-      ap (λ m. finite.get m (pace_number u)) (users_folded r (take k us)) ∙ (put_others pace_number (offer_user begun tick) r.users (take k us) (pace_number u) (before pace_number (offer_user begun tick) us k d up lt) ∙ there) in
-      ap (put_users begun tick r) (take_more us k d lt)
+      let rest = put_users down up groups r (take k us) in
+      let same : finite.get rest.users (pace_number u) ≡ Some (handed_user down up groups u) =
+      ap (λ m. finite.get m (pace_number u)) (users_folded r (take k us)) ∙ (put_others pace_number (handed_user down up groups) r.users (take k us) (pace_number u) (before pace_number (handed_user down up groups) us k d rising lt) ∙ there) in
+      ap (put_users down up groups r) (take_more us k d lt)
       ∙ (fold-append put_user r (take k us) (u ∷ [])
-      ∙ ap (λ m. record { server = rest.server; down = rest.down; up = rest.up; groups = rest.groups; users = m }) (put_same rest.users (pace_number u) (offer_user begun tick u) same))
+      ∙ ap (λ m. record { server = rest.server; down = rest.down; up = rest.up; groups = rest.groups; users = m }) (put_same rest.users (pace_number u) (handed_user down up groups u) same))
 
-  pub users_there : (r now new : Rates) (us : List UserPace) (k : ℕ) → IsRising pace_number us → k < length us → now ≡ put_users begun tick r (take k us) → ((d : UserPace) → finite.get r.users (pace_number (get_or us k d)) ≡ Some (offer_user begun tick (get_or us k d)))
-      → new ≡ now → new ≡ put_users begun tick r (take (k + 1) us)
-  users_there r now new [] k up lt is there same = absurd (omega arith)
-  users_there r now new (u ∷ us) k up lt is there same = same ∙ (is ∙ sym (user_at r (u ∷ us) k u up lt (there u)))
+  pub users_there : (r now new : Rates) (us : List UserPace) (k : ℕ) → IsRising pace_number us → k < length us → now ≡ put_users down up groups r (take k us) → ((d : UserPace) → finite.get r.users (pace_number (get_or us k d)) ≡ Some (handed_user down up groups (get_or us k d)))
+      → new ≡ now → new ≡ put_users down up groups r (take (k + 1) us)
+  users_there r now new [] k rising lt is there same = absurd (omega arith)
+  users_there r now new (u ∷ us) k rising lt is there same = same ∙ (is ∙ sym (user_at r (u ∷ us) k u rising lt (there u)))
 
-  pub users_more : (r now new : Rates) (us : List UserPace) (k : ℕ) (d : UserPace) (row : UserRate) → k < length us → now ≡ put_users begun tick r (take k us) → row ≡ offer_user begun tick (get_or us k d) → new ≡ with_user now row
-      → new ≡ put_users begun tick r (take (k + 1) us)
+  pub users_more : (r now new : Rates) (us : List UserPace) (k : ℕ) (d : UserPace) (row : UserRate) → k < length us → now ≡ put_users down up groups r (take k us) → row ≡ handed_user down up groups (get_or us k d) → new ≡ with_user now row
+      → new ≡ put_users down up groups r (take (k + 1) us)
   users_more r now new us k d row lt is offer more =
       more ∙ (ap (λ (x : UserRate). with_user now x) offer
-      ∙ (ap (λ (x : Rates). with_user x (offer_user begun tick (get_or us k d))) is
-      ∙ sym (ap (put_users begun tick r) (take_more us k d lt) ∙ fold-append put_user r (take k us) (get_or us k d ∷ []))))
+      ∙ (ap (λ (x : Rates). with_user x (handed_user down up groups (get_or us k d))) is
+      ∙ sym (ap (put_users down up groups r) (take_more us k d lt) ∙ fold-append put_user r (take k us) (get_or us k d ∷ []))))
 
-  users_in : (r : Rates) (us : List UserPace) → IsRising pace_number us → AreTheUsers r us → (k : ℕ) (d : UserPace) → k < length us → finite.get (put_users begun tick r us).users (pace_number (get_or us k d)) ≡ Some (offer_user begun tick (get_or us k d))
-  users_in r us up keys k d lt =
-      let f = offer_user begun tick in
-      let found = found_at user_number (map f us) (rising_mapped pace_number user_number f us (λ u. refl) up) k (f d) (omega (arith, length-map us f, lt)) in
-      ap (λ m. finite.get m (pace_number (get_or us k d))) (hands_users_in begun tick r us up keys)
+  users_in : (r : Rates) (us : List UserPace) → IsRising pace_number us → AreTheUsers r us → (k : ℕ) (d : UserPace) → k < length us → finite.get (put_users down up groups r us).users (pace_number (get_or us k d)) ≡ Some (handed_user down up groups (get_or us k d))
+  users_in r us rising keys k d lt =
+      let f = handed_user down up groups in
+      let found = found_at user_number (map f us) (rising_mapped pace_number user_number f us (λ u. refl) rising) k (f d) (omega (arith, length-map us f, lt)) in
+      ap (λ m. finite.get m (pace_number (get_or us k d))) (hands_users_in down up groups r us rising keys)
       ∙ (get-by_number user_number (pace_number (get_or us k d)) (map f us)
       ∙ subst (λ (x : UserRate). first_row user_number (user_number x) (map f us) ≡ Some x) (get_or-map f us k d (f d) lt) found)
 
-  pub users_quiet : (r new : Rates) (us : List UserPace) (marks : List Bool) (place : ℕ) → IsRising pace_number us → AreTheUsers r us → place ≡ length us → new ≡ put_users begun tick r (take place us) → AllMarked (λ u. is_full_user u ≡ true) marks us → AllMarked (IsQuietUser new) marks us
-  users_quiet r new us marks place up keys end is full k d lt m =
-      let all : new ≡ put_users begun tick r us = is ∙ ap (put_users begun tick r) (ap (λ (n : ℕ). take n us) end ∙ take-length us) in
-      (full k d lt m, λ b t. ap (λ (x : Rates). finite.get x.users (pace_number (get_or us k d))) all ∙ (users_in r us up keys k d lt ∙ ap Some (offer_full begun tick b t (get_or us k d) (full k d lt m))))
+  pub users_quiet : (r new : Rates) (us : List UserPace) (marks : List Bool) (place : ℕ) → IsRising pace_number us → AreTheUsers r us → place ≡ length us → new ≡ put_users down up groups r (take place us) → AllMarked (λ u. is_full_user u ≡ true) marks us → AllMarked (IsQuietUser new) marks us
+  users_quiet r new us marks place rising keys end is full k d lt m =
+      let all : new ≡ put_users down up groups r us = is ∙ ap (put_users down up groups r) (ap (λ (n : ℕ). take n us) end ∙ take-length us) in
+      (full k d lt m, λ b t. ap (λ (x : Rates). finite.get x.users (pace_number (get_or us k d))) all ∙ (users_in r us rising keys k d lt ∙ ap Some (offer_full (user_ticks Down down groups (get_or us k d)) (user_ticks Up up groups (get_or us k d)) b t (get_or us k d) (full k d lt m))))
 
 -- other limits with the same rows
 pub groups_quiet_with : (r s : Rates) (marks : List Bool) (gs hs : List GroupPace) → s.groups ≡ r.groups → hs ≡ gs → AllMarked (IsQuietGroup r) marks gs → AllMarked (IsQuietGroup s) marks hs

@@ -43,7 +43,7 @@ min-left x m = omega arith
 min-right : (x m : ℕ) → min x m ≤ m
 min-right x m = omega arith
 
-group_same : (w : Way) (o : Option GroupPace) → group_row_credit w o ≡ group_credit w o
+pub group_same : (w : Way) (o : Option GroupPace) → group_row_credit w o ≡ group_credit w o
 group_same w None = refl
 group_same w (Some x) = refl
 
@@ -207,7 +207,7 @@ group_of_row g down up = record { group = g; down = down; up = up }
 
 user_of_row : UserRate → Credit → Credit → Credit → Credit → UserPace
 user_of_row row down up session_down session_up =
-    record { row = row; down = down; up = up; session_down = session_down; session_up = session_up }
+    record { row = row; down = down; up = up; session_down = session_down; session_up = session_up; down_owed = 0; up_owed = 0 }
 
 group_anew : (x : GroupRate) → new_group x ≡ changed_group [] x
 unfolding group_of_row

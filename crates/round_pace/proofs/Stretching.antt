@@ -12,8 +12,8 @@ use Rattle.round_pace.specs.Histories.{Held, after, after_all, IsHeld, AreHeld, 
 use Rattle.round_pace.specs.Paced.{Paced}
 use Rattle.round_pace.specs.Rounds.{Round, granted_where, is_in}
 use Rattle.round_pace.specs.Stretches.{Stretch, Lead, RatedRound, rated, rated_under, round_of, rates_where, changes_from, changes, AreWithin, IsWindowed, AreWindowed, StretchesKeepRates, OneStretchKeeps, ChangedRates}
-use Rattle.round_pace.proofs.Credited.{credit_under, charged}
-use Rattle.round_pace.proofs.Holding.{good_after, begun_next, granted_charged, granted_within, left_next, are_rounds}
+use Rattle.round_pace.proofs.Credited.{credit_under}
+use Rattle.round_pace.proofs.Holding.{good_after, begun_next, granted_within, left_next, are_rounds}
 use Rattle.round_pace.proofs.Kept.{keeps-window}
 use Rattle.round_pace.proofs.Limits.{IsWhole}
 use Rattle.round_pace.proofs.Rated.{AreRated, rated_from, fresh}
@@ -24,11 +24,11 @@ use Rattle.round_pace.proofs.StatedRates.{back}
 module _ (rates : Rates) (p : Paced) (h : Held) (good : Good rates p) (held : IsHeld p h) where
   spends : (n : Name) → rate_of rates n ≢ 0 → granted_under rates n h.leaves + (credit_under (after p h) n).left ≤ offered (rate_of rates n) (credit_under p n).left p.begun (tick_of h.now)
   spends n some =
-      rest (granted_under rates n h.leaves) (granted_under rates (charged n) h.leaves) (credit_under (after p h) n).left (offered (rate_of rates n) (credit_under p n).left p.begun (tick_of h.now))
-      (granted_within rates p h good held n some) (granted_charged rates n h.leaves) (left_next rates p h good held n some)
+      rest (granted_under rates n h.leaves) (credit_under (after p h) n).left (offered (rate_of rates n) (credit_under p n).left p.begun (tick_of h.now))
+      (granted_within rates p h good held n some) (left_next rates p h good held n some)
     where
-      rest : (g t l o : ℕ) → g ≤ o → g ≤ t → l ≡ o - t → g + l ≤ o
-      rest g t l o a b c = omega arith
+      rest : (g l o : ℕ) → g ≤ o → l ≤ o - g → g + l ≤ o
+      rest g l o a b = omega (arith, a, b)
 
 -- the rounds of a stretch, and those after it
 rounds_rated : (n : Name) (rates : Rates) (p : Paced) (hs : List Held) (rest : List RatedRound) → Good rates p → AreHeld p hs → AreRated (credit_under (after_all p hs) n).left (after_all p hs).begun rest

@@ -12,8 +12,9 @@ use Rattle.line_rates.specs.Put.{put_over, with_user}
 use Rattle.line_rates.specs.Rates.{Rates, Users}
 use Rattle.line_rates.specs.Stated.{by_number, user_number, IsRising}
 use Rattle.line_rates.proofs.RowLemmas.{first_row, get-by_number, same_test, rising_below}
+use Rattle.round_pace.specs.declared.paced.GroupPace.{GroupPace}
 use Rattle.round_pace.specs.declared.paced.UserPace.{UserPace}
-use Rattle.round_pace.specs.Offered.{offer_user, put_users}
+use Rattle.round_pace.specs.Offered.{handed_user, put_users}
 use Rattle.round_pace.specs.Paced.{pace_number, AreTheUsers}
 
 none_above : (q : ℕ) (us : List UserPace) → ((k : ℕ) (d : UserPace) → k < length us → q < pace_number (get_or us k d)) → first_row pace_number q us ≡ None
@@ -29,14 +30,14 @@ tail_rises u us up k d lt =
     let at : pace_number (get_or (u ∷ us) (suc k + 1) d) ≡ pace_number (get_or (u ∷ us) (suc (k + 1)) d) = ap (λ (n : ℕ). pace_number (get_or (u ∷ us) n d)) (let e : suc k + 1 ≡ suc (k + 1) = omega arith in e) in
     subst (λ (x : ℕ). pace_number (get_or us k d) < x) at next
 
-module _ (begun tick : ℕ) where
+module _ (down up : ℕ) (groups : List GroupPace) where
   -- what is found after a row was put over what was found before
   over : Option UserPace → Option UserRate → Option UserRate
   over None o = o
   over (Some u) None = None
-  over (Some u) (Some old) = Some (offer_user begun tick u)
+  over (Some u) (Some old) = Some (handed_user down up groups u)
 
-  put_here : (o : Option UserRate) (m : Users) (u : UserPace) (q : ℕ) → finite.get m (pace_number u) ≡ o → finite.get (put_over o m (pace_number u) (offer_user begun tick u)) q ≡ cond (nat_eq (pace_number u) q) (over (Some u) o) (finite.get m q)
+  put_here : (o : Option UserRate) (m : Users) (u : UserPace) (q : ℕ) → finite.get m (pace_number u) ≡ o → finite.get (put_over o m (pace_number u) (handed_user down up groups u)) q ≡ cond (nat_eq (pace_number u) q) (over (Some u) o) (finite.get m q)
   unfolding over
   put_here None m u q e = none (nat_eq (pace_number u) q) refl
     where
@@ -44,48 +45,48 @@ module _ (begun tick : ℕ) where
       none true t = ap (finite.get m) (sym (eqb-true (pace_number u) q t)) ∙ e
       none false t = refl
   put_here (Some old) m u q e =
-      get-insert nat_cmp_total m (pace_number u) (offer_user begun tick u) q
-      ∙ ap (λ b. cond b (Some (offer_user begun tick u)) (finite.get m q)) (same_test q (pace_number u) (nat_cmp q (pace_number u)) refl)
+      get-insert nat_cmp_total m (pace_number u) (handed_user down up groups u) q
+      ∙ ap (λ b. cond b (Some (handed_user down up groups u)) (finite.get m q)) (same_test q (pace_number u) (nat_cmp q (pace_number u)) refl)
 
-  users_after : (r : Rates) (u : UserPace) (q : ℕ) → finite.get (with_user r (offer_user begun tick u)).users q ≡ cond (nat_eq (pace_number u) q) (over (Some u) (finite.get r.users (pace_number u))) (finite.get r.users q)
+  users_after : (r : Rates) (u : UserPace) (q : ℕ) → finite.get (with_user r (handed_user down up groups u)).users q ≡ cond (nat_eq (pace_number u) q) (over (Some u) (finite.get r.users (pace_number u))) (finite.get r.users q)
   users_after r u q = put_here (finite.get r.users (pace_number u)) r.users u q refl
 
-  all_put : (r : Rates) (us : List UserPace) → IsRising pace_number us → (q : ℕ) → finite.get (put_users begun tick r us).users q ≡ over (first_row pace_number q us) (finite.get r.users q)
+  all_put : (r : Rates) (us : List UserPace) → IsRising pace_number us → (q : ℕ) → finite.get (put_users down up groups r us).users q ≡ over (first_row pace_number q us) (finite.get r.users q)
   unfolding over
-  all_put r [] up q = refl
-  all_put r (u ∷ us) up q =
-      all_put (with_user r (offer_user begun tick u)) us (tail_rises u us up) q
+  all_put r [] rising q = refl
+  all_put r (u ∷ us) rising q =
+      all_put (with_user r (handed_user down up groups u)) us (tail_rises u us rising) q
       ∙ (ap (over (first_row pace_number q us)) (users_after r u q) ∙ go (nat_eq (pace_number u) q) refl)
     where
       go : (b : Bool) → nat_eq (pace_number u) q ≡ b → over (first_row pace_number q us) (cond b (over (Some u) (finite.get r.users (pace_number u))) (finite.get r.users q)) ≡ over (cond b (Some u) (first_row pace_number q us)) (finite.get r.users q)
       go false t = refl
       go true t =
           let same : pace_number u ≡ q = eqb-true (pace_number u) q t in
-          let gone : first_row pace_number q us ≡ None = none_above q us (λ k d lt. let less : pace_number u < pace_number (get_or us k d) = rising_below pace_number (u ∷ us) up 0 (suc k) d (omega arith) (omega arith) in omega arith) in
+          let gone : first_row pace_number q us ≡ None = none_above q us (λ k d lt. let less : pace_number u < pace_number (get_or us k d) = rising_below pace_number (u ∷ us) rising 0 (suc k) d (omega arith) (omega arith) in omega arith) in
           ap (λ o. over o (over (Some u) (finite.get r.users (pace_number u)))) gone ∙ ap (λ (n : ℕ). over (Some u) (finite.get r.users n)) same
 
-  offered_first : (us : List UserPace) (q : ℕ) (o : Option UserRate) → is_some o ≡ is_some (first_row pace_number q us) → over (first_row pace_number q us) o ≡ first_row user_number q (map (offer_user begun tick) us)
+  offered_first : (us : List UserPace) (q : ℕ) (o : Option UserRate) → is_some o ≡ is_some (first_row pace_number q us) → over (first_row pace_number q us) o ≡ first_row user_number q (map (handed_user down up groups) us)
   unfolding over
   offered_first [] q None e = refl
   offered_first [] q (Some x) e = absurd (cc)
   offered_first (u ∷ us) q o e = go (λ f. offered_first us q o f) (nat_eq (pace_number u) q) e
     where
-      go : (is_some o ≡ is_some (first_row pace_number q us) → over (first_row pace_number q us) o ≡ first_row user_number q (map (offer_user begun tick) us)) → (b : Bool) → is_some o ≡ is_some (cond b (Some u) (first_row pace_number q us)) → over (cond b (Some u) (first_row pace_number q us)) o ≡ cond b (Some (offer_user begun tick u)) (first_row user_number q (map (offer_user begun tick) us))
+      go : (is_some o ≡ is_some (first_row pace_number q us) → over (first_row pace_number q us) o ≡ first_row user_number q (map (handed_user down up groups) us)) → (b : Bool) → is_some o ≡ is_some (cond b (Some u) (first_row pace_number q us)) → over (cond b (Some u) (first_row pace_number q us)) o ≡ cond b (Some (handed_user down up groups u)) (first_row user_number q (map (handed_user down up groups) us))
       go more false f = more f
       go more true f = some o f
         where
-          some : (o : Option UserRate) → is_some o ≡ true → over (Some u) o ≡ Some (offer_user begun tick u)
+          some : (o : Option UserRate) → is_some o ≡ true → over (Some u) o ≡ Some (handed_user down up groups u)
           some None g = absurd (cc)
           some (Some x) g = refl
 
-pub hands_users_in : (begun tick : ℕ) (r : Rates) (us : List UserPace) → IsRising pace_number us → AreTheUsers r us → (put_users begun tick r us).users ≡ by_number user_number (map (offer_user begun tick) us)
-hands_users_in begun tick r us up keys =
-    same_map nat_cmp_total nat_cmp-IsAntisymmetric (put_users begun tick r us).users (by_number user_number (map (offer_user begun tick) us))
-    (λ q. all_put begun tick r us up q
-    ∙ (offered_first begun tick us q (finite.get r.users q) (keys q ∙ ap is_some (get-by_number pace_number q us))
-    ∙ sym (get-by_number user_number q (map (offer_user begun tick) us))))
+pub hands_users_in : (down up : ℕ) (groups : List GroupPace) (r : Rates) (us : List UserPace) → IsRising pace_number us → AreTheUsers r us → (put_users down up groups r us).users ≡ by_number user_number (map (handed_user down up groups) us)
+hands_users_in down up groups r us rising keys =
+    same_map nat_cmp_total nat_cmp-IsAntisymmetric (put_users down up groups r us).users (by_number user_number (map (handed_user down up groups) us))
+    (λ q. all_put down up groups r us rising q
+    ∙ (offered_first down up groups us q (finite.get r.users q) (keys q ∙ ap is_some (get-by_number pace_number q us))
+    ∙ sym (get-by_number user_number q (map (handed_user down up groups) us))))
 
 -- nothing else is changed
-pub other_rates : (begun tick : ℕ) (r : Rates) (us : List UserPace) → ((put_users begun tick r us).server ≡ r.server) × ((put_users begun tick r us).down ≡ r.down) × ((put_users begun tick r us).up ≡ r.up) × ((put_users begun tick r us).groups ≡ r.groups)
-other_rates begun tick r [] = (refl, refl, refl, refl)
-other_rates begun tick r (u ∷ us) = other_rates begun tick (with_user r (offer_user begun tick u)) us
+pub other_rates : (down up : ℕ) (groups : List GroupPace) (r : Rates) (us : List UserPace) → ((put_users down up groups r us).server ≡ r.server) × ((put_users down up groups r us).down ≡ r.down) × ((put_users down up groups r us).up ≡ r.up) × ((put_users down up groups r us).groups ≡ r.groups)
+other_rates down up groups r [] = (refl, refl, refl, refl)
+other_rates down up groups r (u ∷ us) = other_rates down up groups (with_user r (handed_user down up groups u)) us

@@ -16,7 +16,8 @@ use Rattle.round_pace.specs.Rows.{group_credit, user_credit, session_credit}
 abbrev pub changed_credit : ℕ → Credit → Credit
 changed_credit rate c = record { rate = rate; left = min c.left (most_kept rate) }
 
--- new rows: what was left under the same number; nothing for a number that had no row
+-- new rows: what was left under the same number; nothing for a number that had no row. Of a
+-- guarantee nothing is kept: the new one is owed from then on.
 abbrev pub changed_group : List GroupPace → GroupRate → GroupPace
 changed_group groups row = record {
   group = row.group;
@@ -31,6 +32,8 @@ changed_user users row = record {
   up = changed_credit row.up (user_credit Up users row.user);
   session_down = changed_credit row.session_down (session_credit Down users row.user);
   session_up = changed_credit row.session_up (session_credit Up users row.user);
+  down_owed = 0;
+  up_owed = 0;
 }
 
 -- The pace after a change to some rates: the same ticks have begun, and under each name what was

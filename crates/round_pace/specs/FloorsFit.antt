@@ -1,27 +1,34 @@
--- The guarantees in a round, and when they fit.
-use Rattle.std.specs.Prelude.{ℕ, ◌+◌, ◌%◌, ◌-◌, ◌≤◌, min, List, map, sum}
-use Rattle.line_rates.specs.declared.rate.TheConstants.{MAX_RATE}
-use Rattle.round_pace.specs.Earned.{share, begun_in, refilled}
-use Rattle.round_pace.specs.declared.credit.TheConstants.{TICKS}
+-- Guarantees that are owed, in 500ths of an octet, and the part of them that is handed in.
+use Rattle.std.specs.Prelude.{ℕ, ◌+◌, ◌*◌, ◌/◌, ◌%◌, ◌-◌, min, nat_eq, if◌then◌else◌}
+use Rattle.round_pace.specs.Earned.{begun_in, carried}
+use Rattle.round_pace.specs.declared.credit.Credit.{Credit}
+use Rattle.round_pace.specs.declared.credit.TheConstants.{TICKS, MOST_OWED}
 
--- number of ticks that a round's guarantees are for: those since the ticks begun before, at most 50
+-- number of ticks that have begun in the second of a tick since the ticks begun before
+abbrev pub ticks_since : ℕ → ℕ → ℕ
+ticks_since begun tick = tick % TICKS + 1 - begun_in begun tick
+
+-- at most a tenth of a second of them
 abbrev pub ticks_due : ℕ → ℕ → ℕ
-ticks_due begun tick = min (tick % TICKS + 1 - begun_in begun tick) 50
+ticks_due begun tick = min (ticks_since begun tick) MOST_OWED
 
--- the guarantee in the first round of a tick, in whole octets
+-- number of ticks whose earnings a rate has left, at most a tenth of a second; no limit has that
+abbrev pub ticks_left : Credit → ℕ
+ticks_left c =
+    if nat_eq c.rate 0 then MOST_OWED
+    else min ((c.left * TICKS + (TICKS - 1)) / c.rate) MOST_OWED
+
+-- The debt of a guarantee as a tick begins: in each tick its rate more, and nothing of an earlier
+-- second. At most a tenth of a second is owed.
+abbrev pub owed_in : ℕ → ℕ → ℕ → ℕ → ℕ
+owed_in floor owed begun tick =
+    min (carried owed (begun_in begun tick) + floor * ticks_since begun tick) (floor * MOST_OWED)
+
+-- the debt after octets were granted
+abbrev pub owed_after : ℕ → ℕ → ℕ
+owed_after octets owed = owed - octets * TICKS
+
+-- the octets of a guarantee in a round: what is owed, and at most that of the ticks that the rates
+-- have left
 abbrev pub floor_in : ℕ → ℕ → ℕ → ℕ
-floor_in begun tick floor = share floor (ticks_due begun tick)
-
--- Guarantees of sessions that are within a rate are within what the first round of a tick is
--- offered under it.
-abbrev pub FloorsFitOffers : Type 0
-FloorsFitOffers =
-    (rate left begun tick : ℕ) (floors : List ℕ) → rate ≤ MAX_RATE → begun ≤ tick
-    → sum floors ≤ rate
-    → sum (map (floor_in begun tick) floors) ≤ refilled rate left begun tick
-
--- The same for one session and its session rate.
-abbrev pub FloorFitsSession : Type 0
-FloorFitsSession =
-    (rate left begun tick floor : ℕ) → rate ≤ MAX_RATE → begun ≤ tick → floor ≤ rate
-    → floor_in begun tick floor ≤ refilled rate left begun tick
+floor_in floor owed ticks = min owed (floor * ticks) / TICKS

@@ -1,22 +1,29 @@
 -- The invariant of a pace: its rows, and the limits that were written last.
-use Rattle.std.specs.Prelude.{◌≡◌, ℕ, ◌<◌, Bool, true, List, map}
+use Rattle.std.specs.Prelude.{◌≡◌, ℕ, Bool, true, List}
 use Rattle.std.specs.List.{All}
 use Rattle.line_rates.specs.Rates.{Rates}
-use Rattle.line_rates.specs.Stated.{stated, IsRising}
+use Rattle.line_rates.specs.Stated.{IsRising}
 use Rattle.round_pace.specs.declared.credit.Credit.{Credit}
 use Rattle.round_pace.specs.declared.paced.GroupPace.{GroupPace}
 use Rattle.round_pace.specs.declared.paced.UserPace.{UserPace}
 use Rattle.round_pace.specs.Credits.{IsCredit}
-use Rattle.round_pace.specs.Offered.{credit_rate, offer_group, offer_user}
+use Rattle.round_pace.specs.Offered.{left_rates}
 use Rattle.round_pace.specs.Paced.{group_key, pace_number, IsGroupPace, IsUserPace, AreTheGroups, AreTheUsers}
 use Rattle.round_pace.specs.Quiet.{AllMarked, IsQuietGroup, IsQuietUser}
 
--- the limits are those of the rows, for each round of a tick that has begun
+-- the limits are those of the rows
 abbrev pub AreHanded : ℕ → Credit → Credit → Credit → List GroupPace → List UserPace → Rates
     → Type 0
-AreHanded begun server down up groups users offered = (tick : ℕ) → tick < begun
-    → stated (credit_rate server) (credit_rate down) (credit_rate up) (map offer_group groups)
-    (map (offer_user begun tick) users) ≡ offered
+AreHanded begun server down up groups users offered = left_rates (record {
+  begun = begun;
+  moment = 0;
+  server = server;
+  down = down;
+  up = up;
+  groups = groups;
+  users = users;
+  offered = offered;
+}) ≡ offered
 
 -- the rows: those of the rates handed in, sorted by number
 pub record IsPaced (begun : ℕ) (is_handed : Bool) (server down up : Credit)

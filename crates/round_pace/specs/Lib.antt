@@ -8,6 +8,9 @@ pub mod Offered
 pub mod Quiet
 pub mod Handed
 pub mod Taken
+pub mod OwnParts
+pub mod OverTime
+pub mod Given
 pub mod Spent
 pub mod Histories
 pub mod Rows

@@ -13,7 +13,11 @@ use Rattle.round_pace.specs.declared.paced.GroupPace.{GroupPace}
 use Rattle.round_pace.specs.declared.paced.UserPace.{UserPace}
 use Rattle.round_pace.specs.Credits.{refill_row, is_dry}
 use Rattle.round_pace.specs.Earned.{tick_of, as_rate}
-use Rattle.round_pace.specs.FloorsFit.{floor_in}
+use Rattle.round_pace.specs.FloorsFit.{ticks_left, owed_in, floor_in}
+use Rattle.round_pace.specs.Rows.{group_credit}
+use Rattle.round_pace.specs.Spent.{credit_of}
+use Rattle.line_rates.specs.declared.ask.Way.{Way}
+use Rattle.line_rates.specs.declared.ask.Way.TheVariants.{Down, Up}
 use Rattle.round_pace.specs.Paced.{Paced, group_key, pace_number, AreTheGroups, AreTheUsers}
 use Rattle.round_pace.specs.declared.credit.TheConstants.{TICK_MICROS}
 
@@ -28,6 +32,8 @@ refill_user begun tick u = record {
   up = refill_row begun tick u.up;
   session_down = refill_row begun tick u.session_down;
   session_up = refill_row begun tick u.session_up;
+  down_owed = owed_in u.row.session_down_floor u.down_owed begun tick;
+  up_owed = owed_in u.row.session_up_floor u.up_owed begun tick;
 }
 
 -- all rows after the refill, in the first round of a tick
@@ -46,38 +52,61 @@ refill_all tick p = if nat_le p.begun tick then record {
 abbrev pub credit_rate : Credit → ℕ
 credit_rate c = as_rate c.rate c.left
 
--- the guarantee of a session in a round, in the first round of a tick
+-- the rate that is handed in for a guarantee in a round
 abbrev pub floor_rate : ℕ → ℕ → ℕ → ℕ
-floor_rate floor begun tick = if nat_le begun tick then 10 * floor_in begun tick floor else 0
+floor_rate floor owed ticks = 10 * floor_in floor owed ticks
 
 abbrev pub offer_group : GroupPace → GroupRate
 offer_group g = record { group = g.group; down = credit_rate g.down; up = credit_rate g.up }
 
--- a user's row for a round in a tick, after `begun` ticks had begun before it
+-- the debt to each session of a user
+abbrev pub owed_of : Way → UserPace → ℕ
+owed_of Down u = u.down_owed
+owed_of Up u = u.up_owed
+
+-- the ticks whose earnings each rate of the line has left, and those that each rate of a user has
+abbrev pub line_ticks : Way → Paced → ℕ
+line_ticks way p = min (ticks_left p.server) (ticks_left (credit_of way p.down p.up))
+
+abbrev pub user_ticks : Way → ℕ → List GroupPace → UserPace → ℕ
+user_ticks way line groups u =
+    min (min line (ticks_left (group_credit way groups u.row.group)))
+    (min (ticks_left (credit_of way u.down u.up))
+    (ticks_left (credit_of way u.session_down u.session_up)))
+
+-- a user's row for a round, whose rates have these ticks left
 abbrev pub offer_user : ℕ → ℕ → UserPace → UserRate
-offer_user begun tick u = record {
+offer_user down up u = record {
   user = u.row.user;
   group = u.row.group;
   down = credit_rate u.down;
   up = credit_rate u.up;
   session_down = credit_rate u.session_down;
   session_up = credit_rate u.session_up;
-  session_down_floor = floor_rate u.row.session_down_floor begun tick;
-  session_up_floor = floor_rate u.row.session_up_floor begun tick;
+  session_down_floor = floor_rate u.row.session_down_floor u.down_owed down;
+  session_up_floor = floor_rate u.row.session_up_floor u.up_owed up;
 }
+
+-- a user's row for a round, if the rates of the line have these ticks left
+abbrev pub handed_user : ℕ → ℕ → List GroupPace → UserPace → UserRate
+handed_user down up groups u =
+    offer_user (user_ticks Down down groups u) (user_ticks Up up groups u) u
 
 abbrev pub put_groups : Rates → List GroupPace → Rates
 put_groups rates groups = fold (λ r g. with_group r (offer_group g)) rates groups
 
-abbrev pub put_users : ℕ → ℕ → Rates → List UserPace → Rates
-put_users begun tick rates users = fold (λ r u. with_user r (offer_user begun tick u)) rates users
+abbrev pub put_users : ℕ → ℕ → List GroupPace → Rates → List UserPace → Rates
+put_users down up groups rates users =
+    fold (λ r u. with_user r (handed_user down up groups u)) rates users
 
 abbrev pub put_line : Rates → Paced → Rates
 put_line rates p = with_line rates (credit_rate p.server) (credit_rate p.down) (credit_rate p.up)
 
 -- the rates that a round is handed; they replace those of the round before
-abbrev pub offer_all : ℕ → ℕ → Paced → Rates
-offer_all begun tick p = put_users begun tick (put_groups (put_line p.offered p) p.groups) p.users
+abbrev pub offer_all : Paced → Rates
+offer_all p =
+    put_users (line_ticks Down p) (line_ticks Up p) p.groups
+    (put_groups (put_line p.offered p) p.groups) p.users
 
 abbrev pub with_offered : Rates → Paced → Paced
 with_offered rates p = record {
@@ -94,19 +123,20 @@ with_offered rates p = record {
 -- The pace after a round was offered in a tick: the rows are refilled if it is the first of the
 -- tick, the moment is a second later, and the rates are those of the rows.
 abbrev pub offer_round : ℕ → Paced → Paced
-offer_round tick p = with_offered (offer_all p.begun tick (refill_all tick p)) (refill_all tick p)
+offer_round tick p = with_offered (offer_all (refill_all tick p)) (refill_all tick p)
 
 -- the rates of the rows: what is left under each rate
-abbrev pub left_rates : ℕ → ℕ → Paced → Rates
-left_rates begun tick p = stated (credit_rate p.server) (credit_rate p.down) (credit_rate p.up)
-    (map offer_group p.groups) (map (offer_user begun tick) p.users)
+abbrev pub left_rates : Paced → Rates
+left_rates p = stated (credit_rate p.server) (credit_rate p.down) (credit_rate p.up)
+    (map offer_group p.groups)
+    (map (handed_user (line_ticks Down p) (line_ticks Up p) p.groups) p.users)
 
 -- The rates handed in are those of the rows, and there is no other row.
 abbrev pub HandsRowsIn : Type 0
 HandsRowsIn =
-    (begun tick : ℕ) (p : Paced) → IsRising group_key p.groups → IsRising pace_number p.users
+    (p : Paced) → IsRising group_key p.groups → IsRising pace_number p.users
     → AreTheGroups p.offered p.groups → AreTheUsers p.offered p.users
-    → offer_all begun tick p ≡ left_rates begun tick p
+    → offer_all p ≡ left_rates p
 
 -- The earliest moment of the next round: now, if the tick has not begun or something can be
 -- granted; otherwise the start of the next tick.

@@ -1,5 +1,5 @@
 -- Paced rates of a line.
-use Rattle.std.specs.Prelude.{◌≡◌, ℕ, List, map, refl}
+use Rattle.std.specs.Prelude.{◌≡◌, ℕ, ◌*◌, ◌≤◌, List, map, refl}
 use Rattle.std.specs.Coded.{Coded, code_by, coded×, coded_ℕ, coded_list}
 use Rattle.std.specs.FinMap as finite
 use Rattle.std.specs.Option.{is_some}
@@ -11,6 +11,7 @@ use Rattle.round_pace.specs.declared.credit.Credit.{Credit}
 use Rattle.round_pace.specs.declared.paced.GroupPace.{GroupPace}
 use Rattle.round_pace.specs.declared.paced.UserPace.{UserPace}
 use Rattle.round_pace.specs.Credits.{IsCredit}
+use Rattle.round_pace.specs.declared.credit.TheConstants.{MOST_OWED}
 
 -- the number of real ticks begun, the moment of the last round, the rows, and the rates handed in
 -- last
@@ -38,6 +39,8 @@ pub record IsUserPace (u : UserPace) : Type 0 where
   pub up_rate : u.up.rate ≡ u.row.up
   pub session_down_rate : u.session_down.rate ≡ u.row.session_down
   pub session_up_rate : u.session_up.rate ≡ u.row.session_up
+  pub down_owed : u.down_owed ≤ u.row.session_down_floor * MOST_OWED
+  pub up_owed : u.up_owed ≤ u.row.session_up_floor * MOST_OWED
 
 abbrev pub group_key : GroupPace → ℕ
 group_key g = g.group
@@ -68,6 +71,8 @@ new_user row = record {
   up = no_credit row.up;
   session_down = no_credit row.session_down;
   session_up = no_credit row.session_up;
+  down_owed = 0;
+  up_owed = 0;
 }
 
 -- the pace of some rates, with nothing earned
@@ -101,15 +106,18 @@ group_pace_code = code_by (ℕ × (Credit × Credit)) (coded× coded_ℕ (coded�
 
 abbrev pub user_pace_code : Coded UserPace
 user_pace_code =
-    code_by (UserRate × ((Credit × Credit) × (Credit × Credit)))
-    (coded× user_code (coded× (coded× credit_code credit_code) (coded× credit_code credit_code)))
-    (λ u. (u.row, ((u.down, u.up), (u.session_down, u.session_up))))
+    code_by (UserRate × ((Credit × Credit) × ((Credit × Credit) × (ℕ × ℕ))))
+    (coded× user_code (coded× (coded× credit_code credit_code)
+    (coded× (coded× credit_code credit_code) (coded× coded_ℕ coded_ℕ))))
+    (λ u. (u.row, ((u.down, u.up), ((u.session_down, u.session_up), (u.down_owed, u.up_owed)))))
     (λ p. record {
       row = p.0;
       down = p.1.0.0;
       up = p.1.0.1;
-      session_down = p.1.1.0;
-      session_up = p.1.1.1;
+      session_down = p.1.1.0.0;
+      session_up = p.1.1.0.1;
+      down_owed = p.1.1.1.0;
+      up_owed = p.1.1.1.1;
     })
     (λ _. refl)
 

@@ -39,8 +39,8 @@ IsQuietGroup offered g =
 abbrev pub IsQuietUser : Rates → UserPace → Type 0
 IsQuietUser offered u =
     (is_full_user u ≡ true)
-    × ((begun tick : ℕ)
-    → finite.get offered.users (pace_number u) ≡ Some (offer_user begun tick u))
+    × ((down up : ℕ)
+    → finite.get offered.users (pace_number u) ≡ Some (offer_user down up u))
 
 -- Rows were changed: each with a mark had it before, and is the same.
 abbrev pub KeepMarked : {X : Type 0} → List Bool → List X → List Bool → List X → Type 0

@@ -102,14 +102,14 @@ ReachesRates =
     → ArePrompt (TICKS * second) (r ∷ rs) → begun_last begun (r ∷ rs) ≡ TICKS * second + TICKS
     → sum_by granted_of (r ∷ rs) ≡ rate
 
--- a round under a session's rate: its real moment, its grants to the session, and its grants to all
--- sessions of the user, which are subtracted from what is left of any
+-- a round under a session's rate: its real moment, its grants to the session, and the octets taken
+-- from the credit of the user's sessions: the most that it grants to one of them
 pub record SessionRound : Type 0 where
   pub now : ℕ
   pub granted : ℕ
   pub taken : ℕ
 
--- the round with its grants to the session, and with those to all sessions
+-- the round with its grants to the session, and with what is subtracted
 abbrev pub own_round : SessionRound → Round
 own_round r = record { now = r.now; granted = r.granted }
 

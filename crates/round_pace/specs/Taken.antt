@@ -9,6 +9,7 @@ use Rattle.round_pace.specs.declared.paced.GroupPace.{GroupPace}
 use Rattle.round_pace.specs.declared.paced.UserPace.{UserPace}
 use Rattle.round_pace.specs.Credits.{take_row}
 use Rattle.round_pace.specs.Paced.{Paced, group_key, pace_number}
+use Rattle.round_pace.specs.FloorsFit.{owed_after}
 
 abbrev pub take_if_down : Way → ℕ → Credit → Credit
 take_if_down Down octets c = take_row octets c
@@ -26,13 +27,25 @@ take_group way octets g =
       up = take_if_up way octets g.up;
     }
 
-abbrev pub take_user : Way → ℕ → UserPace → UserPace
-take_user way octets u = record {
+-- the debt to each of a user's sessions of the way is less
+abbrev pub owed_if_down : Way → ℕ → ℕ → ℕ
+owed_if_down Down octets owed = owed_after octets owed
+owed_if_down Up octets owed = owed
+
+abbrev pub owed_if_up : Way → ℕ → ℕ → ℕ
+owed_if_up Down octets owed = owed
+owed_if_up Up octets owed = owed_after octets owed
+
+-- a user's rows after octets were granted, of which `own` are taken from each of their sessions
+abbrev pub take_user : Way → ℕ → ℕ → UserPace → UserPace
+take_user way octets own u = record {
   row = u.row;
   down = take_if_down way octets u.down;
   up = take_if_up way octets u.up;
-  session_down = take_if_down way octets u.session_down;
-  session_up = take_if_up way octets u.session_up;
+  session_down = take_if_down way own u.session_down;
+  session_up = take_if_up way own u.session_up;
+  down_owed = owed_if_down way own u.down_owed;
+  up_owed = owed_if_up way own u.up_owed;
 }
 
 abbrev pub group_in : Option UserPace → Option ℕ
@@ -45,9 +58,9 @@ group_of users user = group_in (finite.get (by_number pace_number users) user)
 
 -- the rows after octets were granted to a user; those of groups after octets were granted to a user
 -- in a group
-abbrev pub take_users : Way → ℕ → ℕ → List UserPace → List UserPace
-take_users way user octets users =
-    map (λ u. if nat_eq (pace_number u) user then take_user way octets u else u) users
+abbrev pub take_users : Way → ℕ → ℕ → ℕ → List UserPace → List UserPace
+take_users way user octets own users =
+    map (λ u. if nat_eq (pace_number u) user then take_user way octets own u else u) users
 
 abbrev pub take_groups : Way → Option ℕ → ℕ → List GroupPace → List GroupPace
 take_groups way None octets groups = groups
@@ -67,15 +80,15 @@ take_from_line way octets p = record {
   offered = p.offered;
 }
 
--- the pace after octets of a way were granted to a user
-abbrev pub take_octets : Way → ℕ → ℕ → Paced → Paced
-take_octets way user octets p = record {
+-- the pace after octets of a way were granted to a user, of which `own` are taken from each session
+abbrev pub take_octets : Way → ℕ → ℕ → ℕ → Paced → Paced
+take_octets way user octets own p = record {
   begun = p.begun;
   moment = p.moment;
   server = take_row octets p.server;
   down = take_if_down way octets p.down;
   up = take_if_up way octets p.up;
   groups = take_groups way (group_of p.users user) octets p.groups;
-  users = take_users way user octets p.users;
+  users = take_users way user octets own p.users;
   offered = p.offered;
 }

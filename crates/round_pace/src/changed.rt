@@ -38,6 +38,8 @@ fn changed_user(users: &[UserPace], row: UserRate) -> UserPace
         up: changed_credit(row.up, user_credit(users, row.user, Way::Up)),
         session_down: changed_credit(row.session_down, session_credit(users, row.user, Way::Down)),
         session_up: changed_credit(row.session_up, session_credit(users, row.user, Way::Up)),
+        down_owed: 0,
+        up_owed: 0,
     }
 }
 

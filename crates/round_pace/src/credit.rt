@@ -1,10 +1,11 @@
 //! Credits: what a rate has earned and no round has granted.
 
-ghost use Rattle.std.specs.Prelude.{◌≡◌, ◌≤◌};
+ghost use Rattle.std.specs.Prelude.{◌≡◌, ◌≤◌, ◌*◌};
 ghost use Rattle.round_pace.specs.Credits.{IsCredit, refill_row, take_row, is_dry};
 ghost use Rattle.round_pace.specs.Earned.{share, begun_in, refilled, most_kept, as_rate};
 ghost use Rattle.round_pace.specs.Changed.{changed_credit};
-ghost use Rattle.round_pace.specs.FloorsFit.{floor_in};
+ghost use Rattle.round_pace.specs.FloorsFit.{ticks_left, owed_in, owed_after, floor_in};
+ghost use Rattle.round_pace.specs.declared.credit.TheConstants.{MOST_OWED};
 ghost use Rattle.round_pace.specs.Quiet.{is_full};
 
 use line_rates::MAX_RATE;
@@ -14,6 +15,9 @@ pub const TICK_MICROS: u64 = 2_000;
 
 /// Number of real ticks in a second.
 pub const TICKS: u64 = 500;
+
+/// The most ticks of a guarantee that are owed: those of a tenth of a second, which is what a rate keeps.
+pub const MOST_OWED: u64 = 50;
 
 /// The most that a round can be offered under a rate, in octets.
 pub const MOST_OFFERED: u64 = 109_951_162_777;
@@ -79,14 +83,47 @@ pub(crate) fn as_rate(credit: Credit) -> u64
     10 * credit.left + 1
 }
 
-/// The guarantee of a session in the first round of a tick, if `begun` ticks had begun before.
-pub(crate) fn floor_in(floor: u64, begun: u64, tick: u64) -> u64
+/// Number of ticks whose earnings a rate has left, and at most [`MOST_OWED`], which is that of no limit.
+pub(crate) fn ticks_left(credit: Credit) -> u64
+    requires credit { IsCredit credit }
+    ensures ticks { result ≡ ticks_left credit }
+    ensures most { result ≤ MOST_OWED }
+{
+    if credit.rate == 0 {
+        return MOST_OWED;
+    }
+    ((credit.left * TICKS + (TICKS - 1)) / credit.rate).min(MOST_OWED)
+}
+
+/// The debt of a guarantee as a tick begins, in 500ths of an octet, if `begun` ticks had begun before.
+pub(crate) fn owed_in(floor: u64, owed: u64, begun: u64, tick: u64) -> u64
     requires rate { floor ≤ MAX_RATE }
     requires later { begun ≤ tick }
-    ensures floor { result ≡ floor_in begun tick floor }
+    ensures owed { result ≡ owed_in floor owed begun tick }
+    ensures most { result ≤ floor * MOST_OWED }
 {
-    let ticks = tick % TICKS + 1 - begun_in(begun, tick);
-    share(floor, ticks.min(TICKS / 10))
+    let before = begun_in(begun, tick);
+    let carried = if before == 0 { 0 } else { owed };
+    let earned = floor * (tick % TICKS + 1 - before);
+    carried.saturating_add(earned).min(floor * MOST_OWED)
+}
+
+/// The debt of a guarantee after octets were granted, in 500ths of an octet.
+pub(crate) fn owed_after(octets: u64, owed: u64) -> u64
+    ensures owed { result ≡ owed_after octets owed }
+    ensures most { result ≤ owed }
+{
+    owed.saturating_sub(octets.saturating_mul(TICKS))
+}
+
+/// The octets of a guarantee in a round, of which this is owed, if the rates have this number of ticks left.
+pub(crate) fn floor_in(floor: u64, owed: u64, ticks: u64) -> u64
+    requires rate { floor ≤ MAX_RATE }
+    requires ticks { ticks ≤ MOST_OWED }
+    ensures floor { result ≡ floor_in floor owed ticks }
+    ensures most { 10 * result ≤ floor }
+{
+    owed.min(floor * ticks) / TICKS
 }
 
 /// A credit as a tick begins, if `begun` ticks had begun before.

@@ -5,8 +5,9 @@ ghost use Rattle.round_pace.specs.Earned.{OffersCredits};
 ghost use Rattle.round_pace.specs.Histories.{HistoriesAreRounds, HistoriesKeepRates, RatesStay, NewRates, TicksBegin};
 ghost use Rattle.round_pace.specs.Stretches.{StretchesKeepRates, OneStretchKeeps, ChangedRates, NewIsChanged};
 ghost use Rattle.round_pace.specs.Offered.{HandsRowsIn};
-ghost use Rattle.round_pace.specs.FloorsFit.{FloorsFitOffers, FloorFitsSession};
-ghost use Rattle.round_pace.specs.PromisesOffered.{PromisesStayFit, EarnsItsTicks};
+ghost use Rattle.round_pace.specs.PromisesOffered.{OwedFits, LeftTicksFit, TicksAreLeft, EarnsItsTicks};
+ghost use Rattle.round_pace.specs.Given.{RoundsGive};
+ghost use Rattle.round_pace.specs.OverTime.{KeepsGuarantees};
 ghost use Rattle.round_pace.specs.Guaranteed.{StretchesAreGuaranteed, NextIsGuaranteed, HistoriesAreGuaranteed};
 
 use rate_floors::promises_are_kept;
@@ -34,12 +35,21 @@ pub fn rates_are_reached()
     ensures reached { ReachesRates }
 {}
 
-/// Guarantees of counted sessions that are within the rates are within what a tick's first round is offered.
+/// Guarantees of counted sessions that are within the rates are within what is left of them in any round, if each is
+/// handed in for at most the ticks whose earnings each of its rates has left.
 pub fn floors_fit_what_is_offered()
-    ensures rows { FloorsFitOffers }
-    ensures sessions { FloorFitsSession }
-    ensures promises { PromisesStayFit }
+    ensures promises { OwedFits }
+    ensures fit { LeftTicksFit }
+    ensures left { TicksAreLeft }
     ensures ticks { EarnsItsTicks }
+{}
+
+/// A round that was held gives each ask all that it wants or what is handed in for its session's guarantee. Once a session
+/// has asked in a round of a second for at least that, it has been granted its guarantee for all ticks of the second that
+/// have begun, whatever rounds were held without it, if nothing of what it was owed was cut and its rates have left it.
+pub fn guarantees_are_kept()
+    ensures given { RoundsGive }
+    ensures kept { KeepsGuarantees }
 {}
 
 /// The limits that a round is handed are those of the rows: what is left under each rate.

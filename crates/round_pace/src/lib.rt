@@ -11,7 +11,7 @@
 //! let mut pace = Pace::of(alloc, limits, 0)?;
 //! assert!(rt; pace.offer(0) == 1_000); // the moment of the first round
 //! assert!(rt; pace.limits().rate(Name::Server) == 21); // which lets 2 octets through then
-//! pace.took(Way::Down, 7, 2); // granted to user 7
+//! pace.took(Way::Down, 7, 2, 2); // granted to user 7
 //! assert!(rt; pace.due(1_999) == Due::At(2_000)); // when the next tick begins
 //! ```
 #![tactic(auto)]
@@ -28,8 +28,9 @@ mod rows;
 pub use credit::{Credit, MOST_OFFERED, TICK_MICROS, TICKS};
 pub use due::Due;
 pub use laws::{
-    credits_are_offered, floors_fit_what_is_offered, guarantees_are_offered, histories_keep_rates,
-    nothing_is_lost, rates_are_kept, rates_are_reached, rows_are_handed_in, stretches_keep_rates,
+    credits_are_offered, floors_fit_what_is_offered, guarantees_are_kept, guarantees_are_offered,
+    histories_keep_rates, nothing_is_lost, rates_are_kept, rates_are_reached, rows_are_handed_in,
+    stretches_keep_rates,
 };
 pub use pace::Pace;
 pub use paced::{GroupPace, UserPace};

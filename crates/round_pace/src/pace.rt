@@ -14,8 +14,8 @@ use crate::credit::{Credit, TICK_MICROS, changed_credit, is_dry, refill_row, tak
 use crate::due::Due;
 use crate::paced::{
     GroupPace, UserPace, credit_of, credit_rate, group_of, is_group_spent, is_user_spent,
-    put_groups, put_users, refill_groups, refill_users, take_groups, take_if_down, take_if_up,
-    take_users,
+    line_ticks, put_groups, put_users, refill_groups, refill_users, take_groups, take_if_down,
+    take_if_up, take_users,
 };
 use crate::quiet::begin_second;
 use crate::rows::{TransferRows, group_credit, has_floor, session_credit, user_credit};
@@ -37,7 +37,7 @@ pub struct Pace<A: Allocator = Global> {
     quiet_groups: Vec<bool, A>,
     quiet_users: Vec<bool, A>,
     offered: Limits<A>,
-    // the limits are those of the rows for each round of a tick that has begun
+    // the limits are those of the rows
     is_handed: bool,
 }
 
@@ -107,6 +107,8 @@ fn new_users<A: Allocator>(alloc: A, rows: &[UserRate]) -> Result<Vec<UserPace, 
                 rate: row.session_up,
                 left: 0,
             },
+            down_owed: 0,
+            up_owed: 0,
         })?;
     }
     Ok(users)
@@ -195,11 +197,10 @@ impl<A: Allocator> Pace<A> {
         self.is_handed = false;
     }
 
-    // Writes what is left into the limits, for a round of a tick that has begun, after `begun` ticks had begun before it.
-    fn hand_in(&mut self, begun: u64, tick: u64)
-        requires later { tick < self.old.begun }
-        ensures offered { self.new ≡ with_offered (offer_all begun tick self.old) self.old }
-        ensures handed { self.new.offered ≡ left_rates begun tick self.new }
+    // Writes what is left into the limits, for a round of a tick that has begun.
+    fn hand_in(&mut self)
+        ensures offered { self.new ≡ with_offered (offer_all self.old) self.old }
+        ensures handed { self.new.offered ≡ left_rates self.new }
     {
         self.offered.put_line(
             credit_rate(self.server),
@@ -207,14 +208,17 @@ impl<A: Allocator> Pace<A> {
             credit_rate(self.up),
         );
         put_groups(&mut self.offered, &self.groups, &mut self.quiet_groups);
+        let down = line_ticks(self.server, self.down);
+        let up = line_ticks(self.server, self.up);
         put_users(
             &mut self.offered,
             &self.users,
             &mut self.quiet_users,
-            begun,
-            tick,
+            &self.groups,
+            down,
+            up,
         );
-        self.is_handed = begun == self.begun;
+        self.is_handed = true;
         self.moment = self.moment.saturating_add(1_000);
     }
 
@@ -222,17 +226,16 @@ impl<A: Allocator> Pace<A> {
     /// The limits are not written again if nothing was subtracted since a round of the same tick was offered.
     pub fn offer(&mut self, now: u64) -> u64
         ensures round { self.new ≡ offer_round (tick_of now) self.old }
-        ensures handed { self.new.offered ≡ left_rates self.old.begun (tick_of now) self.new }
+        ensures handed { self.new.offered ≡ left_rates self.new }
         ensures moment { result ≡ self.new.moment }
     {
         let tick = now / TICK_MICROS;
-        let begun = self.begun;
-        if tick < begun && self.is_handed {
+        if tick < self.begun && self.is_handed {
             self.moment = self.moment.saturating_add(1_000);
             return self.moment;
         }
         self.begin(tick);
-        self.hand_in(begun, tick);
+        self.hand_in();
         self.moment
     }
 
@@ -257,15 +260,23 @@ impl<A: Allocator> Pace<A> {
         self.up = up;
     }
 
-    /// Subtracts octets granted to a user from what is left under the rates of the server, the way, the user, their
-    /// group and their sessions.
-    pub fn took(&mut self, way: Way, user: u32, octets: u64)
-        ensures taken { self.new ≡ take_octets way user octets self.old }
+    /// Subtracts octets granted to a user from what is left under the rates of the server, the way, the user and their
+    /// group, and `own` of them from what each session of the user has left and is owed at least: that by which the
+    /// session has been granted more in this round than any session of the user before.
+    pub fn took(&mut self, way: Way, user: u32, octets: u64, own: u64)
+        ensures taken { self.new ≡ take_octets way user octets own self.old }
     {
         let group = group_of(&self.users, user);
         self.take_line(way, octets);
         let same_groups = take_groups(&mut self.groups, &mut self.quiet_groups, group, way, octets);
-        let same_users = take_users(&mut self.users, &mut self.quiet_users, user, way, octets);
+        let same_users = take_users(
+            &mut self.users,
+            &mut self.quiet_users,
+            user,
+            way,
+            octets,
+            own,
+        );
         self.is_handed = self.is_handed && same_groups && same_users;
     }
 

@@ -1,18 +1,24 @@
 //! Paced rates of groups and users.
 
-ghost use Rattle.std.specs.Prelude.{◌≡◌, ◌≤◌, true, map, Some};
+ghost use Rattle.std.specs.Prelude.{◌≡◌, ◌≤◌, min, true, map, Some};
 ghost use Rattle.std.specs.List.{All};
 ghost use Rattle.line_rates.specs.Put.{FindsPlace};
 ghost use Rattle.line_rates.specs.Stated.{FitsGroup, FitsUser, IsRising};
 ghost use Rattle.round_pace.specs.Credits.{IsCredit};
-ghost use Rattle.round_pace.specs.Offered.{refill_group, refill_user, credit_rate, floor_rate, offer_group, offer_user, put_groups, put_users};
+ghost use Rattle.round_pace.specs.FloorsFit.{ticks_left};
+ghost use Rattle.round_pace.specs.Offered.{refill_group, refill_user, credit_rate, floor_rate, offer_group, owed_of, user_ticks, handed_user, put_groups, put_users};
 ghost use Rattle.round_pace.specs.Paced.{group_key, pace_number, IsGroupPace, IsUserPace, AreTheGroups, AreTheUsers};
 ghost use Rattle.round_pace.specs.Quiet.{AllMarked, IsQuietGroup, IsQuietUser, KeepMarked};
+ghost use Rattle.round_pace.specs.Rows.{floor_of};
 ghost use Rattle.round_pace.specs.Spent.{credit_of, is_spent, is_user_spent, is_group_spent};
-ghost use Rattle.round_pace.specs.Taken.{take_if_down, take_if_up, take_group, take_user, group_of, take_users, take_groups};
+ghost use Rattle.round_pace.specs.Taken.{take_if_down, take_if_up, owed_if_down, owed_if_up, take_group, take_user, group_of, take_users, take_groups};
+ghost use Rattle.round_pace.specs.declared.credit.TheConstants.{MOST_OWED};
 
-use crate::credit::{Credit, as_rate, floor_in, is_dry, refill_row, take_row};
+use crate::credit::{
+    Credit, as_rate, floor_in, is_dry, owed_after, owed_in, refill_row, take_row, ticks_left,
+};
 use crate::quiet::{is_full_group, is_full_user, is_marked, set_mark};
+use crate::rows::{floor_of, group_credit};
 use line_rates::{GroupRate, Limits, MAX_RATE, UserRate, Way};
 use std::alloc::Allocator;
 
@@ -40,6 +46,10 @@ pub struct UserPace {
     pub session_down: Credit,
     /// The credit that each session has at least for its uploads.
     pub session_up: Credit,
+    /// The debt to each session of its guarantee of downloads, in 500ths of an octet.
+    pub down_owed: u64,
+    /// The debt to each session of its guarantee of uploads, in 500ths of an octet.
+    pub up_owed: u64,
 }
 
 /// The rate that is handed in for what is left of a credit.
@@ -49,17 +59,6 @@ pub(crate) fn credit_rate(credit: Credit) -> u64
     ensures most { result ≤ MAX_RATE }
 {
     as_rate(credit)
-}
-
-fn floor_rate(floor: u64, begun: u64, tick: u64) -> u64
-    requires rate { floor ≤ MAX_RATE }
-    ensures floor { result ≡ floor_rate floor begun tick }
-    ensures most { result ≤ MAX_RATE }
-{
-    if tick < begun || floor == 0 {
-        return 0;
-    }
-    10 * floor_in(floor, begun, tick)
 }
 
 fn offer_group(group: GroupPace) -> GroupRate
@@ -74,9 +73,65 @@ fn offer_group(group: GroupPace) -> GroupRate
     }
 }
 
-fn offer_user(user: UserPace, begun: u64, tick: u64) -> UserRate
+fn owed_of(user: UserPace, way: Way) -> u64
+    ensures owed { result ≡ owed_of way user }
+{
+    match way {
+        Way::Down => user.down_owed,
+        Way::Up => user.up_owed,
+    }
+}
+
+/// The ticks whose earnings the rates of the line and of one way have left.
+pub(crate) fn line_ticks(server: Credit, way: Credit) -> u64
+    requires server { IsCredit server }
+    requires way { IsCredit way }
+    ensures ticks { result ≡ min (ticks_left server) (ticks_left way) }
+    ensures most { result ≤ MOST_OWED }
+{
+    ticks_left(server).min(ticks_left(way))
+}
+
+// The ticks whose earnings each rate of a user has left, if those of the line have this number left.
+fn user_ticks(user: UserPace, groups: &[GroupPace], way: Way, line: u64) -> u64
     requires user { IsUserPace user }
-    ensures row { result ≡ offer_user begun tick user }
+    requires groups { All IsGroupPace groups.now }
+    requires rising { IsRising group_key groups.now }
+    requires line { line ≤ MOST_OWED }
+    ensures ticks { result ≡ user_ticks way line groups.now user }
+    ensures most { result ≤ MOST_OWED }
+{
+    let group = ticks_left(group_credit(groups, user.row.group, way));
+    let own = ticks_left(credit_of(user.down, user.up, way));
+    let session = ticks_left(credit_of(user.session_down, user.session_up, way));
+    line.min(group).min(own.min(session))
+}
+
+// The rate that is handed in for a user's guarantee of one way, if the rates of the line have this number of ticks left.
+fn floor_rate(user: UserPace, groups: &[GroupPace], way: Way, line: u64) -> u64
+    requires user { IsUserPace user }
+    requires groups { All IsGroupPace groups.now }
+    requires rising { IsRising group_key groups.now }
+    requires line { line ≤ MOST_OWED }
+    ensures floor { result ≡ floor_rate (floor_of way user.row) (owed_of way user)
+        (user_ticks way line groups.now user) }
+    ensures most { result ≤ MAX_RATE }
+{
+    let floor = floor_of(user.row, way);
+    if floor == 0 {
+        return 0;
+    }
+    let ticks = user_ticks(user, groups, way, line);
+    10 * floor_in(floor, owed_of(user, way), ticks)
+}
+
+fn handed_user(user: UserPace, groups: &[GroupPace], down: u64, up: u64) -> UserRate
+    requires user { IsUserPace user }
+    requires groups { All IsGroupPace groups.now }
+    requires rising { IsRising group_key groups.now }
+    requires down { down ≤ MOST_OWED }
+    requires up { up ≤ MOST_OWED }
+    ensures row { result ≡ handed_user down up groups.now user }
     ensures fits { FitsUser result }
 {
     UserRate {
@@ -86,8 +141,8 @@ fn offer_user(user: UserPace, begun: u64, tick: u64) -> UserRate
         up: credit_rate(user.up),
         session_down: credit_rate(user.session_down),
         session_up: credit_rate(user.session_up),
-        session_down_floor: floor_rate(user.row.session_down_floor, begun, tick),
-        session_up_floor: floor_rate(user.row.session_up_floor, begun, tick),
+        session_down_floor: floor_rate(user, groups, Way::Down, down),
+        session_up_floor: floor_rate(user, groups, Way::Up, up),
     }
 }
 
@@ -116,6 +171,8 @@ fn refill_user(user: UserPace, begun: u64, tick: u64) -> UserPace
         up: refill_row(user.up, begun, tick),
         session_down: refill_row(user.session_down, begun, tick),
         session_up: refill_row(user.session_up, begun, tick),
+        down_owed: owed_in(user.row.session_down_floor, user.down_owed, begun, tick),
+        up_owed: owed_in(user.row.session_up_floor, user.up_owed, begun, tick),
     }
 }
 
@@ -182,25 +239,30 @@ pub(crate) fn put_groups<L: Allocator, A: Allocator>(
     }
 }
 
-/// Writes the rows of users into the limits, likewise.
+/// Writes the rows of users into the limits, likewise, if the rates of the line have these numbers of ticks left.
 pub(crate) fn put_users<L: Allocator, A: Allocator>(
     offered: &mut Limits<L>,
     users: &[UserPace],
     marks: &mut Vec<bool, A>,
-    begun: u64,
-    tick: u64,
+    groups: &[GroupPace],
+    down: u64,
+    up: u64,
 )
     requires paces { All IsUserPace users.now }
+    requires groups { All IsGroupPace groups.now }
+    requires groups_rise { IsRising group_key groups.now }
+    requires down { down ≤ MOST_OWED }
+    requires up { up ≤ MOST_OWED }
     requires rising { IsRising pace_number users.now }
     requires rows { AreTheUsers offered.old users.now }
     requires marked { AllMarked (IsQuietUser offered.old) marks.old.items users.now }
-    ensures put { offered.new ≡ put_users begun tick offered.old users.now }
+    ensures put { offered.new ≡ put_users down up groups.now offered.old users.now }
     ensures marked { AllMarked (IsQuietUser offered.new) marks.new.items users.now }
 {
     for place in 0..users.len() {
         if !is_marked(marks, place) {
             let user = users[place];
-            offered.put_user(offer_user(user, begun, tick), place);
+            offered.put_user(handed_user(user, groups, down, up), place);
             set_mark(marks, place, is_full_user(user));
         }
     }
@@ -242,17 +304,42 @@ fn take_group(group: GroupPace, way: Way, octets: u64) -> GroupPace
     }
 }
 
-fn take_user(user: UserPace, way: Way, octets: u64) -> UserPace
+// The debt to a user's sessions for downloads after octets that went `way`.
+fn owed_if_down(way: Way, octets: u64, owed: u64) -> u64
+    ensures owed { result ≡ owed_if_down way octets owed }
+    ensures most { result ≤ owed }
+{
+    match way {
+        Way::Down => owed_after(octets, owed),
+        Way::Up => owed,
+    }
+}
+
+// The debt for uploads.
+fn owed_if_up(way: Way, octets: u64, owed: u64) -> u64
+    ensures owed { result ≡ owed_if_up way octets owed }
+    ensures most { result ≤ owed }
+{
+    match way {
+        Way::Down => owed,
+        Way::Up => owed_after(octets, owed),
+    }
+}
+
+// A user's rows after octets were granted, of which `own` are taken from each session.
+fn take_user(user: UserPace, way: Way, octets: u64, own: u64) -> UserPace
     requires user { IsUserPace user }
-    ensures user { result ≡ take_user way octets user }
+    ensures user { result ≡ take_user way octets own user }
     ensures fits { IsUserPace result }
 {
     UserPace {
         row: user.row,
         down: take_if_down(user.down, way, octets),
         up: take_if_up(user.up, way, octets),
-        session_down: take_if_down(user.session_down, way, octets),
-        session_up: take_if_up(user.session_up, way, octets),
+        session_down: take_if_down(user.session_down, way, own),
+        session_up: take_if_up(user.session_up, way, own),
+        down_owed: owed_if_down(way, own, user.down_owed),
+        up_owed: owed_if_up(way, own, user.up_owed),
     }
 }
 
@@ -297,10 +384,11 @@ pub(crate) fn take_users<A: Allocator>(
     user: u32,
     way: Way,
     octets: u64,
+    own: u64,
 ) -> bool
     requires paces { All IsUserPace users.old.items }
     requires rising { IsRising pace_number users.old.items }
-    ensures taken { users.new.items ≡ take_users way user octets users.old.items }
+    ensures taken { users.new.items ≡ take_users way user octets own users.old.items }
     ensures paces { All IsUserPace users.new.items }
     ensures same { result ≡ true → users.new.items ≡ users.old.items }
     ensures marked { KeepMarked marks.old.items users.old.items marks.new.items users.new.items }
@@ -308,7 +396,7 @@ pub(crate) fn take_users<A: Allocator>(
     match find_user(users, user) {
         Some(place) => {
             let before = users[place];
-            let after = take_user(before, way, octets);
+            let after = take_user(before, way, octets, own);
             users[place] = after;
             set_mark(marks, place, false);
             after == before

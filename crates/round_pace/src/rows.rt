@@ -60,7 +60,8 @@ fn no_limit() -> Credit
     Credit { rate: 0, left: 0 }
 }
 
-fn floor_of(row: UserRate, way: Way) -> u64
+/// The guarantee that each session of a user has for one way; 0 is none.
+pub(crate) fn floor_of(row: UserRate, way: Way) -> u64
     ensures floor { result ≡ floor_of way row }
 {
     match way {

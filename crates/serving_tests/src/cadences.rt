@@ -32,7 +32,7 @@ fn sixty_four_downloads_wait(rt: HostRuntime) {
     let limits = Limits::of(2_000_000, 0, 0, Vec::new(alloc), Vec::new(alloc));
     let mut pace = Pace::of(alloc, limits.expect(&rt, "limits"), 0).expect(&rt, "memory");
     pace.offer(0);
-    pace.took(Way::Down, 7, 3_968);
+    pace.took(Way::Down, 7, 3_968, 62);
     let rows = pace.rows_of(Way::Down, 7);
     holds(&rt, rows == rows_of(2_000_000, 32, OPEN));
     round_cadence(&rt, asked(7, Way::Down), &rows).expect(&rt, "memory");
@@ -129,14 +129,28 @@ fn beats_count_sharers(rt: HostRuntime) {
     holds(&rt, beat.sharers == 9 && beat.opens == 15);
     beat = beat.add(4_000, WORTH).settle(left(2_001), 15);
     holds(&rt, beat.sharers == 7 && beat.opens == 0); // more than a thousandth is left
-    beat = beat.add(0, 0).settle(left(0), 16);
-    holds(&rt, beat.sharers == 6 && beat.opens == 17); // a guarantee is earned in each tick
+    beat = beat.keep(WORTH).settle(left(0), 16);
+    holds(&rt, beat.sharers == 6 && beat.opens == 23); // 8 ticks earn 4,096 octets for each of 6
+    beat = beat
+        .add(500, WORTH)
+        .add(500, WORTH_UP)
+        .keep(WORTH)
+        .keep(WORTH_UP);
+    beat = beat.settle(left(0), 0);
+    holds(&rt, beat.sharers == 5); // an eighth fewer: two equal grants and two guarantees are four
+    let first = Beat::new().keep(WORTH).add(500, WORTH).settle(left(0), 0);
+    holds(&rt, first.sharers == 2 && first.kept == 0);
+    holds(&rt, first.cap(0) == first && first.cap(2).opens == 2); // at the latest then
     let beats = WayBeats::new().add(Way::Up, 10, WORTH_UP);
     let beats = beats.settle(Way::Up, left(0), 0);
     holds(&rt, beats.beat(Way::Down) == Beat::new());
     holds(&rt, beats.beat(Way::Up).opens == 1);
     let beat = Beat::new().ask(WORTH).ask(WORTH_UP).settle(left(0), 0);
     holds(&rt, beat.sharers == 1 && beat.opens == 1); // 1 tick earns 256 octets
+    let beats = WayBeats::new()
+        .keep(Way::Up, WORTH_UP)
+        .settle(Way::Up, left(0), 0);
+    holds(&rt, beats.cap(Way::Up, 1).beat(Way::Up).opens == 1);
     let beats = WayBeats::new().ask(Way::Down, WORTH);
     let beats = beats.settle(Way::Down, left(0), 1);
     holds(&rt, beats.beat(Way::Up) == Beat::new());
@@ -183,7 +197,7 @@ static SESSIONS: [(u64, bool, u64, u64); 9] = [
     (31_250, false, 0, 31),
     (31_250, false, 40, 63),
     (31_250, false, 63, 95),
-    (31_250, true, 40, 41),
+    (31_250, true, 40, 63),
     (2_000_000, false, 0, 1),
     (2_000_000, false, 1, 3),
     (15_000_000, false, 1, 2),
@@ -208,11 +222,23 @@ fn sessions_have_a_beat_in_common(rt: HostRuntime) {
     holds(&rt, cadence.opens(Way::Down, 2, &rows) == 1); // 2 ticks earn 256 octets, a quarter of what it wants
     let slow = session_rows(OPEN, drained(31_250), false);
     holds(&rt, opens_after(&rt, Way::Up, &slow, 0, 2) == 7); // 8 ticks earn 256 octets
-    // beside it, the server's rate is shared by 64 in 32 ticks, and with a guarantee divided in each
+    // beside it, the server's rate is shared by 64 in 32 ticks, whether they have a guarantee or not
     let rows = session_rows(left(0), drained(31_250), false);
     holds(&rt, opens_after(&rt, Way::Down, &rows, 0, 1) == 31);
     let rows = session_rows(left(0), drained(31_250), true);
-    holds(&rt, opens_after(&rt, Way::Down, &rows, 0, 1) == 1);
+    holds(&rt, opens_after(&rt, Way::Down, &rows, 0, 1) == 31);
+}
+
+/// The rows of a transfer with a guarantee open no later than those that they are within.
+#[test]
+fn rows_with_a_guarantee_are_aligned(rt: HostRuntime) {
+    for (has_floor, opens) in &[(false, 31), (true, 3)] {
+        let mut cadence = Cadence::new(rt.alloc(), 3, 0).expect(&rt, "memory");
+        let rows = session_rows(left(0), drained(31_250), *has_floor);
+        cadence.add(asked(2, Way::Down), &rows, 62);
+        cadence.settle(Way::Down, 2, &rows, 1); // the server's 2 ticks, the session's 32
+        holds(&rt, cadence.opens(Way::Down, 2, &rows) == *opens);
+    }
 }
 
 #[test]

@@ -14,7 +14,7 @@ fn round_pace(rt: HostRuntime) -> Result<(), Fail> {
     let mut pace = Pace::of(alloc, limits, 0)?;
     assert!(rt; pace.offer(0) == 1_000); // the moment of the first round
     assert!(rt; pace.limits().rate(Name::Server) == 21); // which lets 2 octets through then
-    pace.took(Way::Down, 7, 2); // granted to user 7
+    pace.took(Way::Down, 7, 2, 2); // granted to user 7
     assert!(rt; pace.due(1_999) == Due::At(2_000)); // when the next tick begins
     Ok(())
 }
@@ -69,10 +69,10 @@ static ROUNDS: [(u64, (u64, u64, u64, u64), u64, u64, bool); 8] = [
     (4_001_999, (91, 1, 1, 0), 0, 0, false),
     // three ticks later, together
     (4_007_000, (391, 601, 31, 30), 2, 0, true),
-    // the same tick: the session has an octet left
-    (4_007_999, (371, 601, 11, 0), 0, 0, true),
+    // the same tick: the session has an octet left, and is owed it
+    (4_007_999, (371, 601, 11, 10), 0, 0, true),
     // a tick later, it has that and another; sessions together got more
-    (4_009_000, (471, 801, 21, 10), 3, 0, false),
+    (4_009_000, (471, 801, 21, 20), 3, 0, false),
     // late: at most a tenth of a second and an octet
     (4_900_000, (5_011, 10_011, 511, 500), 501, 1_001, false),
     // the second's last tick
@@ -89,8 +89,8 @@ fn rounds_are_paced(rt: HostRuntime) {
         moment = moment.saturating_add(1_000);
         holds(&rt, pace.offer(*now) == moment);
         holds(&rt, rates(&pace) == *offered);
-        pace.took(Way::Down, 3, *down);
-        pace.took(Way::Up, 3, *up);
+        pace.took(Way::Down, 3, *down, *down);
+        pace.took(Way::Up, 3, *up, *up);
         holds(&rt, pace.due(*now) == Due::Now);
         holds(
             &rt,

@@ -43,7 +43,7 @@ impl<A: Allocator + Clone> Session<A> {
     ghost use Rattle.session_table.specs.StateRows.{greeting};
     ghost use Rattle.session_table.specs.Steps.{IsTaken, SessionStep, SessionStops, Took, asks_floors, is_due};
     ghost use Rattle.session_table.specs.Table.{closed_at, gives_up, holds, idle, meanwhile, ready_at};
-    ghost use Rattle.session_table.specs.Views.{counts_lines, fresh, is_closed};
+    ghost use Rattle.session_table.specs.Views.{counts_lines, fresh, is_closed, is_inside};
 
     /// A new session of a client at this address.
     pub fn new(alloc: A, settings: Settings<A>, peer: [u8; 4]) -> Result<Session<A>, AllocError>
@@ -67,6 +67,13 @@ impl<A: Allocator + Clone> Session<A> {
         ensures closed { result ≡ is_closed self.now.view.stage }
     {
         self.state.stage() == Stage::Closed
+    }
+
+    /// Returns whether a user is logged in.
+    pub fn is_inside(&self) -> bool
+        ensures inside { result ≡ is_inside self.now.view.stage }
+    {
+        self.state.stage() == Stage::Inside
     }
 
     /// Returns whether lines are served or held, and not ignored.

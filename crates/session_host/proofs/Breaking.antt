@@ -14,14 +14,14 @@ use Rattle.session_table.specs.declared.actions.Action.TheVariants.{Say, Hook, O
 use Rattle.control_session.proofs.Balance.{chain_split}
 use Rattle.control_session.proofs.Going.{open_went}
 use Rattle.control_session.specs.Calls.{Chain, HostCall}
-use Rattle.control_session.specs.Calls.HostCall.{Asked, Broke, Noted, Read, ReadEnd, ReadFailed, Released, Tried, Wrote}
+use Rattle.control_session.specs.Calls.HostCall.{Asked, Broke, Declined, Noted, Read, ReadEnd, ReadFailed, Released, Tried, Wrote}
 use Rattle.control_session.specs.Rows.{Outcome}
 use Rattle.control_session.specs.Sessions.{IsServed, IsSession, nothing}
 use Rattle.control_session.specs.Sides.{Given, SideCall}
 use Rattle.control_session.specs.Sides.Given.{Line, Held, Came, Closed}
 use Rattle.control_session.specs.Sides.SideCall.{Aborts, Connects, Drops, Looks, Opens, Settles, Starts}
 use Rattle.control_session.specs.Turns.{Carried, Carries, Heard, Move, Runs, Said, Situation, Went, asked_as, at, behind, concat, release_calls}
-use Rattle.control_session.specs.Turns.Move.{Takes, Tries, Asks, Reads, Ends, Fails, Pays}
+use Rattle.control_session.specs.Turns.Move.{Takes, Tries, Declines, Asks, Reads, Ends, Fails, Pays}
 use Rattle.control_session.specs.declared.fault.ControlFault.{ControlFault}
 use Rattle.control_session.specs.declared.fault.ControlFault.TheVariants.{ReadFault, WriteFault, Memory as NoMemory}
 use Rattle.control_session.specs.declared.turn_fault.TurnFault.{TurnFault}
@@ -223,6 +223,7 @@ module _ {A S C D R W H Q K : Type 0} (users : Users) (Gives : C → ℕ → C �
         let did = only old new calls (Tried before.session moment lent store store' promises) trace chain in
         beside_stands first old new before after before.heard.asked (beside_as old new _ did.rest refl refl) (ap (λ (x : Situation K). x.heard) same)
         (λ lost. let no = sym (ap (λ (x : Situation K). x.lost) same) ∙ lost in absurd (cc)) stands
+    move_stands before after calls old new (Declines given came taken next line same trace) chain stands = absurd (only old new calls Declined trace chain)
     move_stands before after calls old new (Asks event none same (inl trace)) chain stands =
         let (did, rest) = only old new calls (Asked (Looks event)) trace chain in
         beside_stands first old new before after true (beside_as old new _ rest refl refl) (ap (λ (x : Situation K). x.heard) same)

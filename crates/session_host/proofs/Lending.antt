@@ -3,7 +3,7 @@ use Rattle.std.proofs.Common.{ℕ, ◌≡◌, ◌∙◌, Bool, List, Option, ref
 use Rattle.authorizer.specs.Users.{Users}
 use Rattle.handler_hooks.specs.Events.{Event}
 use Rattle.control_session.specs.Calls.{HostCall}
-use Rattle.control_session.specs.Calls.HostCall.{Lent, Tried, Released, Noted, Wrote, Broke, Read, ReadEnd, ReadFailed, Asked}
+use Rattle.control_session.specs.Calls.HostCall.{Lent, Tried, Released, Noted, Wrote, Broke, Read, ReadEnd, ReadFailed, Declined, Asked}
 use Rattle.control_session.specs.Floors.{FloorsBy}
 use Rattle.control_session.specs.Sides.{SideCall}
 use Rattle.session_host.specs.Alone.{AloneDoes, Parts, SameLent, SoleDoes, parts}
@@ -39,6 +39,7 @@ module _ {A S C D R W H Q K : Type 0} (users : Users) (Gives : C → ℕ → C �
   alone_floors old new (Read octets) did = ap (λ (host : Parts S C D R W H). host.promises) did.0.rest
   alone_floors old new ReadEnd did = ap (λ (host : Parts S C D R W H). host.promises) did.0.rest
   alone_floors old new ReadFailed did = ap (λ (host : Parts S C D R W H). host.promises) did.0.rest
+  alone_floors old new Declined did = absurd did
   alone_floors old new (Asked call) did = ap (λ (host : Parts S C D R W H). host.promises) did.1
 
 module _ {A S C D R W H Q K F : Type 0} (Gives : C → ℕ → C → Type 0) (Asks : D → SideCall A Q K → D → Type 0) (Reported : H → Event → H → Type 0)
@@ -65,4 +66,5 @@ module _ {A S C D R W H Q K F : Type 0} (Gives : C → ℕ → C → Type 0) (As
   sole_floors old new (Read octets) did = alone_floors old.users.now.users Gives Asks Reported remaining may_fail contents may_refuse (parts old) (parts new) (Read octets) did.1
   sole_floors old new ReadEnd did = alone_floors old.users.now.users Gives Asks Reported remaining may_fail contents may_refuse (parts old) (parts new) ReadEnd did.1
   sole_floors old new ReadFailed did = alone_floors old.users.now.users Gives Asks Reported remaining may_fail contents may_refuse (parts old) (parts new) ReadFailed did.1
+  sole_floors old new Declined did = absurd did.1
   sole_floors old new (Asked call) did = alone_floors old.users.now.users Gives Asks Reported remaining may_fail contents may_refuse (parts old) (parts new) (Asked call) did.1

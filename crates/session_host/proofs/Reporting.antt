@@ -18,7 +18,7 @@ use Rattle.session_table.specs.declared.actions.Action.{Action}
 use Rattle.session_table.specs.declared.actions.Action.TheVariants.{Say, Hook, OpenPassive, ConnectTo, DropData, Start, Abort, CloseControl, ReleaseFloor}
 use Rattle.control_session.proofs.Balance.{chain_split}
 use Rattle.control_session.specs.Calls.{Chain, HostCall}
-use Rattle.control_session.specs.Calls.HostCall.{Asked, Read, ReadEnd, ReadFailed, Released, Tried}
+use Rattle.control_session.specs.Calls.HostCall.{Asked, Declined, Read, ReadEnd, ReadFailed, Released, Tried}
 use Rattle.control_session.specs.Rows.{Outcome}
 use Rattle.control_session.specs.Rows.Outcome.{Made, Stopped}
 use Rattle.control_session.specs.Sessions.{IsServed, IsSession, nothing}
@@ -27,7 +27,7 @@ use Rattle.control_session.specs.Sides.Given.{Line, Held, Came, Closed}
 use Rattle.control_session.specs.Sides.SideCall.{Aborts, Connects, Drops, Looks, Opens, Settles, Starts}
 use Rattle.control_session.specs.Reported.{text_of, texts}
 use Rattle.control_session.specs.Turns.{Carried, Carries, Heard, IsIdle, IsTurn, Move, Next, Runs, Situation, Went, asked_as, at, behind, concat, release_calls}
-use Rattle.control_session.specs.Turns.Move.{Takes, Tries, Asks, Reads, Ends, Fails, Pays}
+use Rattle.control_session.specs.Turns.Move.{Takes, Tries, Declines, Asks, Reads, Ends, Fails, Pays}
 use Rattle.control_session.specs.declared.fault.ControlFault.{ControlFault}
 use Rattle.control_session.proofs.Going.{concat_more, open_went}
 use Rattle.control_session.specs.declared.turn_fault.TurnFault.{TurnFault}
@@ -464,6 +464,7 @@ module _ {A S C D R W H Q K : Type 0} (users : Users) (Gives : C → ℕ → C �
         (ap (λ (x : Parts S C D R W H). x.reader) rest) (ap (λ (x : Parts S C D R W H). x.writer) rest)
         (ap (λ (x : Situation K). x.heard.octets) same) (ap (λ (x : Situation K). x.heard.ended) same)
         (subst (λ (l : Option TurnFault). CutBy before.lost l [] []) (sym (ap (λ (x : Situation K). x.lost) same)) (stopped_cut before.lost))
+    move_reported items later before after calls old new is (Declines given came taken next line same trace) chain = absurd (one old new calls Declined trace chain)
     move_reported items later before after calls old new is (Asks event none same (inl trace)) chain =
         let (did, rest) = one old new calls (Asked (Looks event)) trace chain in
         asks_reported items before after old new event none same (inl did) rest
@@ -529,6 +530,7 @@ module _ {A S C D R W H Q K : Type 0} (users : Users) (Gives : C → ℕ → C �
     move_grows : (before after : Situation K) (calls : List (HostCall A S Q K)) → Move Row before calls after → Grown before.heard after.heard
     move_grows before after calls (Takes turn) = grown_as before after (ap (λ (x : Heard). x.items) (turn.heard ∙ behind_as turn.given before.heard))
     move_grows before after calls (Tries given moment lent store store' promises came taken next stopped same trace) = grown_as before after (ap (λ (x : Situation K). x.heard.items) same)
+    move_grows before after calls (Declines given came taken next line same trace) = grown_as before after (ap (λ (x : Situation K). x.heard.items) same)
     move_grows before after calls (Asks event none same trace) = grown_as before after (ap (λ (x : Situation K). x.heard.items) same)
     move_grows before after calls (Reads octets found idle live unended same trace) = (found, ap (λ (x : Situation K). x.heard.items) same)
     move_grows before after calls (Ends idle live unended same trace) = grown_as before after (ap (λ (x : Situation K). x.heard.items) same)

@@ -7,7 +7,7 @@ use Rattle.handler_hooks.specs.Events.{Event}
 use Rattle.rate_floors.specs.Promises.{Promises, after_release}
 use Rattle.text_io.specs.Parts.{AppendsPart}
 use Rattle.control_session.specs.Calls.{HostCall}
-use Rattle.control_session.specs.Calls.HostCall.{Lent, Tried, Released, Noted, Wrote, Broke, Read, ReadEnd, ReadFailed, Asked}
+use Rattle.control_session.specs.Calls.HostCall.{Lent, Tried, Released, Noted, Wrote, Broke, Read, ReadEnd, ReadFailed, Declined, Asked}
 use Rattle.control_session.specs.Sides.{SideCall}
 use Rattle.session_host.specs.declared.host.SoleHost.{SoleHost}
 
@@ -90,6 +90,8 @@ module _ {A S C D R W H Q K : Type 0} (users : Users) (Gives : C → ℕ → C �
   AloneDoes old (Read octets) new = Takes old octets new × (0 < length octets)
   AloneDoes old ReadEnd new = Takes old [] new × IsAtEnd (remaining new.reader)
   AloneDoes old ReadFailed new = Takes old [] new × (may_fail old.reader ≡ true)
+  -- it ends no session in the place of a step
+  AloneDoes old Declined new = ⊥
   AloneDoes old (Asked call) new =
       Asks old.side call new.side × (new ≡ record old { side = new.side })
 

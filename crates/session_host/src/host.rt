@@ -4,7 +4,7 @@ ghost use Rattle.std.specs.Prelude.{◌≡◌, ◌<◌};
 
 use authorizer::Authorizer;
 use control_session::{
-    DataEvent, DataSide, Host, Leaving, Moments, Piece, Session, close_by, end_by, step_by,
+    DataEvent, DataSide, Host, Leaving, Moments, NoStep, Piece, Session, close_by, end_by, step_by,
 };
 use ftp_wire::HostPort;
 use handler_hooks::{Hooks, report};
@@ -77,7 +77,7 @@ impl<
         &mut self,
         session: &mut Session,
         input: &mut Option<Input<Global, S::Sink>>,
-    ) -> Result<Vec<Action<Global, S::Source, S::Sink>>, Option<DataEvent<S::Sink>>> {
+    ) -> Result<Vec<Action<Global, S::Source, S::Sink>>, NoStep<S::Sink>> {
         let moment = self.clock.moment();
         step_by(session, self.users, self.floors, self.store, input, moment)
     }

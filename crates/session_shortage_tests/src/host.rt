@@ -7,7 +7,7 @@ ghost use Rattle.session_shortage_tests.specs.Unsaid.{AnyCall};
 use crate::reported::{Sink, Source};
 use authorizer::Authorizer;
 use control_session::{
-    DataEvent, DataSide, Host, Leaving, Piece, Session, close_by, end_by, step_by,
+    DataEvent, DataSide, Host, Leaving, NoStep, Piece, Session, close_by, end_by, step_by,
 };
 use ftp_wire::HostPort;
 use linked_list_allocator::LocalHeap;
@@ -47,10 +47,7 @@ impl<'h, R: TextReader> Host<Memory<'h>> for HeapHost<'h, R> {
         &mut self,
         session: &mut Session<Memory<'h>>,
         input: &mut Option<Input<Memory<'h>, Sink<'h>>>,
-    ) -> Result<
-        Vec<Action<Memory<'h>, Source<'h>, Sink<'h>>, Memory<'h>>,
-        Option<DataEvent<Sink<'h>>>,
-    > {
+    ) -> Result<Vec<Action<Memory<'h>, Source<'h>, Sink<'h>>, Memory<'h>>, NoStep<Sink<'h>>> {
         step_by(
             session,
             &self.users,

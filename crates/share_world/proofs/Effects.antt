@@ -91,6 +91,13 @@ nothing l s p h =
     let hand : amount l.hidden.hand ≡ 0 = ap amount h in
     omega arith
 
+nothing_asked : (l : Lane) → IsSound l → l.shown.state ≡ state.Asked → pending l ≡ 0
+nothing_asked l s p =
+    let same : sum l.shown.posted ≡ sum l.shown.taken = ap sum (same_sums l s (λ e. cc)) in
+    let none : decided_of l ≡ 0 = ap amount (s.in_round (λ e. cc)) in
+    let hand : amount l.hidden.hand ≡ 0 = ap amount (s.in_hand (λ e. cc)) in
+    omega arith
+
 asks : (l m : Lane) (a : Ask) → (l.shown.state ≡ state.Worker) × (m.shown ≡ shown state.Asked (Some a) l.shown.posted l.shown.taken) → (l.hidden.hand ≡ None) × (m.hidden ≡ l.hidden) → IsSound l → Effect (Some a) 0 l m
 asks l m a v h s = at_lane (Effect (Some a) 0 l) m (shown state.Asked (Some a) l.shown.posted l.shown.taken) l.hidden v.1 h.1
     (goes l state.Asked (Some a) s (λ e. cc) (λ e. cc) (λ ne. h.0) (λ ne. s.in_round (λ e. cc)) (λ e. absurd (cc)) (inr (nothing l s v.0 h.0)))
@@ -187,3 +194,33 @@ effect (event.Taken i) (answer.Taken n) l m v h s = takes l m n v h s
 effect (event.Moved i n) answer.Done l m v h s = moves l m n v h s
 effect (event.Rise i) answer.Done l m v h s = rises l m v h s
 effect e a l m v h s = absurd v
+
+-- the tick of the decision that what is pending on a lane is of: the last decision's while the lane is in Round, and else that of the grant posted last
+abbrev pub tick_for : LaneState → ℕ → ℕ → ℕ
+tick_for state.Round deciding granted = deciding
+tick_for s deciding granted = granted
+
+-- the tick of the grant posted last, after an event of its lane
+abbrev pub granted_after : Event → ℕ → ℕ → ℕ
+granted_after (event.Post i) deciding granted = deciding
+granted_after e deciding granted = granted
+
+same_tick : (l m : Lane) (p q : LaneState) (d g h : ℕ) → l.shown.state ≡ p → m.shown.state ≡ q → tick_for q d h ≡ tick_for p d g → tick_for m.shown.state d h ≡ tick_for l.shown.state d g
+same_tick l m p q d g h x y e = ap (λ (s : LaneState). tick_for s d h) y ∙ e ∙ sym (ap (λ (s : LaneState). tick_for s d g) x)
+
+kept_tick : (l m : Lane) (d g : ℕ) → m.shown ≡ l.shown → tick_for m.shown.state d g ≡ tick_for l.shown.state d g
+kept_tick l m d g e = ap (λ (s : Shown). tick_for s.state d g) e
+
+-- an event keeps the tick of what is pending, or nothing is pending
+pub timed : (e : Event) (a : EventAnswer) (l m : Lane) (d g : ℕ) → ShownStep e a l.shown m.shown → HiddenStep e a l.hidden m.hidden → IsSound l
+    → (tick_for m.shown.state d (granted_after e d g) ≡ tick_for l.shown.state d g) ⊎ (pending m + octets_by e ≡ 0)
+timed (event.Sit i) answer.Done l m d g v h s = inl (same_tick l m state.Free state.Worker d g g v.0 (ap (λ (x : Shown). x.state) v.1) refl)
+timed (event.Asked i b) answer.Done l m d g v h s = inl (same_tick l m state.Worker state.Asked d g g v.0 (ap (λ (x : Shown). x.state) v.1) refl)
+timed (event.Collect i) answer.Got l m d g v h s =
+    inr (let none : pending l ≡ 0 = nothing_asked l s v.0 in at_lane (λ (x : Lane). pending x + 0 ≡ 0) m (shown state.Round l.shown.ask l.shown.posted l.shown.taken) l.hidden v.1 h (omega arith))
+timed (event.Collect i) answer.Missed l m d g v h s = inl (kept_tick l m d g v.1)
+timed (event.Post i) (answer.Posted n) l m d g v h s = inl (same_tick l m state.Round state.Granted d g d v.0 (ap (λ (x : Shown). x.state) v.1) refl)
+timed (event.Taken i) (answer.Taken n) l m d g v h s = inl (same_tick l m state.Granted state.Worker d g g v.0 (ap (λ (x : Shown). x.state) v.2) refl)
+timed (event.Moved i n) answer.Done l m d g v h s = inl (kept_tick l m d g v)
+timed (event.Rise i) answer.Done l m d g v h s = inl (same_tick l m state.Worker state.Free d g g v.0 (ap (λ (x : Shown). x.state) v.1) refl)
+timed e a l m d g v h s = absurd v

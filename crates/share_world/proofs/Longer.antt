@@ -11,14 +11,14 @@ use Rattle.world_terms.specs.declared.event.Event.{Event}
 use Rattle.world_terms.specs.declared.event.EventAnswer.{EventAnswer}
 use Rattle.world_terms.specs.declared.fault.StepFault.{StepFault}
 use Rattle.world_terms.specs.Lanes.{World}
-use Rattle.world_terms.specs.Runs.{TraceEntry, IsRun, IsRunOfSome, event_of, reply_of}
+use Rattle.world_terms.specs.Runs.{TraceEntry, IsRun, IsRunOfSome, event_of, reply_of, tick_of}
 use Rattle.world_terms.specs.Steps.{Step}
 
-pub run_none : (r : Rates) (start : World) → IsRun r start [] [] start
+pub run_none : (r : ℕ → Rates) (start : World) → IsRun r start [] [] start
 run_none r start = record { past = []; runs = refl; events_are = refl; replies_are = refl }
 
-pub run_more : (r : Rates) (start w end : World) (es : List Event) (rs : List (Result EventAnswer StepFault)) (e : Event) (reply : Result EventAnswer StepFault)
-    → IsRun r start es rs w → Step r w e reply end → IsRun r start (es ++ e ∷ []) (rs ++ reply ∷ []) end
+pub run_more : (r : ℕ → Rates) (start w end : World) (es : List Event) (rs : List (Result EventAnswer StepFault)) (e : Event) (reply : Result EventAnswer StepFault)
+    → IsRun r start es rs w → Step (r (tick_of e)) w e reply end → IsRun r start (es ++ e ∷ []) (rs ++ reply ∷ []) end
 run_more r start w end es rs e reply run step =
     let x : TraceEntry = record { before = w; event = e; reply = reply } in
     record {
@@ -28,20 +28,21 @@ run_more r start w end es rs e reply run step =
       replies_are = reverse-append (reply ∷ []) (map reply_of run.past) ∙ ap (λ (xs : List (Result EventAnswer StepFault)). xs ++ reply ∷ []) run.replies_are;
     }
 
+-- under the same rates in each tick
 pub run_at : (r r' : Rates) (start w end : World) (events : List Event) (i : ℕ) (rs rs' : List (Result EventAnswer StepFault)) (d : Event) (reply : Result EventAnswer StepFault) → i < length events → r' ≡ r → rs' ≡ rs ++ reply ∷ []
-    → IsRun r start (take i events) rs w → Step r' w (get_or events i d) reply end → IsRun r start (take (i + 1) events) rs' end
+    → IsRun (λ _. r) start (take i events) rs w → Step r' w (get_or events i d) reply end → IsRun (λ _. r) start (take (i + 1) events) rs' end
 run_at r r' start w end events i rs rs' d reply less same more run step =
     let step_r : Step r w (get_or events i d) reply end = subst (λ (x : Rates). Step x w (get_or events i d) reply end) same step in
-    subst (λ (xs : List (Result EventAnswer StepFault)). IsRun r start (take (i + 1) events) xs end) (sym more)
-    (subst (λ (es : List Event). IsRun r start es (rs ++ reply ∷ []) end) (sym (take_more events i d less)) (run_more r start w end (take i events) rs (get_or events i d) reply run step_r))
+    subst (λ (xs : List (Result EventAnswer StepFault)). IsRun (λ _. r) start (take (i + 1) events) xs end) (sym more)
+    (subst (λ (es : List Event). IsRun (λ _. r) start es (rs ++ reply ∷ []) end) (sym (take_more events i d less)) (run_more (λ _. r) start w end (take i events) rs (get_or events i d) reply run step_r))
 
 -- a run that stops before an event
-pub stopped_run : (r : Rates) (start end now : World) (events : List Event) (i : ℕ) (replies : List (Result EventAnswer StepFault)) → IsRun r start (take i events) replies end → now ≡ end → All HadMemory replies → i < length events
+pub stopped_run : (r : ℕ → Rates) (start end now : World) (events : List Event) (i : ℕ) (replies : List (Result EventAnswer StepFault)) → IsRun r start (take i events) replies end → now ≡ end → All HadMemory replies → i < length events
     → IsStoppedRun r start events now
 stopped_run r start end now events i replies run same had less = record { some = record { done = i; replies = replies; run = subst (IsRun r start (take i events) replies) (sym same) run }; had = had; left = inl less }
 
 -- a run that stops before its first event
-pub unbegun_run : (r : Rates) (start : World) (events : List Event) → IsStoppedRun r start events start
+pub unbegun_run : (r : ℕ → Rates) (start : World) (events : List Event) → IsStoppedRun r start events start
 unbegun_run r start [] = record { some = record { done = 0; replies = []; run = run_none r start }; had = All-nil HadMemory; left = inr refl }
 unbegun_run r start (e ∷ es) = record { some = record { done = 0; replies = []; run = run_none r start }; had = All-nil HadMemory; left = inl (omega arith) }
 

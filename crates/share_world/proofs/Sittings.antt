@@ -15,7 +15,7 @@ use Rattle.world_terms.specs.declared.event.EventAnswer.TheVariants as answer
 use Rattle.world_terms.specs.declared.fault.StepFault.{StepFault}
 use Rattle.world_terms.specs.Decisions.{IsGiven, IsDecision}
 use Rattle.world_terms.specs.Lanes.{World, Lane, Shown, shown, new_world}
-use Rattle.world_terms.specs.Runs.{TraceEntry, Runs, exchanges, is_exchange, on_lane}
+use Rattle.world_terms.specs.Runs.{TraceEntry, Runs, exchanges, is_exchange, on_lane, tick_of}
 use Rattle.world_terms.specs.Shown.{ShownStep}
 use Rattle.world_terms.specs.Steps.{IsChange, Accepts, Step, lane_of}
 use Rattle.share_world.specs.Kept.{IsSound}
@@ -110,9 +110,9 @@ replied : (past : List TraceEntry) (r : Rates) (w : World) (e : Event) (reply : 
 replied past r w e (Ok a) end sound k s = accepted past r w e a end sound k s
 replied past r w e (Err f) end sound k s = subst (AllSit past) (sym s.0) k
 
-all_sit : GrantsKeepNames → (r : Rates) (k : ℕ) (past : List TraceEntry) (end : World) → Runs r (new_world k) past end → AllSit past end
+all_sit : GrantsKeepNames → (r : ℕ → Rates) (k : ℕ) (past : List TraceEntry) (end : World) → Runs r (new_world k) past end → AllSit past end
 all_sit law r k [] end e = λ j l there. subst (λ (x : Lane). Sits j x.shown []) (sym (is_new k j l (sym (ap (λ (w : World). slice_get w.lanes j) e) ∙ there))) tt
-all_sit law r k (x ∷ past) end e = replied past r x.before x.event x.reply end (kept_by_runs law r k past x.before e.0).sound (all_sit law r k past x.before e.0) e.1
+all_sit law r k (x ∷ past) end e = replied past (r (tick_of x.event)) x.before x.event x.reply end (kept_by_runs law r k past x.before e.0).sound (all_sit law r k past x.before e.0) e.1
 
 last_of : (xs ys : List ℕ) (m n : ℕ) → xs ++ m ∷ [] ≡ ys ++ n ∷ [] → xs ≡ ys → m ≡ n
 last_of [] [] m n e h = cc
@@ -120,7 +120,7 @@ last_of [] (y ∷ ys) m n e h = absurd (cc)
 last_of (x ∷ xs) [] m n e h = absurd (cc)
 last_of (x ∷ xs) (y ∷ ys) m n e h = last_of xs ys m n (let t : xs ++ m ∷ [] ≡ ys ++ n ∷ [] = cc in t) (let t : xs ≡ ys = cc in t)
 
-pub answers_last : GrantsKeepNames → (r : Rates) (k : ℕ) (past : List TraceEntry) (w : World) (i n : ℕ) (end : World)
+pub answers_last : GrantsKeepNames → (r : ℕ → Rates) (k : ℕ) (past : List TraceEntry) (w : World) (i n : ℕ) (end : World)
     → Runs r (new_world k) (record { before = w; event = event.Taken i; reply = Ok (answer.Taken n) } ∷ past) end → AnswersLastAsk past i n
 answers_last law r k past w i n end e =
     let c : IsChange w i (event.Taken i) (answer.Taken n) end = e.1 in

@@ -16,14 +16,14 @@ use Rattle.world_terms.specs.declared.event.EventAnswer.{EventAnswer}
 use Rattle.world_terms.specs.declared.event.EventAnswer.TheVariants as answer
 use Rattle.world_terms.specs.Decisions.{AreGiven, decided_grants, decided_of, in_round}
 use Rattle.world_terms.specs.Lanes.{Lane, World, amount, new_world}
-use Rattle.world_terms.specs.Runs.{TraceEntry, Runs, exchanges, last_ask, limits_under, moved_in_all, moved_under}
+use Rattle.world_terms.specs.Runs.{TraceEntry, Runs, IsRated, exchanges, last_ask, limits_under, moved_in_all, moved_under}
 use Rattle.world_terms.specs.Steps.{Step}
 use Rattle.world_terms.specs.Sums.{shares_in}
 
 -- P holds for each lane after every run from a new world
 abbrev pub OfEachLane : (Lane → Type 0) → Type 0
 OfEachLane P =
-    (rates : Rates) (k : ℕ) (past : List TraceEntry) (end : World) (i : ℕ) (l : Lane)
+    (rates : ℕ → Rates) (k : ℕ) (past : List TraceEntry) (end : World) (i : ℕ) (l : Lane)
     → Runs rates (new_world k) past end → slice_get end.lanes i ≡ Some l → P l
 
 -- for each lane, the amounts taken are those moved, given back and in hand
@@ -46,7 +46,7 @@ pub record AnswersLastAsk (past : List TraceEntry) (i n : ℕ) : Type 0 where
   pub last : last_ask i past ≡ Some ask
 
 -- the last event of this run takes a grant
-abbrev pub Takes : Rates → ℕ → List TraceEntry → World → ℕ → ℕ → World → Type 0
+abbrev pub Takes : (ℕ → Rates) → ℕ → List TraceEntry → World → ℕ → ℕ → World → Type 0
 Takes rates k past w i n end =
     Runs rates (new_world k)
     (record { before = w; event = event.Taken i; reply = Ok (answer.Taken n) } ∷ past) end
@@ -54,28 +54,30 @@ Takes rates k past w i n end =
 -- a grant that is taken answers the last ask of the same sitting
 abbrev pub TakenAnswersLastAsk : Type 0
 TakenAnswersLastAsk =
-    (rates : Rates) (k : ℕ) (past : List TraceEntry) (w : World) (i n : ℕ) (end : World)
+    (rates : ℕ → Rates) (k : ℕ) (past : List TraceEntry) (w : World) (i n : ℕ) (end : World)
     → Takes rates k past w i n end → AnswersLastAsk past i n
 
 -- the octets issued are the sum of the shares
 abbrev pub IssuedIsShares : Type 0
 IssuedIsShares =
-    (rates : Rates) (k : ℕ) (past : List TraceEntry) (end : World)
+    (rates : ℕ → Rates) (k : ℕ) (past : List TraceEntry) (end : World)
     → Runs rates (new_world k) past end → end.issued ≡ shares_in end
 
--- the octets moved under a name with a limit are at most the sum of its limits over the decisions
--- whose trees have its branch
+-- The octets moved under a name that has a rate in each decision are at most the sum of its limits
+-- over the decisions whose trees have its branch. The rates may change from tick to tick; an octet
+-- counts under the names that the rates of its grant's tick give its ask.
 abbrev pub MovedIsWithinLimits : Type 0
 MovedIsWithinLimits =
-    (rates : Rates) (k : ℕ) (past : List TraceEntry) (end : World) (n : Name)
+    (rates : ℕ → Rates) (k : ℕ) (past : List TraceEntry) (end : World) (n : Name)
     → Runs rates (new_world k) past end
-    → rate_of rates n ≢ 0 → moved_under rates n past ≤ limits_under rates n past
+    → IsRated rates n past → moved_under rates n past ≤ limits_under rates n past
 
--- if the server has a limit, all octets moved are at most the sum of its limits over the decisions
+-- if the server has a rate in each decision, all octets moved are at most the sum of its limits
+-- over the decisions
 abbrev pub MovedInAllIsWithinLimits : Type 0
 MovedInAllIsWithinLimits =
-    (rates : Rates) (k : ℕ) (past : List TraceEntry) (end : World)
-    → Runs rates (new_world k) past end → rates.server ≢ 0
+    (rates : ℕ → Rates) (k : ℕ) (past : List TraceEntry) (end : World)
+    → Runs rates (new_world k) past end → IsRated rates Server past
     → moved_in_all past ≤ limits_under rates Server past
 
 -- P holds for each decision that is not refused, with its tick and total, in any world

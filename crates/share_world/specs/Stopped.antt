@@ -1,5 +1,5 @@
 -- A run that lack of memory ends.
-use Rattle.std.specs.Prelude.{◌≡◌, ◌≢◌, ◌⊎◌, All, ◌<◌, List, [], length, Result, Err}
+use Rattle.std.specs.Prelude.{◌≡◌, ◌≢◌, ◌⊎◌, ℕ, All, ◌<◌, List, [], length, Result, Err}
 use Rattle.line_rates.specs.Rates.{Rates}
 use Rattle.world_terms.specs.declared.event.Event.{Event}
 use Rattle.world_terms.specs.declared.event.EventAnswer.{EventAnswer}
@@ -13,7 +13,8 @@ abbrev pub HadMemory : Result EventAnswer StepFault → Type 0
 HadMemory reply = reply ≢ Err Memory
 
 -- a run of the events before the one for which memory ran out, if there is an event at all
-pub record IsStoppedRun (rates : Rates) (start : World) (events : List Event) (end : World) : Type 0
+pub record IsStoppedRun (rates : ℕ → Rates) (start : World) (events : List Event) (end : World)
+    : Type 0
   where
     pub some : IsRunOfSome rates start events end
     pub had : All HadMemory some.replies

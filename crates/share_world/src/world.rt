@@ -96,10 +96,10 @@ impl<A: Allocator + Clone> World<A> {
         events: &[Event],
     ) -> Result<Vec<Result<EventAnswer, StepFault>, A>, AllocError>
         ensures run { IfOk result (λ replies.
-            IsRun self.old.rates self.old.world events.now replies.items self.new.world) }
+            IsRun (λ _. self.old.rates) self.old.world events.now replies.items self.new.world) }
         ensures had { IfOk result (λ replies. All HadMemory replies.items) }
         ensures stopped { OnErr result
-            (IsStoppedRun self.old.rates self.old.world events.now self.new.world) }
+            (IsStoppedRun (λ _. self.old.rates) self.old.world events.now self.new.world) }
         ensures rates { self.new.rates ≡ self.old.rates }
     {
         let mut replies = Vec::new(self.alloc.clone()?);

@@ -1,2 +1,4 @@
+mod Doing
 mod Front
+mod Payers
 mod Writing

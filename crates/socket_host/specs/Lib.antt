@@ -8,5 +8,9 @@ pub mod Replied
 pub mod Running
 pub mod Standing
 pub mod Texts
-pub mod Unsaid
+pub mod Doing
+pub mod DoingLaws
+pub mod Hosted
+pub mod Lending
+pub mod Payers
 pub mod Waiting

@@ -27,5 +27,6 @@ abbrev pub Follows : Standing → HookCall Global → Standing → Type 0
 Follows old (Login name) new =
     (new.user ≡ number_of (arc_value old.held.terms).users.users name) × (new.is_inside ≡ true)
     × (new.held ≡ old.held)
-Follows old (Logout name) new = (new.is_inside ≡ false) × (new.held ≡ old.held)
+Follows old (Logout name) new =
+    (new.is_inside ≡ false) × (new.held ≡ old.held) × (new.user ≡ old.user)
 Follows old _ new = new ≡ old

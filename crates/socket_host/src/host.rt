@@ -4,8 +4,8 @@ ghost use Rattle.std.specs.Prelude.{◌≡◌, ◌<◌, IfErr, IfNone, IfOk, IfS
 ghost use Rattle.std.specs.declared.alloc.Global.{Global};
 ghost use Rattle.control_session.specs.Calls.{reads_within};
 ghost use Rattle.control_session.specs.Rows.{IsRow};
-ghost use Rattle.control_session.specs.Turns.{StepTried, Stepped};
-ghost use Rattle.control_session.specs.Sides.{event_in, given_of};
+ghost use Rattle.control_session.specs.Turns.{StepRefused, Stepped};
+ghost use Rattle.control_session.specs.Sides.{event_in, given_of, is_line};
 ghost use Rattle.control_session.specs.Sides.Given.{Came};
 ghost use Rattle.rate_floors.specs.Promises.{HasNoSessions};
 ghost use Rattle.session_table.specs.Steps.{asks_floors};
@@ -15,7 +15,8 @@ ghost use Rattle.socket_host.specs.Records.{ends_file, ends_listing, is_end, is_
 ghost use Rattle.socket_host.specs.Refusals.{refusal_of};
 ghost use Rattle.socket_host.specs.Standing.{Follows};
 ghost use Rattle.socket_host.specs.Texts.{is_without_port, last_reply, time_out_reply};
-ghost use Rattle.socket_host.specs.Unsaid.{AnyCall};
+ghost use Rattle.socket_host.specs.Doing.{SocketDoes, Stays, kept_users};
+ghost use Rattle.socket_host.specs.Lending.{LentFor, RefusedFor};
 
 use crate::control::ControlSocket;
 use crate::moments::millis_since_1970;
@@ -23,7 +24,9 @@ use crate::side::SocketSide;
 use crate::standing::Standing;
 use crate::waiting::{is_due, is_life, passed_limit};
 use client_patience::{TimeOut, Waits};
-use control_session::{DataEvent, Host, Leaving, Piece, Session, close_by, end_by, step_by};
+use control_session::{
+    DataEvent, Host, Leaving, NoStep, Piece, Session, close_by, end_by, step_by,
+};
 use event_word::micros;
 use ftp_terms::DataType;
 use ftp_wire::HostPort;
@@ -103,6 +106,13 @@ pub(crate) fn floors_of_nobody(alloc: Global) -> Option<Floors>
 {
     let limits = Limits::of(0, 0, 0, Vec::new(alloc), Vec::new(alloc)).ok()?;
     Floors::of(alloc, &limits).ok()
+}
+
+// Returns whether an input is a line, new or held.
+fn is_line<K>(input: &Option<Input<Global, K>>) -> bool
+    ensures line { IfSome input.now (λ input. result ≡ is_line (given_of input)) }
+{
+    matches!(input, Some(Input::Line(_)) | Some(Input::Held))
 }
 
 // Returns whether the step of an input needs the floors.
@@ -286,13 +296,18 @@ where
         self.house.ending.has_begun(ShutdownStage::Sessions)
     }
 
-    // Compares the terms in force, if they were exchanged. Without memory they are compared at the next call.
-    fn compare_terms(&mut self) {
+    // Compares the terms in force, if they were exchanged. Without memory they are compared at the next call. The session
+    // keeps those that it has, if it is to.
+    fn compare_terms(&mut self, keeps: bool)
+        ensures kept { keeps ≡ true → self.new.standing.held ≡ self.old.standing.held }
+        ensures user { self.new.standing.user ≡ self.old.standing.user }
+        ensures side { self.new.side ≡ self.old.side }
+    {
         let terms = &self.house.terms;
         if self.standing.is_behind(terms.exchanges()) {
             if let Ok(newest) = terms.hold(self.rt) {
                 self.standing.judge(&newest.terms().users);
-                self.standing.take(newest);
+                self.standing.take(newest, keeps);
             }
         }
     }
@@ -320,9 +335,21 @@ where
         }
     }
 
+    // Delays the reply to a wrong password.
+    fn delay_wrong(&mut self)
+        ensures standing { self.new.standing ≡ self.old.standing }
+        ensures side { self.new.side ≡ self.old.side }
+    {
+        if self.is_wrong {
+            self.is_wrong = false;
+            self.delay(self.house.patience.login_delay);
+        }
+    }
+
     // Follows who is logged in, and when.
     fn follow(&mut self, call: &HookCall<Global>)
         ensures follows { Follows self.old.standing call.now self.new.standing }
+        ensures side { self.new.side ≡ self.old.side }
     {
         match call {
             HookCall::Login(name) => {
@@ -454,7 +481,10 @@ where
     }
 
     // Follows a call of the store: the file that is opened, a change, or a fault.
-    fn follow_store(&mut self, record: Option<StoreRecord>) {
+    fn follow_store(&mut self, record: Option<StoreRecord>)
+        ensures standing { self.new.standing ≡ self.old.standing }
+        ensures side { self.new.side ≡ self.old.side }
+    {
         match record {
             Some(StoreRecord::OpenedToRead(path)) => self.path = path,
             Some(StoreRecord::OpenedToWrite(path)) => self.path = path,
@@ -464,11 +494,18 @@ where
     }
 
     // Reports the refusals among the actions of a step.
-    fn report_refusals<F, K>(&mut self, actions: &[Action<Global, F, K>]) {
+    fn report_refusals<F, K>(&self, actions: &[Action<Global, F, K>]) {
         for action in actions {
             if let Some(why) = refusal_of(action) {
                 self.report(SessionEvent::Refused(why));
             }
+        }
+    }
+
+    // Reports the refusals of a step, if it was made.
+    fn report_made<F, K>(&self, made: &Result<Vec<Action<Global, F, K>>, NoStep<K>>) {
+        if let Ok(actions) = made {
+            self.report_refusals(actions);
         }
     }
 
@@ -478,17 +515,18 @@ where
         session: &mut Session<Global>,
         input: &mut Option<Input<Global, S::Sink>>,
     ) -> (
-        Result<Vec<Action<Global, S::Source, S::Sink>>, Option<DataEvent<S::Sink>>>,
+        Result<Vec<Action<Global, S::Source, S::Sink>>, NoStep<S::Sink>>,
         Option<StoreRecord>,
     )
         ensures row { IfSome input.old (λ input. IfOk result.0 (λ actions.
-            Stepped (IsRow S.Step) AnyCall
-            self.old session.old (given_of input) session.new actions.items self.new)) }
+            LentFor (IsRow S.Step) (kept_users self.old.standing)
+            session.old (given_of input) session.new actions.items)) }
         ensures unchanged { OnErr result.0 (session.new ≡ session.old) }
-        ensures tried { IfSome input.old (λ input.
-            OnErr result.0 (StepTried {A = Global} (IsRow S.Step) AnyCall self.old session.old (given_of input) self.new)) }
-        ensures back { IfSome input.old (λ input. IfErr result.0 (λ back.
-            back ≡ event_in input)) }
+        ensures refused { IfSome input.old (λ input. IfErr result.0 (λ why.
+            RefusedFor {A = Global} {R = S.Source} (IsRow S.Step) (kept_users self.old.standing)
+            session.old (given_of input) (event_in input) why)) }
+        ensures standing { self.new.standing ≡ self.old.standing }
+        ensures side { self.new.side ≡ self.old.side }
     {
         let moment = millis_since_1970(self.rt);
         let users = &self.standing.terms().users;
@@ -506,12 +544,35 @@ where
     }
 
     // Reports an event of the session that is none of its steps.
-    fn report(&mut self, event: SessionEvent) {
+    fn report(&self, event: SessionEvent) {
         self.house.handler.lock(self.rt).on_session(self.own, event);
     }
 
+    // Ends the session in the place of a step for a line, if it is to end now. The client is told.
+    fn ends_instead(&mut self, input: &Option<Input<Global, S::Sink>>) -> bool
+        ensures line { IfSome input.now (λ input.
+            result ≡ true → is_line (given_of input) ≡ true) }
+        ensures stays { Stays self.old.standing self.new.standing }
+        ensures side { self.new.side ≡ self.old.side }
+    {
+        if !is_line(input) {
+            return false;
+        }
+        self.compare_terms(true);
+        match self.last_reply() {
+            Some(reply) => {
+                let _ = self.socket.write(reply, &self.house.ending);
+                true
+            }
+            None => false,
+        }
+    }
+
     // Tells the client that it has passed a limit of time.
-    fn time_out(&mut self, why: TimeOut) {
+    fn time_out(&mut self, why: TimeOut)
+        ensures standing { self.new.standing ≡ self.old.standing }
+        ensures side { self.new.side ≡ self.old.side }
+    {
         self.report(SessionEvent::TimedOut(why));
         let _ = self.socket.write(time_out_reply(why), &self.house.ending);
     }
@@ -520,6 +581,8 @@ where
     fn read_some(&mut self, buffer: &mut [u8]) -> io::Result<Piece>
         requires room { 0 < length buffer.old }
         ensures bound { IfOk result (λ piece. reads_within piece buffer.new) }
+        ensures standing { self.new.standing ≡ self.old.standing }
+        ensures side { self.new.side ≡ self.old.side }
     {
         let is_busy = self.side.is_busy();
         let piece = self.socket.read(is_busy, buffer)?;
@@ -532,9 +595,11 @@ where
     // Passes on the events of the data side after the end of the control connection.
     fn end_with(&mut self, session: &mut Session<Global>, event: DataEvent<S::Sink>)
         requires closed { is_closed session.old.view.stage ≡ true }
-        ensures row { Stepped (IsRow {A = Global} {R = S.Source} S.Step) AnyCall
-            self.old session.old (Came event) session.new [] self.new }
+        ensures row { LentFor (IsRow {A = Global} {R = S.Source} S.Step)
+            (kept_users self.old.standing) session.old (Came event) session.new [] }
         ensures closed { is_closed session.new.view.stage ≡ true }
+        ensures standing { self.new.standing ≡ self.old.standing }
+        ensures side { self.new.side ≡ self.old.side }
     {
         let record = {
             let moment = millis_since_1970(self.rt);
@@ -569,19 +634,21 @@ where
 
     ghost Step = { S.Step };
 
-    ghost Does = { AnyCall };
+    ghost Does = { λ old call new.
+        SocketDoes old.standing old.side.run.payer call new.standing new.side.run.payer };
 
     fn step(
         &mut self,
         session: &mut Session<Global>,
         input: &mut Option<Input<Global, S::Sink>>,
-    ) -> Result<Vec<Action<Global, S::Source, S::Sink>>, Option<DataEvent<S::Sink>>> {
-        self.compare_terms();
+    ) -> Result<Vec<Action<Global, S::Source, S::Sink>>, NoStep<S::Sink>> {
+        if self.ends_instead(input) {
+            return Err(NoStep::Over);
+        }
+        self.compare_terms(session.is_inside());
         let (made, record) = self.step_over(session, input);
         self.follow_store(record);
-        if let Ok(actions) = &made {
-            self.report_refusals(actions);
-        }
+        self.report_made(&made);
         made
     }
 
@@ -620,15 +687,12 @@ where
     }
 
     fn write(&mut self, reply: &[u8]) -> io::Result<()> {
-        if self.is_wrong {
-            self.is_wrong = false;
-            self.delay(self.house.patience.login_delay);
-        }
+        self.delay_wrong();
         self.socket.write(reply, &self.house.ending)
     }
 
     fn read(&mut self, buffer: &mut [u8]) -> io::Result<Piece> {
-        self.compare_terms();
+        self.compare_terms(true);
         if let Some(reply) = self.last_reply() {
             let _ = self.socket.write(reply, &self.house.ending);
             return Ok(Piece::AtEnd);
@@ -674,7 +738,7 @@ where
     }
 
     fn look(&mut self) -> Option<DataEvent<S::Sink>> {
-        let event = self.side.look(self.standing.user(), micros(self.rt));
+        let event = self.side.look(micros(self.rt));
         if is_without_port(&event) {
             if let Some(error) = self.side.port_fault() {
                 self.report(SessionEvent::NoPort(error));

@@ -1,14 +1,15 @@
 //! The transfer of a session, and the session's right to its ticket.
 
-ghost use Rattle.std.specs.Prelude.{◌≡◌, IfNone, IfSome, false, true};
+ghost use Rattle.std.specs.Prelude.{◌≡◌, ℕ, IfNone, IfSome, false, true};
+ghost use Rattle.socket_host.specs.Payers.{charged_on};
 ghost use Rattle.socket_host.specs.Running.{Aborts, Stops, Takes, is_marked, is_moving, port_of};
 ghost use Rattle.transfer_ticket.specs.Tickets.{is_busy, is_owner};
 ghost use Rattle.transfer_ticket.specs.Views.{owner_view};
 ghost use Rattle.transfer_ticket.specs.declared.view.TicketView.TheVariants.{Idle};
 
-use crate::running::{Running, over, taken_back};
+use crate::running::{Running, lane_job, over, taken_back};
 use server_house::{DataConnection, LaneEnds, SessionEnd, SessionJob, TransferEnd};
-use session_table::End;
+use session_table::{End, Job};
 use std::alloc::Global;
 use std::net::TcpListener;
 use std::{io, mem};
@@ -21,6 +22,8 @@ fn stop<S: Store<Global>>(
     connection: DataConnection,
 ) -> Running<S::Source, S::Sink>
     requires busy { is_busy (owner_view owner.old) ≡ true }
+    ensures charged { (payer : ℕ) → charged_on payer (owner_view owner.old) ≡ payer
+        → charged_on payer (owner_view owner.new) ≡ payer }
     ensures stops { Stops (owner_view owner.old) connection result (owner_view owner.new) }
 {
     match owner.cancel() {
@@ -51,6 +54,9 @@ pub(crate) enum Taken<K> {
 pub(crate) struct SessionRun<'h, S: Store<Global>> {
     pub(crate) owner: TicketOwner<'h, SessionJob<S>, SessionEnd<S>, LaneEnds>,
     pub(crate) running: Running<S::Source, S::Sink>,
+    // the number of the user who is charged for it
+    pub(crate) payer: u32,
+    ghost charged: { charged_on payer (owner_view owner) ≡ payer },
     ghost tied: { (is_owner (owner_view owner) ≡ true)
         × (is_moving running ≡ is_busy (owner_view owner))
         × (is_marked running (owner_view owner) ≡ true) },
@@ -67,14 +73,32 @@ impl<'h, S: Store<Global>> SessionRun<'h, S> {
         SessionRun {
             owner,
             running: Running::Nothing,
+            payer: 0,
         }
     }
 
-    /// Puts a transfer over a connection on the ticket. Returns whether the ticket's number is to be appended to the board.
-    pub(crate) fn put(&mut self, connection: DataConnection, job: SessionJob<S>) -> bool
+    /// Charges a user for the next transfer.
+    pub(crate) fn charge(&mut self, user: u32)
+        requires nothing { self.old.running ≡ Running.Nothing }
+        ensures payer { self.new.payer ≡ user }
+        ensures running { self.new.running ≡ self.old.running }
+    {
+        self.payer = user;
+    }
+
+    /// Puts a transfer over a connection on the ticket, for the user who is charged. Returns whether the ticket's number is to be appended to the board.
+    pub(crate) fn put(
+        &mut self,
+        connection: DataConnection,
+        theirs: DataConnection,
+        job: Job<Global, S::Source, S::Sink>,
+        session: u32,
+    ) -> bool
         requires nothing { self.old.running ≡ Running.Nothing }
         ensures moving { self.new.running ≡ Running.Moving connection false }
+        ensures payer { self.new.payer ≡ self.old.payer }
     {
+        let job = lane_job(job, theirs, self.payer, session);
         let is_to_list = self.owner.put(job);
         self.running = Running::Moving {
             connection,
@@ -90,6 +114,7 @@ impl<'h, S: Store<Global>> SessionRun<'h, S> {
         ensures stays { IfNone result ((is_moving self.old.running ≡ true)
             × (self.new.running ≡ self.old.running)
             × (owner_view self.new.owner ≡ owner_view self.old.owner)) }
+        ensures payer { self.new.payer ≡ self.old.payer }
     {
         if let Running::Moving { .. } = &self.running {
             return None;
@@ -101,6 +126,7 @@ impl<'h, S: Store<Global>> SessionRun<'h, S> {
     pub(crate) fn abort(&mut self) -> Option<(TcpListener, u16)>
         ensures running { Aborts (owner_view self.old.owner) self.old.running self.new.running }
         ensures port { result ≡ port_of self.old.running }
+        ensures payer { self.new.payer ≡ self.old.payer }
     {
         let before = mem::replace(&mut self.running, Running::Nothing);
         match before {
@@ -140,6 +166,7 @@ impl<'h, S: Store<Global>> SessionRun<'h, S> {
     /// Takes the end of the transfer, if it has ended. The connection is closed first.
     pub(crate) fn take_end(&mut self) -> Taken<S::Sink>
         ensures takes { Takes (owner_view self.old.owner) self.old.running result self.new.running }
+        ensures payer { self.new.payer ≡ self.old.payer }
     {
         let before = mem::replace(&mut self.running, Running::Nothing);
         match before {
@@ -173,7 +200,11 @@ impl<'h, S: Store<Global>> SessionRun<'h, S> {
     pub(crate) fn leave(self)
         requires nothing { is_moving self.running ≡ false }
     {
-        let SessionRun { owner, running: _ } = self;
+        let SessionRun {
+            owner,
+            running: _,
+            payer: _,
+        } = self;
         owner.leave();
     }
 }

@@ -2,6 +2,7 @@
 
 ghost use Rattle.std.specs.Prelude.{◌≡◌};
 ghost use Rattle.socket_host.specs.Jobs.{IsBrief, fits_first_write, is_upload, lane_job, sink_of};
+ghost use Rattle.socket_host.specs.Payers.{user_of};
 ghost use Rattle.socket_host.specs.Running.{over, taken_back};
 
 use ftp_terms::DataType;
@@ -99,6 +100,7 @@ pub(crate) fn lane_job<R: Source, K: Sink>(
     session: u32,
 ) -> LaneJob<Served<Global, R>, K, DataConnection>
     ensures job { result ≡ lane_job job connection user session }
+    ensures user { user_of result ≡ user }
 {
     match job {
         Job::Text(octets) => LaneJob::Send {

@@ -1,6 +1,9 @@
 //! A whole control session over sockets.
 
 ghost use Rattle.std.specs.Prelude.{◌≡◌, ◌<◌, ◌≤◌, ◌^◌, IsTrue, None, Some, false};
+ghost use Rattle.control_session.specs.Rows.{IsRow};
+ghost use Rattle.socket_host.specs.Hosted.{IsHosted};
+ghost use Rattle.std.specs.declared.alloc.Global.{Global};
 ghost use Rattle.transfer_ticket.specs.Views.{owner_view};
 ghost use Rattle.transfer_ticket.specs.declared.view.TicketView.TheVariants.{Idle};
 
@@ -32,14 +35,33 @@ pub fn sessions_are_long()
 /// Size of one read of what comes after the end.
 const LAST_PIECE: usize = 512;
 
-/// A host with the settings of its session. A call whose type argument has several lifetimes may take no settings, so the
-/// functions below have one type parameter for the host.
+/// A host with the settings of its session, which keeps the users of the login and charges whoever was logged in last. A
+/// call whose type argument has several lifetimes may take no settings, so the functions below have one type parameter
+/// for the host.
 pub(crate) trait SessionHost: Host<Global> {
+    ghost use Rattle.std.specs.Prelude.{ℕ};
+    ghost use Rattle.authorizer.specs.Users.{Users};
+    ghost use Rattle.control_session.specs.Charges.{ChargesUsers};
+    ghost use Rattle.control_session.specs.Logins.{KeepsUsers};
+
+    /// The users by whom the session goes.
+    ghost kept: { Self → Users };
+
+    /// The number of the user who was logged in last.
+    ghost user: { Self → ℕ };
+
+    /// The number charged for the transfer that was begun last.
+    ghost charged: { Self → ℕ };
+
     /// The settings of the session.
     fn settings(&self) -> Result<Settings, AllocError>;
 
     /// Ends the control connection in such a way that the last reply arrives, and leaves the ticket of the session.
     fn leave_client(self, buffer: &mut [u8]);
+
+    ghost keeps: { KeepsUsers Self.Does kept };
+
+    ghost charges: { ChargesUsers Self.Does kept user charged };
 }
 
 impl<'h, R, S, H, B, T> SessionHost for SocketHost<'h, R, S, H, B, T>
@@ -50,6 +72,19 @@ where
     B: PartsName,
     T: OwnRuns,
 {
+    ghost use Rattle.socket_host.specs.Doing.{kept_users};
+    ghost use Rattle.socket_host.specs.DoingLaws.{charges_users, keeps_users};
+
+    ghost kept = { λ host. kept_users host.standing };
+
+    ghost user = { λ host. host.standing.user };
+
+    ghost charged = { λ host. host.side.run.payer };
+
+    ghost keeps = { keeps_users (λ host. host.standing) (λ host. host.side.run.payer) };
+
+    ghost charges = { charges_users (λ host. host.standing) (λ host. host.side.run.payer) };
+
     fn settings(&self) -> Result<Settings, AllocError> {
         self.copy_settings()
     }
@@ -62,7 +97,11 @@ where
 }
 
 // Runs the whole session of a host. If there is no memory to begin, the client gets no reply.
-fn run_hosted<T: SessionHost>(alloc: &Global, host: &mut T, peer: [u8; 4]) {
+fn run_hosted<T: SessionHost>(alloc: &Global, host: &mut T, peer: [u8; 4])
+    ensures served { IsHosted (IsRow {A = Global} {R = T.Source} T.Step) T.Does MOST_READS peer
+        host.old host.new (T.kept host.old) (T.user host.old) (T.charged host.old)
+        (T.charged host.new) }
+{
     if let Ok(settings) = host.settings() {
         let _ = run_control(alloc, host, settings, peer, MOST_READS);
     }

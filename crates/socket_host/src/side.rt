@@ -14,7 +14,7 @@ ghost use Rattle.transfer_ticket.specs.declared.view.TicketView.TheVariants.{Idl
 use crate::keeping::KeptPort;
 use crate::ports::SharedPorts;
 use crate::run::{SessionRun, Taken};
-use crate::running::{Prepared, Running, is_brief, is_upload, lane_job, over};
+use crate::running::{Prepared, Running, is_brief, is_upload, over};
 use event_word::{has_passed, micros};
 use ftp_wire::HostPort;
 use lent_parts::PartsName;
@@ -168,6 +168,7 @@ where
         ensures ready { self.new.ready ≡ self.old.ready }
         ensures cause { self.new.cause ≡ self.old.cause }
         ensures kept { self.new.kept ≡ self.old.kept }
+        ensures payer { self.new.run.payer ≡ self.old.run.payer }
     {
         let before = mem::replace(&mut self.prepared, Prepared::Nothing);
         match before {
@@ -195,6 +196,7 @@ where
         ensures prepared { self.new.prepared ≡ self.old.prepared }
         ensures running { self.new.run.running ≡ self.old.run.running }
         ensures cause { self.new.cause ≡ self.old.cause }
+        ensures payer { self.new.run.payer ≡ self.old.run.payer }
     {
         let (listener, port) = self.kept.take()?;
         if empty_queue(&listener) {
@@ -210,6 +212,7 @@ where
         ensures running { self.new.run.running ≡ self.old.run.running }
         ensures cause { self.new.cause ≡ self.old.cause }
         ensures kept { self.new.kept ≡ self.old.kept }
+        ensures payer { self.new.run.payer ≡ self.old.run.payer }
     {
         let mut ports = SharedPorts {
             rt: self.rt,
@@ -251,6 +254,7 @@ where
         ensures prepared { self.new.prepared ≡ self.old.prepared }
         ensures running { self.new.run.running ≡ self.old.run.running }
         ensures cause { self.new.cause ≡ self.old.cause }
+        ensures payer { self.new.run.payer ≡ self.old.run.payer }
     {
         match self.take_kept() {
             Some(found) => Some(found),
@@ -265,6 +269,7 @@ where
         ensures prepared { IsNoTarget self.new.prepared }
         ensures running { self.new.run.running ≡ self.old.run.running }
         ensures kept { self.new.kept ≡ without_port self.old.kept }
+        ensures payer { self.new.run.payer ≡ self.old.run.payer }
     {
         self.drop_data();
         match self.find_port() {
@@ -282,6 +287,7 @@ where
         ensures running { self.new.run.running ≡ self.old.run.running }
         ensures ready { self.new.ready ≡ self.old.ready }
         ensures kept { self.new.kept ≡ without_port self.old.kept }
+        ensures payer { self.new.run.payer ≡ self.old.run.payer }
     {
         self.drop_data();
         let kept = self.kept.take();
@@ -290,19 +296,20 @@ where
     }
 
     // Hands a transfer to the lanes.
-    fn hand_over(&mut self, stream: TcpStream, job: Job<Global, S::Source, S::Sink>, user: u32)
+    fn hand_over(&mut self, stream: TcpStream, job: Job<Global, S::Source, S::Sink>)
         requires nothing { self.old.run.running ≡ Running.Nothing }
         ensures running { IsHandedOver job self.new.run.running }
         ensures prepared { self.new.prepared ≡ self.old.prepared }
         ensures ready { self.new.ready ≡ self.old.ready }
         ensures kept { self.new.kept ≡ self.old.kept }
+        ensures payer { self.new.run.payer ≡ self.old.run.payer }
     {
         if is_upload(&job) {
             let _ = stream.set_read_timeout(Some(Duration::from_millis(STANDSTILL)));
         }
         match DataConnection::new(self.rt.alloc(), stream) {
             Ok(own) => match own.another() {
-                Ok(theirs) => self.put(own, theirs, job, user),
+                Ok(theirs) => self.put(own, theirs, job),
                 Err(_) => self.end_unbegun(job),
             },
             Err(_) => self.end_unbegun(job),
@@ -317,6 +324,7 @@ where
         ensures prepared { self.new.prepared ≡ self.old.prepared }
         ensures ready { self.new.ready ≡ self.old.ready }
         ensures kept { self.new.kept ≡ self.old.kept }
+        ensures payer { self.new.run.payer ≡ self.old.run.payer }
     {
         self.cause = Some(EndCause::NoMemory);
         self.run.running = over(End::NoMemory, job);
@@ -328,7 +336,6 @@ where
         own: DataConnection,
         theirs: DataConnection,
         job: Job<Global, S::Source, S::Sink>,
-        user: u32,
     )
         requires nothing { self.old.run.running ≡ Running.Nothing }
         ensures running { self.new.run.running ≡ Running.Moving own false }
@@ -336,11 +343,11 @@ where
         ensures ready { self.new.ready ≡ self.old.ready }
         ensures cause { self.new.cause ≡ self.old.cause }
         ensures kept { self.new.kept ≡ self.old.kept }
+        ensures payer { self.new.run.payer ≡ self.old.run.payer }
     {
         let is_brief = is_brief(&job);
-        let job = lane_job(job, theirs, user, self.session);
-        if self.run.put(own, job) {
-            if is_brief && self.runs.run_here(self.session, user) {
+        if self.run.put(own, theirs, job, self.session) {
+            if is_brief && self.runs.run_here(self.session, self.run.payer) {
                 return;
             }
             self.list();
@@ -362,6 +369,7 @@ where
         ensures prepared { self.new.prepared ≡ self.old.prepared }
         ensures ready { self.new.ready ≡ self.old.ready }
         ensures kept { self.new.kept ≡ self.old.kept }
+        ensures payer { self.new.run.payer ≡ self.old.run.payer }
     {
         self.cause = Some(why);
         self.run.running = over(End::NoConnection, job);
@@ -375,19 +383,19 @@ where
         job: Job<Global, S::Source, S::Sink>,
         since: u64,
         now: u64,
-        user: u32,
     )
         requires nothing { self.old.run.running ≡ Running.Nothing }
         ensures running { IsAwaited listener port job since now self.new.run.running }
         ensures prepared { self.new.prepared ≡ self.old.prepared }
         ensures ready { self.new.ready ≡ self.old.ready }
         ensures kept { Keeps self.old.kept (listener, port) self.new.run.running self.new.kept }
+        ensures payer { self.new.run.payer ≡ self.old.run.payer }
     {
         match accept_from(&listener, self.wanted) {
             Some(stream) => {
                 let closed = self.kept.keep(listener, port);
                 self.close(closed);
-                self.hand_over(stream, job, user);
+                self.hand_over(stream, job);
             }
             None => {
                 if has_passed(since, now, PATIENCE) {
@@ -412,16 +420,16 @@ where
         job: Job<Global, S::Source, S::Sink>,
         since: u64,
         now: u64,
-        user: u32,
     )
         requires nothing { self.old.run.running ≡ Running.Nothing }
         ensures running { IsConnecting job since now self.new.run.running }
         ensures prepared { self.new.prepared ≡ self.old.prepared }
         ensures ready { self.new.ready ≡ self.old.ready }
         ensures kept { self.new.kept ≡ self.old.kept }
+        ensures payer { self.new.run.payer ≡ self.old.run.payer }
     {
         match outgoing.progress() {
-            Progress::Connected(stream) => self.hand_over(stream, job, user),
+            Progress::Connected(stream) => self.hand_over(stream, job),
             Progress::Failed(error) => self.end_without(EndCause::NotConnected(error), job),
             Progress::Pending(outgoing) => {
                 if has_passed(since, now, CONNECTING) {
@@ -439,15 +447,16 @@ where
     }
 
     // Begins a connection to a client's port, at this moment.
-    fn connect(&mut self, to: HostPort, job: Job<Global, S::Source, S::Sink>, user: u32, now: u64)
+    fn connect(&mut self, to: HostPort, job: Job<Global, S::Source, S::Sink>, now: u64)
         requires nothing { self.old.run.running ≡ Running.Nothing }
         ensures running { Starts (Prepared.Target to) job now self.new.run.running }
         ensures prepared { self.new.prepared ≡ self.old.prepared }
         ensures ready { self.new.ready ≡ self.old.ready }
         ensures kept { self.new.kept ≡ self.old.kept }
+        ensures payer { self.new.run.payer ≡ self.old.run.payer }
     {
         match Outgoing::begin(self.rt, socket_address(to.address, to.port)) {
-            Ok(outgoing) => self.await_answer(outgoing, job, now, now, user),
+            Ok(outgoing) => self.await_answer(outgoing, job, now, now),
             Err(error) => self.end_without(EndCause::NotConnected(error), job),
         }
     }
@@ -458,6 +467,7 @@ where
         ensures prepared { self.new.prepared ≡ self.old.prepared }
         ensures ready { self.new.ready ≡ self.old.ready }
         ensures kept { self.new.kept ≡ self.old.kept }
+        ensures payer { self.new.run.payer ≡ self.old.run.payer }
     {
         self.abort();
         self.await_end();
@@ -472,15 +482,17 @@ where
         ensures cause { StartCause self.old.prepared self.new.cause }
         ensures kept { StartKeeps self.old.prepared self.old.kept self.new.run.running
             self.new.kept }
+        ensures payer { self.new.run.payer ≡ user }
     {
         self.clear();
+        self.run.charge(user);
         let prepared = mem::replace(&mut self.prepared, Prepared::Nothing);
         self.cause = None;
         match prepared {
             Prepared::Nothing => self.end_without(EndCause::NothingPrepared, job),
-            Prepared::Target(to) => self.connect(to, job, user, now),
+            Prepared::Target(to) => self.connect(to, job, now),
             Prepared::Listening(listener, port) => {
-                self.await_client(listener, port, job, now, now, user);
+                self.await_client(listener, port, job, now, now);
             }
         }
     }
@@ -495,6 +507,7 @@ where
         ensures cause { AbortCause self.old.run.running self.new.run.running self.old.cause
             self.new.cause }
         ensures kept { self.new.kept ≡ self.old.kept }
+        ensures payer { self.new.run.payer ≡ self.old.run.payer }
     {
         let is_open = !matches!(&self.run.running, Running::Nothing | Running::Over(_));
         if let Some((listener, port)) = self.run.abort() {
@@ -515,6 +528,7 @@ where
         ensures cause { TakenCause self.old.run.running result self.old.cause self.new.cause }
         ensures moved { IsMovedBy result self.new.moved }
         ensures kept { self.new.kept ≡ self.old.kept }
+        ensures payer { self.new.run.payer ≡ self.old.run.payer }
     {
         match self.run.take_end() {
             Taken::Nothing => None,
@@ -536,7 +550,7 @@ where
     }
 
     // Accepts the client's connection, if it has come by this moment, or takes that to its port, if it is there.
-    fn go_on(&mut self, user: u32, now: u64)
+    fn go_on(&mut self, now: u64)
         ensures running { GoesOn now self.old.run.running self.new.run.running }
         ensures ticket { is_moving self.old.run.running ≡ true
             → owner_view self.new.run.owner ≡ owner_view self.old.run.owner }
@@ -545,6 +559,7 @@ where
         ensures cause { GoesCause self.old.run.running self.old.cause self.new.cause }
         ensures kept { GoesKeeps self.old.run.running self.old.kept self.new.run.running
             self.new.kept }
+        ensures payer { self.new.run.payer ≡ self.old.run.payer }
     {
         match self.run.take_out() {
             Some(
@@ -554,24 +569,24 @@ where
                     job,
                     since,
                 },
-            ) => self.await_client(listener, port, job, since, now, user),
+            ) => self.await_client(listener, port, job, since, now),
             Some(
                 Running::Connecting {
                     outgoing,
                     job,
                     since,
                 },
-            ) => self.await_answer(outgoing, job, since, now, user),
+            ) => self.await_answer(outgoing, job, since, now),
             Some(Running::Over(reported)) => self.run.running = Running::Over(reported),
             Some(Running::Moving { .. }) => unreachable!(),
             Some(Running::Nothing) | None => {}
         }
     }
 
-    /// Reports a port, or the end of this user's transfer; `None` if there is neither by this moment, in microseconds. A
+    /// Reports a port, or the end of the transfer; `None` if there is neither by this moment, in microseconds. A
     /// client that has not connected to its port within a minute, or whose port has not answered within five seconds,
     /// is not waited for any longer. Does not wait.
-    pub fn look(&mut self, user: u32, now: u64) -> Option<DataEvent<S::Sink>>
+    pub fn look(&mut self, now: u64) -> Option<DataEvent<S::Sink>>
         ensures port { IfSome self.old.ready (λ port. (result ≡ Some (Ready port))
             × (self.new.run.running ≡ self.old.run.running)) }
         ensures end { IfNone self.old.ready (Looks (owner_view self.old.run.owner) now
@@ -583,11 +598,12 @@ where
         ensures same { IfSome self.old.ready (λ port. self.new.kept ≡ self.old.kept) }
         ensures kept { IfNone self.old.ready
             (LookKeeps self.old.run.running self.old.kept self.new.run.running self.new.kept) }
+        ensures payer { self.new.run.payer ≡ self.old.run.payer }
     {
         if let Some(port) = self.ready.take() {
             return Some(DataEvent::Ready(port));
         }
-        self.go_on(user, now);
+        self.go_on(now);
         event_of(self.take_end())
     }
 
@@ -625,6 +641,7 @@ where
         ensures prepared { self.new.prepared ≡ self.old.prepared }
         ensures ready { self.new.ready ≡ self.old.ready }
         ensures kept { self.new.kept ≡ self.old.kept }
+        ensures payer { self.new.run.payer ≡ self.old.run.payer }
     {
         let rt = self.rt;
         for _ in rt.forever() {
@@ -651,6 +668,7 @@ where
         ensures prepared { self.new.prepared ≡ Prepared.Nothing }
         ensures ready { self.new.ready ≡ None }
         ensures kept { self.new.kept ≡ self.old.kept }
+        ensures payer { self.new.run.payer ≡ self.old.run.payer }
     {
         self.drop_data();
         self.ready = None;

@@ -149,17 +149,18 @@ impl Standing {
         }
     }
 
-    /// Takes the terms in force: a session without a user holds them from now on.
-    pub fn take(&mut self, newest: HeldTerms)
+    /// Takes the terms in force: a session without a user holds them from now on, unless it is to keep those that it has.
+    pub fn take(&mut self, newest: HeldTerms, keeps: bool)
         ensures kept { self.old.is_inside ≡ true → self.new.held ≡ self.old.held }
-        ensures taken { self.old.is_inside ≡ false → self.new.held ≡ newest }
+        ensures keeps { keeps ≡ true → self.new.held ≡ self.old.held }
+        ensures taken { keeps ≡ false → self.old.is_inside ≡ false → self.new.held ≡ newest }
         ensures seen { self.new.seen ≡ newest.exchanges }
         ensures user { (self.new.user ≡ self.old.user) × (self.new.name ≡ self.old.name) }
         ensures inside { self.new.is_inside ≡ self.old.is_inside }
         ensures removed { self.new.is_removed ≡ self.old.is_removed }
     {
         self.seen = newest.exchanges();
-        if !self.is_inside {
+        if !keeps && !self.is_inside {
             self.held = newest;
         }
     }

@@ -1,6 +1,6 @@
 -- A status, made of the configuration's facts, of what sessions have begun, and of a look at the
 -- rounds.
-use Rattle.std.specs.Prelude.{◌≡◌, ◌-◌, ◌<◌, ◌^◌, ◌+◌, ℕ, List, [], ◌∷◌, Option, Some, None, length, min, slice_get, string_bytes, sum_by}
+use Rattle.std.specs.Prelude.{◌≡◌, ◌≤◌, ◌-◌, ◌<◌, ◌^◌, ◌+◌, ℕ, List, [], ◌∷◌, Option, Some, None, length, min, slice_get, string_bytes, sum_by}
 use Rattle.std.specs.List.{All}
 use Rattle.std.specs.Option.{option_map, option_map_or, option_and_then}
 use Rattle.std.specs.FinMap as finite
@@ -70,7 +70,8 @@ pub record IsRow (facts : StatusFacts) (lanes : List LaneLook) (t : KeptTransfer
   pub size : row.size ≡ t.size
   pub begun : row.begun ≡ t.since - facts.zero
   pub granted : row.granted ≡ option_map_or (λ l. l.tally.granted) lane 0
-  pub moved : row.moved ≡ option_map_or (λ l. l.moved) lane 0
+  pub moved : row.moved ≡ option_map_or (λ l. min l.moved l.tally.granted) lane 0
+  pub within : row.moved ≤ row.granted
   pub rounds : row.rounds
       ≡ rounds_of (option_map_or (λ l. all_rounds l.tally) lane no_rounds)
   pub guaranteed : row.guaranteed

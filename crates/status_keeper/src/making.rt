@@ -112,7 +112,12 @@ fn row_of(
     let lane = lane_of(lanes, transfer.session);
     let way = way_of(transfer.kind);
     let (granted, moved, held) = match lane {
-        Some(lane) => (lane.tally.granted, lane.moved, lane.tally.all_rounds()),
+        // A lane asks and moves during a look, which may have seen a grant moved and not yet counted.
+        Some(lane) => (
+            lane.tally.granted,
+            lane.moved.min(lane.tally.granted),
+            lane.tally.all_rounds(),
+        ),
         None => (0, 0, HeldTally::NONE),
     };
     Ok(TransferStatus {

@@ -19,7 +19,10 @@ use Rattle.http_server.specs.Exchange.{Call, Calls, Chain, Exchanges, IsInterim,
 use Rattle.http_server.specs.History.{History, IsDone, IsServed, Justifies, Stands, new_history, output}
 use Rattle.http_server.specs.Response.{fields_of}
 use Rattle.server_status.specs.declared.status.Status.{Status}
-use Rattle.status_page.specs.Answers.{Answers, IsRouted, IsShown}
+use Rattle.http.specs.Request.{head_of}
+use Rattle.http_uri.specs.Uri.{uri_path}
+use Rattle.status_page.specs.Answers.{Answers, IsHosted, IsRouted, IsShown, is_read, route_of}
+use Rattle.status_page.specs.Hosts.{is_own_request}
 use Rattle.status_page.specs.Exchanges.{IsAnswered, IsOutcome}
 use Rattle.status_page.specs.declared.routes.Route.{Route}
 use Rattle.status_page.specs.declared.routes.Route.TheVariants.{Page, Json, Metrics}
@@ -52,8 +55,12 @@ routed_final status None read r is = final_of r _ is.headers (λ e. absurd (omeg
 routed_final status (Some route) false r is = final_of r _ is.headers (λ e. absurd (omega (arith, e, is.status)))
 routed_final status (Some route) true r is = shown_final status route r is
 
+hosted_final : (status : Status) (own : Bool) (route : Option Route) (read : Bool) (r : Response) → IsHosted status own route read r → IsFinal r
+hosted_final status false route read r is = final_of r _ is.headers (λ e. absurd (omega (arith, e, is.status)))
+hosted_final status true route read r is = routed_final status route read r is
+
 answer_final : (status : Status) (q : Request (List ℕ)) (r : Response) → Answers status q r → IsFinal r
-answer_final status q r is = routed_final status _ _ r is
+answer_final status q r is = hosted_final status (is_own_request q) (route_of (uri_path (head_of q).uri)) (is_read (head_of q).method) r is
 
 -- ---- no call was answered before the last
 

@@ -9,6 +9,7 @@ use Rattle.http_server.specs.declared.response.Response.{Response}
 use Rattle.http_server.specs.Response.{IsResponse}
 use Rattle.server_status.specs.StatusData.{IsStatusText}
 use Rattle.server_status.specs.declared.status.Status.{Status}
+use Rattle.status_page.specs.Hosts.{is_own_request}
 use Rattle.status_page.specs.Metrics.{metrics}
 use Rattle.status_page.specs.declared.page.TheConstants.{PAGE, POLICY}
 use Rattle.status_page.specs.declared.routes.Route.{Route}
@@ -31,7 +32,9 @@ abbrev pub fields_with : List ℕ → List Header
 fields_with type =
     (codes "connection", codes "close") ∷ (codes "cache-control", codes "no-store")
     ∷ (codes "x-content-type-options", codes "nosniff")
-    ∷ (codes "content-security-policy", POLICY.now) ∷ (codes "content-type", type) ∷ []
+    ∷ (codes "content-security-policy", POLICY.now)
+    ∷ (codes "cross-origin-resource-policy", codes "same-origin")
+    ∷ (codes "content-type", type) ∷ []
 
 -- a status, with the fields of a type, and a content
 abbrev pub IsTyped : ℕ → List ℕ → List ℕ → Response → Type 0
@@ -57,8 +60,15 @@ IsRouted status (Some route) false response =
     (codes "method not allowed\n") response
 IsRouted status (Some route) true response = IsShown status route response
 
--- the answer to a request, by its path and its method
+-- the answer by whether the request is for a host of this machine for itself: whoever reaches the
+-- page under another name is shown nothing
+abbrev pub IsHosted : Status → Bool → Option Route → Bool → Response → Type 0
+IsHosted status false route read response =
+    IsTyped 421 plain_type (codes "misdirected request\n") response
+IsHosted status true route read response = IsRouted status route read response
+
+-- the answer to a request, by its host, its path and its method
 abbrev pub Answers : Status → Request (List ℕ) → Response → Type 0
 Answers status request response =
-    IsRouted status (route_of (uri_path (head_of request).uri)) (is_read (head_of request).method)
-    response
+    IsHosted status (is_own_request request) (route_of (uri_path (head_of request).uri))
+    (is_read (head_of request).method) response

@@ -12,6 +12,7 @@
 #![tactic(auto)]
 
 mod escapes;
+mod hosts;
 mod limits;
 mod metrics;
 mod page;

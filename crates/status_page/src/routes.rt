@@ -4,6 +4,7 @@ ghost use Rattle.std.specs.Prelude.{◌≡◌, ◌++◌, ◌∷◌, [], IfOk, On
 ghost use Rattle.http_server.specs.Response.{IsBlank, IsResponse};
 ghost use Rattle.status_page.specs.Answers.{Answers, IsShown, IsTyped, fields_with, is_read, route_of};
 
+use crate::hosts::is_own_request;
 use crate::metrics::metrics_text;
 use crate::page::{PAGE, POLICY};
 use bytes::{BufMut, Bytes};
@@ -54,10 +55,12 @@ fn fill(
     let no_store = HeaderValue::from_static("no-store");
     let no_sniff = HeaderValue::from_static("nosniff");
     let policy = HeaderValue::from_static(POLICY);
+    let own = HeaderValue::from_static("same-origin");
     response.add_header(HeaderName::from_static("connection"), close)?;
     response.add_header(HeaderName::from_static("cache-control"), no_store)?;
     response.add_header(HeaderName::from_static("x-content-type-options"), no_sniff)?;
     response.add_header(HeaderName::from_static("content-security-policy"), policy)?;
+    response.add_header(HeaderName::from_static("cross-origin-resource-policy"), own)?;
     response.add_header(HeaderName::from_static("content-type"), kind)?;
     response.status = status;
     response.body.put_slice(octets)
@@ -122,6 +125,16 @@ fn not_allowed(response: &mut Response) -> Result<(), AllocError>
     response.add_header(HeaderName::from_static("allow"), allow)
 }
 
+fn misdirected(response: &mut Response) -> Result<(), AllocError>
+    requires blank { IsBlank response.old }
+    ensures filled { OnOk result (IsTyped 421 (codes "text/plain; charset=utf-8")
+        (codes "misdirected request\n") response.new) }
+{
+    let kind = HeaderValue::from_static("text/plain; charset=utf-8");
+    let text = b"misdirected request\n";
+    fill(response, StatusCode::MISDIRECTED_REQUEST, kind, text)
+}
+
 /// Answers requests from one status.
 #[derive(Drop)]
 pub(crate) struct Routes<'s> {
@@ -146,6 +159,9 @@ impl<'s> Service for Routes<'s> {
         request: &Request<Bytes>,
         response: &mut Response,
     ) -> Result<(), AllocError> {
+        if !is_own_request(request) {
+            return misdirected(response);
+        }
         match route_of(request.uri().path()) {
             None => not_found(response),
             Some(route) if is_read(request.method()) => {

@@ -7,7 +7,7 @@ ghost use Rattle.lane_desk.specs.Seats.{desk_id};
 ghost use Rattle.lane_desk.specs.Posted.{AllAnswered};
 ghost use Rattle.lane_desk.specs.Traces.{traces, back, IsRoundOf};
 
-use grant_ledger::{Book, Grant, MAX_ISSUED, Settled, Tally, settle};
+use grant_ledger::{Book, BookName, Grant, MAX_ISSUED, SettledNumbers, Tally, settle};
 use lane_desk::{
     Desk, DeskFault, LaneSeat, RoundDesk, RoundFault, RoundRecord, SeatState, close_desk, open_desk,
 };
@@ -29,7 +29,7 @@ pub struct CheckedDesk<N, A: Allocator = Global> {
 }
 
 #[tactic(auto, using(crate::proofs::OwnSeats::fresh_are, crate::proofs::OwnSeats::set_are, crate::proofs::OwnSeats::seat_at))]
-impl<N, A: Allocator + Clone> CheckedDesk<N, A> {
+impl<N: BookName, A: Allocator + Clone> CheckedDesk<N, A> {
     /// A desk of `lanes` lanes, with a book that has issued `carried` octets.
     pub fn open(alloc: A, lanes: usize, carried: u64) -> Result<CheckedDesk<N, A>, DeskFault>
         requires few { carried ≤ MAX_ISSUED }
@@ -44,12 +44,15 @@ impl<N, A: Allocator + Clone> CheckedDesk<N, A> {
                 tally,
             }),
             Err(fault) => {
-                settle(book, tally);
+                settle(book, tally).numbers();
                 Err(fault)
             }
         }
     }
+}
 
+#[tactic(auto, using(crate::proofs::OwnSeats::fresh_are, crate::proofs::OwnSeats::set_are, crate::proofs::OwnSeats::seat_at))]
+impl<N, A: Allocator + Clone> CheckedDesk<N, A> {
     /// A worker sits down at a free lane.
     pub fn sit(&mut self, lane: usize) -> bool {
         if lane < self.seats.len() {
@@ -114,7 +117,7 @@ impl<N, A: Allocator + Clone> CheckedDesk<N, A> {
     }
 
     /// Closes the desk, and settles.
-    pub fn close(self) -> Settled {
+    pub fn close(self) -> SettledNumbers {
         let CheckedDesk {
             desk,
             round,
@@ -123,11 +126,11 @@ impl<N, A: Allocator + Clone> CheckedDesk<N, A> {
             mut tally,
         } = self;
         close_desk(desk, round, seats, &mut tally);
-        settle(book, tally)
+        settle(book, tally).numbers()
     }
 
     /// Collects on a lane, and closes the desk without an answer. Returns the ask.
-    pub fn collect_and_close(self, lane: usize) -> (Option<Ask>, Settled) {
+    pub fn collect_and_close(self, lane: usize) -> (Option<Ask>, SettledNumbers) {
         let CheckedDesk {
             desk,
             mut round,
@@ -135,12 +138,13 @@ impl<N, A: Allocator + Clone> CheckedDesk<N, A> {
             book,
             mut tally,
         } = self;
+        round.answers_end();
         let ask = if lane < round.lanes() {
             round.collect(&desk, lane)
         } else {
             None
         };
         close_desk(desk, round, seats, &mut tally);
-        (ask, settle(book, tally))
+        (ask, settle(book, tally).numbers())
     }
 }

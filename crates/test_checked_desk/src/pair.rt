@@ -35,7 +35,7 @@ pub fn settle_two<N, A: Allocator, B: Allocator>(
     first: OwnSeat<N>,
     second: OwnSeat<N>,
     mut room: Vec<Worked<N>, B>,
-) -> Settled
+) -> Settled<N>
     requires two { desk.lanes ≡ 2 }
     requires round { IsRoundOf desk rounds.desk × (back rounds.desk ≡ []) }
     requires first { IsSeatOf desk first.seat × (first.seat.lane ≡ 0) }

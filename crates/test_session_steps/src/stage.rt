@@ -16,7 +16,9 @@ use crate::hall::Hall;
 use crate::reported::{Job, put_connect, put_hook};
 use crate::words::{Word, asked};
 use authorizer::Authorizer;
-use control_session::{DataEvent, Host, Leaving, Piece, Session, close_by, end_by, step_by};
+use control_session::{
+    DataEvent, Host, Leaving, NoStep, Piece, Session, close_by, end_by, step_by,
+};
 use ftp_wire::HostPort;
 use memory_store::{MemSink, MemSource, MemStore};
 use session_table::{Action, End, HookCall, Input, Text};
@@ -217,10 +219,7 @@ impl<R: BufRead, W: Write> Host<Global> for Stage<R, W> {
         &mut self,
         session: &mut Session,
         input: &mut Option<Input<Global, MemSink<Global>>>,
-    ) -> Result<
-        Vec<Action<Global, MemSource<Global>, MemSink<Global>>>,
-        Option<DataEvent<MemSink<Global>>>,
-    > {
+    ) -> Result<Vec<Action<Global, MemSource<Global>, MemSink<Global>>>, NoStep<MemSink<Global>>> {
         let moment = self.hall.moment;
         let (floors, store) = (&mut self.hall.floors, &mut self.hall.store);
         step_by(session, &self.users, floors, store, input, moment)

@@ -4,7 +4,7 @@ ghost use Rattle.std.specs.Prelude.{◌≤◌};
 
 use crate::fault::FundsFault;
 use crate::sealing::sealed;
-use grant_ledger::{Book, Grant, Purse, Settled, Tally, settle};
+use grant_ledger::{Book, Grant, Purse, SettledNumbers, Tally, settle};
 use std::alloc::Global;
 
 /// The octets of one entry of a book, and their outcome so far.
@@ -22,7 +22,7 @@ impl Funds {
         match book.enter_out(&decided, 1) {
             Ok(purse) => Ok(Funds { book, purse, tally }),
             Err(_) => {
-                settle(book, tally);
+                settle(book, tally).numbers();
                 Err(FundsFault::Refused)
             }
         }
@@ -37,13 +37,13 @@ impl Funds {
     }
 
     /// Gives back what is left, and settles.
-    pub fn settle(self) -> Settled {
+    pub fn settle(self) -> SettledNumbers {
         let Funds { book, purse, tally } = self;
         let mut purse = purse;
         let mut tally = tally;
         let rest = purse.split(0, purse.left());
         purse.close();
         rest.spend(0, &mut tally);
-        settle(book, tally)
+        settle(book, tally).numbers()
     }
 }

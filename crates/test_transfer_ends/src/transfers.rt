@@ -4,7 +4,7 @@ use crate::ends::{Inlet, Outlet};
 use crate::funds::Funds;
 use data_pump::{DataIn, DataOut, OpenFault, PumpEnd, Pumped, pump_in, pump_out};
 use ftp_terms::DataType;
-use grant_ledger::Settled;
+use grant_ledger::SettledNumbers;
 use line_rates::{Ask, Way};
 use std::alloc::Global;
 use virtual_tree::{Sink, Source};
@@ -24,7 +24,7 @@ pub fn reported(found: &[Pumped], moved: &[u64], last: PumpEnd) -> bool {
 #[derive(Drop)]
 pub struct Outcome {
     pub pumps: Vec<Pumped>,
-    pub settled: Settled,
+    pub settled: SettledNumbers,
     /// True if each call beside the pumps returned the right result.
     pub is_sound: bool,
 }

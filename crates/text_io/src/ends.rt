@@ -78,13 +78,16 @@ impl<R: Read> TextReader for FallibleIo<R> {
     }
 }
 
-/// Reads once, and again if the read is interrupted.
+/// Number of times that a call is made if each time it is interrupted.
+const MOST_TRIES: u64 = 100;
+
+/// Reads once, and again if the read is interrupted: [`MOST_TRIES`] times in all.
 fn read_through<R: Read>(reader: &mut R, buffer: &mut [u8]) -> io::Result<usize>
     ensures bound { ReadsAtMost result buffer.new }
     ensures octets { ReadConsumes (R.remaining reader.old)
         (R.remaining reader.new) result buffer.new }
 {
-    'reads: for _ in 0..u64::MAX {
+    'reads: for _ in 0..MOST_TRIES {
         match reader.read(buffer) {
             Err(error) if error.kind() == ErrorKind::Interrupted => {}
             answer => return answer,
@@ -93,7 +96,7 @@ fn read_through<R: Read>(reader: &mut R, buffer: &mut [u8]) -> io::Result<usize>
     Err(io::Error::from(ErrorKind::Interrupted))
 }
 
-/// Writes once, at least one octet, and again if the write is interrupted.
+/// Writes once, at least one octet, and again if the write is interrupted: [`MOST_TRIES`] times in all.
 fn write_once<W: Write>(writer: &mut W, text: &[u8]) -> io::Result<usize>
     ensures some { IfOk result (λ count. 0 < count) }
     ensures bound { IfOk result (λ count. count ≤ length text.now) }
@@ -101,7 +104,7 @@ fn write_once<W: Write>(writer: &mut W, text: &[u8]) -> io::Result<usize>
         Appends (W.contents writer.old) (W.contents writer.new) (take count text.now)) }
     ensures kept { OnErr result (Keeps (W.contents writer.old) (W.contents writer.new)) }
 {
-    'writes: for _ in 0..u64::MAX {
+    'writes: for _ in 0..MOST_TRIES {
         match writer.write(text) {
             Ok(0) => return Err(io::Error::from(ErrorKind::WriteZero)),
             Err(error) if error.kind() == ErrorKind::Interrupted => {}

@@ -5,7 +5,7 @@
 //! ```
 //!
 //! That is: the second of the end, in UTC; the whole seconds that the transfer took, at least 1; the client's address;
-//! the octets that were moved; the path, with each blank and each control character replaced; the type, `a` or `b`; no
+//! the octets that were moved; the path, with each blank, control and format character replaced; the type, `a` or `b`; no
 //! special action; the direction, `o` from the server or `i` to it; the access, `a` for the users `anonymous` and `ftp`,
 //! otherwise `r`; the user; the service; no other authentication; and `c` if the transfer was complete, otherwise `i`.
 #![tactic(auto)]

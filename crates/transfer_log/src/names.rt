@@ -1,15 +1,38 @@
 //! Names within a line of fields.
 
 ghost use Rattle.std.specs.Prelude.{◌≡◌, ◌++◌, OnOk, encode_utf8, string_bytes};
-ghost use Rattle.transfer_log.specs.Names.{field_text, plain, plain_text};
+ghost use Rattle.transfer_log.specs.Names.{field_text, is_format, plain, plain_text};
 
 use std::alloc::AllocError;
 
-/// A character of a name; `_` in place of a blank or a control character.
+/// Returns whether a character shows nothing itself, and changes how others are shown: those that turn the direction of a
+/// text, those that join or part its words, and marks of no width (of Unicode's format characters all below U+10000).
+fn is_format(character: char) -> bool
+    ensures format { result ≡ is_format character }
+{
+    matches!(
+        character,
+        '\u{ad}'
+            | '\u{600}'..='\u{605}'
+            | '\u{61c}'
+            | '\u{6dd}'
+            | '\u{70f}'
+            | '\u{890}'..='\u{891}'
+            | '\u{8e2}'
+            | '\u{180e}'
+            | '\u{200b}'..='\u{200f}'
+            | '\u{202a}'..='\u{202e}'
+            | '\u{2060}'..='\u{206f}'
+            | '\u{feff}'
+            | '\u{fff9}'..='\u{fffb}'
+    )
+}
+
+/// A character of a name; `_` in place of a blank, of a control character and of a format character.
 fn plain(character: char) -> char
     ensures plain { result ≡ plain character }
 {
-    if character.is_whitespace() || character.is_control() {
+    if character.is_whitespace() || character.is_control() || is_format(character) {
         '_'
     } else {
         character

@@ -2,7 +2,7 @@
 
 ghost use Rattle.std.specs.Prelude.{IsTrue};
 
-use grant_ledger::{Book, Settled, Tally, settle};
+use grant_ledger::{Book, SettledNumbers, Tally, settle};
 use std::process::Abort;
 
 /// Stops the test if this is false.
@@ -21,10 +21,10 @@ pub(crate) fn settles(
     moved: u64,
     back: u64,
 ) {
-    let wanted = Settled {
+    let wanted = SettledNumbers {
         issued,
         moved,
         back,
     };
-    holds(rt, settle(book, tally) == wanted);
+    holds(rt, settle(book, tally).numbers() == wanted);
 }

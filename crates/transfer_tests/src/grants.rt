@@ -20,7 +20,7 @@ fn grant_ledger(rt: HostRuntime) -> Result<(), FundsFault> {
         }
         Err(_) => panic!(rt; "a later tick than the last is taken"),
     }
-    let settled = settle(book, tally);
+    let settled = settle(book, tally).numbers();
     assert!(rt; settled.issued == 100 && settled.moved == 60 && settled.back == 40);
     Ok(())
 }

@@ -11,7 +11,7 @@ use super::house::{House, Job, Keeper};
 use super::parts::{Lent, Opened};
 use super::shortages::{loop_without_memory, refuse_buffers};
 use ftp_terms::DataType;
-use grant_ledger::Settled;
+use grant_ledger::SettledNumbers;
 use lent_parts::{LentWorker, PartsName};
 use std::marker::Brand;
 use std::process::Abort;
@@ -184,7 +184,10 @@ fn stop_after_an_ask<B: PartsName>(
 }
 
 // All of these over the desk with this name.
-fn run_named<B: PartsName>(rt: &(impl Abort + AllocGlobal + Wait), opened: Opened) -> (u64, Settled)
+fn run_named<B: PartsName>(
+    rt: &(impl Abort + AllocGlobal + Wait),
+    opened: Opened,
+) -> (u64, SettledNumbers)
     requires desk { desk_id opened.desk ≡ B.desk }
     requires lanes { opened.desk.lanes ≡ B.lanes }
     requires rates { B.rates (rates_of opened.rounds.pace) ≡ true }

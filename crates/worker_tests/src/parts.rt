@@ -11,7 +11,7 @@ ghost use Rattle.round_pace.specs.Histories.{rates_of};
 
 use super::expect::limits;
 use super::house::House;
-use grant_ledger::{Book, Settled, Tally};
+use grant_ledger::{Book, SettledNumbers, Tally};
 use lane_desk::{Desk, LaneSeat, Rounds, Worked, open_desk};
 use lent_parts::{LentDesk, LentRounds, LentWorker, PartsName, settle_lent};
 use paced_rounds::PacedRounds;
@@ -98,7 +98,7 @@ impl<B: PartsName> Lent<B> {
     }
 
     /// Settles the desk.
-    pub(crate) fn settle<R: Abort + AllocGlobal + Wait>(self, rt: &R) -> Settled
+    pub(crate) fn settle<R: Abort + AllocGlobal + Wait>(self, rt: &R) -> SettledNumbers
         ensures sum { result.issued ≡ result.moved + result.back }
     {
         let Lent {
@@ -118,7 +118,7 @@ pub(crate) fn settle_house<B: PartsName, R: Abort + AllocGlobal + Wait>(
     rt: &R,
     house: House<B>,
     workers: Vec<LentWorker<B>>,
-) -> Settled
+) -> SettledNumbers
     ensures sum { result.issued ≡ result.moved + result.back }
 {
     let room = Vec::<Worked<()>>::with_capacity(rt.alloc(), workers.len());

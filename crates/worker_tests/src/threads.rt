@@ -11,7 +11,7 @@ use super::expect::holds;
 use super::house::{FIRST, House, Job, Keeper, SECOND};
 use super::parts::{Lent, Opened, settle_house};
 use ftp_terms::DataType;
-use grant_ledger::Settled;
+use grant_ledger::SettledNumbers;
 use lent_parts::{LentBoard, LentPass, LentWorker, PartsName};
 use std::alloc::Global;
 use std::marker::Brand;
@@ -148,7 +148,7 @@ fn work_and_settle<B, R>(
     house: House<B>,
     board: LentBoard<B, Job>,
     mut hands: Vec<Hand<B>>,
-) -> (bool, Settled)
+) -> (bool, SettledNumbers)
 where
     B: PartsName + Send + Sync + 'static,
     R: Abort + AllocGlobal + Threads + Wait + Sync,
@@ -181,7 +181,7 @@ fn both<B: PartsName>(
 }
 
 // Both workers over the desk and the board with this name: whether each ran one job, and the settlement.
-fn work_both<B, R>(rt: &R, opened: Opened, board: Board) -> (bool, Settled)
+fn work_both<B, R>(rt: &R, opened: Opened, board: Board) -> (bool, SettledNumbers)
 where
     B: PartsName + Send + Sync + 'static,
     R: Abort + AllocGlobal + Threads + Wait + Sync,

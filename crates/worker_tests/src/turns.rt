@@ -14,7 +14,7 @@ use super::house::House;
 use super::parts::{Lent, Opened};
 use data_pump::{DataIn, DataOut, PumpEnd, Pumped};
 use ftp_terms::DataType;
-use grant_ledger::{Settled, Tally};
+use grant_ledger::{SettledNumbers, Tally};
 use lane_desk::{Desk, LaneSeat, SeatState};
 use lent_parts::{LentWorker, PartsName};
 use line_rates::Ask;
@@ -181,7 +181,10 @@ fn receives_a_text<B: PartsName>(
 }
 
 // Both over the desk with this name.
-fn move_texts<B: PartsName>(rt: &(impl Abort + AllocGlobal + Wait), opened: Opened) -> Settled
+fn move_texts<B: PartsName>(
+    rt: &(impl Abort + AllocGlobal + Wait),
+    opened: Opened,
+) -> SettledNumbers
     requires desk { desk_id opened.desk ≡ B.desk }
     requires lanes { opened.desk.lanes ≡ B.lanes }
     requires rates { B.rates (rates_of opened.rounds.pace) ≡ true }

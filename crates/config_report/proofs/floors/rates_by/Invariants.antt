@@ -1,5 +1,5 @@
 use Rattle.std.proofs.Common.{◌≡◌, drop}
-use Rattle.config_report.specs.Warnings.{rates_by}
+use Rattle.config_report.specs.Floors.{rates_by}
 use Rattle.config_report.proofs.floors.rates_by.Given as goal
 
 abbrev pub invariant-loop-group : goal.invariant-loop-group

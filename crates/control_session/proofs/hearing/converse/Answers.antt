@@ -74,3 +74,6 @@ returns-then-talk-2-clause-went g c =
     let far = c.loop-turn.invariant.far in
     let now = c.in_ok-ended.ensures.went far.0 far.1 (pick _ _ far.6 c.if-talk.false) far.3 far.5 far.7 in
     (now.0, now.1, went_more _ _ _ _ _ _ _ _ far.2 now.2, omega (arith, now.3, far.4, c.loop-turn-test.true), (λ is. absurd (cc)), (now.5.1, inl c.if-talk-2.true), tt)
+
+pub hear-requires-clause-due : goal.hear-requires-clause-due
+hear-requires-clause-due g c = pick _ _ c.loop-turn.invariant.due c.if-talk.false

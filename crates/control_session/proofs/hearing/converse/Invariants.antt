@@ -12,7 +12,7 @@ abbrev pub invariant-loop-turn : goal.invariant-loop-turn
 invariant-loop-turn g l = record {
   none : l.talk.came ≡ None;
   whole : l.talk.lost ≡ None;
-  due : due l.talk.session ≡ false;
+  due : (l.talk.closed ≡ true) ⊎ (due l.talk.session ≡ false);
   room : length l.buffer ≡ length l.fn.buffer;
   far : (last : List Item) × (heard : Heard) × Went (WhileOpen (IsRow {A = g.row.A.Denot} g.H.Host.Step)) g.H.Host.Does
       l.fn.host (stand l.fn.talk [] nothing) l.host (stand l.talk last heard)

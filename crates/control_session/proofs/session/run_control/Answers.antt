@@ -6,6 +6,7 @@ use Rattle.control_session.specs.Sessions.{IsSession}
 use Rattle.control_session.proofs.Balance.{floors_back}
 use Rattle.control_session.proofs.Counting.{row_balances}
 use Rattle.control_session.proofs.Listening.{err_memory}
+use Rattle.control_session.proofs.Charges.{charged_by_logins}
 use Rattle.control_session.proofs.Logins.{served_by_logins}
 use Rattle.control_session.proofs.session.run_control.Goals as goal
 
@@ -45,5 +46,23 @@ returns-in_err-room-clause-logins g c kept keeps = inl (err_memory c.from_residu
 pub returns-clause-logins : goal.returns-clause-logins
 returns-clause-logins g c kept keeps =
     served_by_logins g.H.Host.Does kept keeps (IsRow g.H.Host.Step) c.args.turns c.run_session.result _ c.args.host.now c.run_session.new.host
+    (inr (subst (λ (x : Standing). IsSession (IsRow {A = g.row.A.Denot} {R = g.row.H-Source.Denot} g.H.Host.Step) g.H.Host.Does c.args.turns c.run_session.result x c.args.host.now c.run_session.new.host)
+    c.in_ok-session.ensures.fresh c.run_session.ensures.whole))
+
+pub returns-in_err-clone-clause-charges : goal.returns-in_err-clone-clause-charges
+returns-in_err-clone-clause-charges g c kept user charged keeps charges = inl ((err_memory c.from_residual.result c.from_residual.ensures.1, refl), refl)
+
+pub returns-in_err-session-clause-charges : goal.returns-in_err-session-clause-charges
+returns-in_err-session-clause-charges g c kept user charged keeps charges = inl ((err_memory c.from_residual-in_err-session.result c.from_residual-in_err-session.ensures.1, refl), refl)
+
+pub returns-in_err-greeting-clause-charges : goal.returns-in_err-greeting-clause-charges
+returns-in_err-greeting-clause-charges g c kept user charged keeps charges = inl ((err_memory c.from_residual-in_err-greeting.result c.from_residual-in_err-greeting.ensures.1, refl), refl)
+
+pub returns-in_err-room-clause-charges : goal.returns-in_err-room-clause-charges
+returns-in_err-room-clause-charges g c kept user charged keeps charges = inl ((err_memory c.from_residual-in_err-room.result c.from_residual-in_err-room.ensures.1, refl), refl)
+
+pub returns-clause-charges : goal.returns-clause-charges
+returns-clause-charges g c kept user charged keeps charges =
+    charged_by_logins g.H.Host.Does kept user charged keeps charges (IsRow g.H.Host.Step) c.args.turns c.run_session.result _ c.args.host.now c.run_session.new.host
     (inr (subst (λ (x : Standing). IsSession (IsRow {A = g.row.A.Denot} {R = g.row.H-Source.Denot} g.H.Host.Step) g.H.Host.Does c.args.turns c.run_session.result x c.args.host.now c.run_session.new.host)
     c.in_ok-session.ensures.fresh c.run_session.ensures.whole))

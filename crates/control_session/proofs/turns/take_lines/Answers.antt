@@ -6,7 +6,7 @@ use Rattle.ftp_wire.specs.Reading.{item_of, items_of}
 use Rattle.control_session.specs.Rows.{IsRow}
 use Rattle.control_session.specs.Standing.{stand}
 use Rattle.control_session.specs.Turns.{Went, WhileOpen, asked_as}
-use Rattle.control_session.proofs.Going.{off_ok, went_more}
+use Rattle.control_session.proofs.Going.{off_ok, pick, went_more}
 use Rattle.control_session.proofs.Turning.{asked_went}
 use Rattle.control_session.proofs.turns.take_lines.Goals as goal
 
@@ -25,7 +25,7 @@ loop-item-init g c = record {
   none = c.in_ok-catch_up.ensures.none;
   whole = c.in_ok-catch_up.ensures.whole;
   live = c.if-talk.false;
-  due = c.in_ok-catch_up.ensures.due;
+  due = pick _ _ c.in_ok-catch_up.ensures.due c.if-talk.false;
   went = λ taken heard is.
       let first = c.in_ok-catch_up.ensures.went taken heard in
       (taken, is ∙ ap (λ (x : List _). taken ++ items_of x) (sym c.into_iter-left.ensures.rest), asked_went _ _ _ _ _ _ _ taken heard _ _ first.0 first.2 first.1);
@@ -38,7 +38,7 @@ loop-item-preserved g c =
       none = c.in_ok-take_line.ensures.none;
       whole = c.in_ok-take_line.ensures.whole;
       live = c.if-talk-2.false;
-      due = c.in_ok-take_line.ensures.due;
+      due = pick _ _ c.in_ok-take_line.ensures.due c.if-talk-2.false;
       went = λ taken heard is.
           let far = inv.went taken heard is in
           let rest = items_of (into_iter_items c.next_of.new.left) in
@@ -48,7 +48,7 @@ loop-item-preserved g c =
             items ∙ sym (append_assoc far.0 (item_of c.in-Some.item ∷ []) rest),
             asked_went _ _ _ _ _ _ _ (far.0 ++ (item_of c.in-Some.item ∷ [])) heard _ _ line.1 line.3.1
                 (subst (λ (x : List Item). Went (WhileOpen (IsRow {A = g.row.A.Denot} g.H.Host.Step)) g.H.Host.Does c.args.host.now (stand c.args.talk.now taken heard) c.take_line.new.host (stand c.take_line.new.talk x (asked_as line.1 heard)))
-                line.3.0 (went_more _ _ _ _ _ _ _ _ far.2 line.2)),
+                (pick _ _ line.3.0 c.if-talk-2.false) (went_more _ _ _ _ _ _ _ _ far.2 line.2)),
           );
     }
 
@@ -74,3 +74,12 @@ pub returns-clause-went : goal.returns-clause-went
 returns-clause-went g c taken heard is =
     let far = c.loop-item.invariant.went taken heard is in
     (far.0, true, far.2, (refl, inr (far.1 ∙ (ap (λ (x : List _). far.0 ++ items_of x) c.in_default.ensures.first ∙ append-nil far.0))))
+
+pub returns-then-talk-clause-due : goal.returns-then-talk-clause-due
+returns-then-talk-clause-due g c = inl c.if-talk.true
+
+pub returns-then-talk-2-clause-due : goal.returns-then-talk-2-clause-due
+returns-then-talk-2-clause-due g c = inl c.if-talk-2.true
+
+pub returns-clause-due : goal.returns-clause-due
+returns-clause-due g c = inr c.loop-item.invariant.due

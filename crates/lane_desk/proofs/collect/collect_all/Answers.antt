@@ -21,6 +21,7 @@ loop-lane-preserved g c =
           record {
             found = k.found ++ Some a ∷ [];
             count = omega (arith, length-append k.found (Some a ∷ []), k.count);
+            quiet = c.collect_if.ensures.quiet;
             same = (c.collect_if.ensures.same.0 ∙ k.same.0, c.collect_if.ensures.same.1 ∙ k.same.1, c.collect_if.ensures.same.2 ∙ k.same.2);
             only = given_found given k.found a l.lane k.count w.in-Some.ensures.only k.only;
             turned = tried_more given k.found (Some a) ts (traces l.round) (traces c.collect_if.new.round) l.lane k.count near k.turned w.in-Some.ensures.some;
@@ -32,6 +33,7 @@ loop-lane-preserved g c =
         found = k.found ++ None ∷ [];
         count = omega (arith, length-append k.found (None ∷ []), k.count);
         same = (c.collect_if.ensures.same.0 ∙ k.same.0, c.collect_if.ensures.same.1 ∙ k.same.1, c.collect_if.ensures.same.2 ∙ k.same.2);
+        quiet = c.collect_if.ensures.quiet;
         only = given_missed given k.found k.only;
         turned = tried_more given k.found None ts (traces l.round) (traces c.collect_if.new.round) l.lane k.count near k.turned w.in-None.ensures.none;
         room = omega (arith, ap (λ (q : AsksView). length q.asks) w.asks-is, k.room);

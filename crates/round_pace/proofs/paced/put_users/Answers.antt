@@ -18,7 +18,7 @@ loop-place-preserved g c =
           let marks = c.if-not-is_marked.marks.items in
           let new : marks ≡ set c.loop-place.marks.items place w.is_full_user.result = ap (λ v. v.items) w.marks-is ∙ w.set_mark.ensures.mark in
           record {
-            offered = users_more c.args.begun c.args.tick c.args.offered.now c.loop-place.offered c.if-not-is_marked.offered c.args.users.now place _ w.offer_user.result within before.offered w.offer_user.ensures.row (w.offered-is ∙ w.put_user.ensures.put);
+            offered = users_more c.args.down c.args.up c.args.groups.now c.args.offered.now c.loop-place.offered c.if-not-is_marked.offered c.args.users.now place _ w.handed_user.result within before.offered w.handed_user.ensures.row (w.offered-is ∙ w.put_user.ensures.put);
             full = marked_set (λ r. is_full_user r ≡ true) c.loop-place.marks.items marks place w.is_full_user.result c.args.users.now _ new (λ h. sym w.is_full_user.ensures.full ∙ h) before.full;
             later = λ k le. set_before c.loop-place.marks.items marks place k w.is_full_user.result new (omega (arith, le)) ∙ before.later k (omega (arith, le));
           })
@@ -28,7 +28,7 @@ loop-place-preserved g c =
           let here : mark_at c.loop-place.marks.items place ≡ true = ap (λ (ms : List Bool). mark_at ms place) (sym c.deref.ensures.value) ∙ (sym c.is_marked.ensures.mark ∙ w.if-not-is_marked.false) in
           let marked : mark_at c.args.marks.now.items place ≡ true = sym (before.later place (omega arith)) ∙ here in
           record {
-            offered = users_there c.args.begun c.args.tick c.args.offered.now c.loop-place.offered c.if-not-is_marked.offered c.args.users.now place c.requires.rising within before.offered (λ d. (c.requires.marked c.loop-place.place d within marked).1 c.args.begun c.args.tick) w.offered-is;
+            offered = users_there c.args.down c.args.up c.args.groups.now c.args.offered.now c.loop-place.offered c.if-not-is_marked.offered c.args.users.now place c.requires.rising within before.offered (λ d. (c.requires.marked c.loop-place.place d within marked).1 _ _) w.offered-is;
             full = λ k d lt m. before.full k d lt (sym (ap (λ (ms : List Bool). mark_at ms k) same) ∙ m);
             later = λ k le. ap (λ (ms : List Bool). mark_at ms k) same ∙ before.later k (omega (arith, le));
           })
@@ -37,4 +37,4 @@ loop-place-preserved g c =
 pub returns-clause-marked : goal.returns-clause-marked
 returns-clause-marked g c =
     let end : c.loop-place.place ≡ length c.args.users.now = omega arith in
-    users_quiet c.args.begun c.args.tick c.args.offered.now c.loop-place.offered c.args.users.now c.loop-place.marks.items c.loop-place.place c.requires.rising c.requires.rows end c.loop-place.invariant.offered c.loop-place.invariant.full
+    users_quiet c.args.down c.args.up c.args.groups.now c.args.offered.now c.loop-place.offered c.args.users.now c.loop-place.marks.items c.loop-place.place c.requires.rising c.requires.rows end c.loop-place.invariant.offered c.loop-place.invariant.full

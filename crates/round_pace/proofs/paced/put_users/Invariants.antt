@@ -5,7 +5,7 @@ use Rattle.round_pace.proofs.paced.put_users.Given as goal
 
 abbrev pub invariant-loop-place : goal.invariant-loop-place
 invariant-loop-place g l = record {
-  offered : l.offered ≡ put_users l.begun l.tick l.fn.offered (take l.place l.users);
+  offered : l.offered ≡ put_users l.down l.up l.groups l.fn.offered (take l.place l.users);
   full : AllMarked (λ r. is_full_user r ≡ true) l.marks.items l.users;
   later : (k : ℕ) → l.place ≤ k → mark_at l.marks.items k ≡ mark_at l.fn.marks.items k;
 }

@@ -12,12 +12,12 @@ use Rattle.round_pace.proofs.paced.take_users.Goals as goal
 pub returns-in-Some-clause-taken : goal.returns-in-Some-clause-taken
 returns-in-Some-clause-taken g c =
     ap (set c.args.users.now.items c.in-Some.place) c.take_user-after.ensures.user
-    ∙ (ap (λ (x : UserPace). set c.args.users.now.items c.in-Some.place (take_user c.args.way c.args.octets x)) c.index.ensures
-    ∙ sym (changed_at pace_number (take_user c.args.way c.args.octets) c.args.users.now.items c.args.user c.in-Some.place c.index.result.now c.requires.rising
+    ∙ (ap (λ (x : UserPace). set c.args.users.now.items c.in-Some.place (take_user c.args.way c.args.octets c.args.own x)) c.index.ensures
+    ∙ sym (changed_at pace_number (take_user c.args.way c.args.octets c.args.own) c.args.users.now.items c.args.user c.in-Some.place c.index.result.now c.requires.rising
     (subst (λ (xs : List UserPace). IsAt pace_number xs c.args.user c.in-Some.place) c.deref.ensures.value c.in-Some.ensures.place)))
 
 pub returns-in-None-clause-taken : goal.returns-in-None-clause-taken
-returns-in-None-clause-taken g c = sym (changed_nowhere pace_number (take_user c.args.way c.args.octets) c.args.users.now.items c.args.user
+returns-in-None-clause-taken g c = sym (changed_nowhere pace_number (take_user c.args.way c.args.octets c.args.own) c.args.users.now.items c.args.user
     (subst (λ (xs : List UserPace). finite.get (by_number pace_number xs) c.args.user ≡ None) c.deref.ensures.value c.in-None.ensures.place))
 
 pub returns-in-Some-clause-paces : goal.returns-in-Some-clause-paces

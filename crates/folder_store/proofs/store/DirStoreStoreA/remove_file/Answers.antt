@@ -1,12 +1,13 @@
-use Rattle.std.proofs.Common.{ap, string_bytes, subst, Ok}
+use Rattle.std.proofs.Common.{ap, string_bytes, subst, Ok, refl}
 use Rattle.virtual_tree.specs.Calls.Exchange.{RemoveFile}
 use Rattle.folder_store.specs.Honest.{FolderStep}
 use Rattle.folder_store.proofs.Serving.{honest_ok}
 use Rattle.folder_store.proofs.store.DirStoreStoreA.remove_file.Goals as goal
 
 pub returns-in-Ok : goal.returns-in-Ok
-returns-in-Ok g c = subst (λ s. FolderStep g.M.FolderMachine.Does (λ directory. g.M.Directory.AsRawFd.raw_fd directory) s (RemoveFile c.args.path.now (Ok tt)) (record { machine = c.remove_file.new.self.machine; numbered = c.remove_file.new.self.has_proc; folder = string_bytes c.remove_file.new.self.path; faults = c.self.inside.faults })) c.self.view_is (record {
+returns-in-Ok g c = subst (λ s. FolderStep g.M.FolderMachine.Does (λ directory. g.M.Directory.AsRawFd.raw_fd directory) s (RemoveFile c.args.path.now (Ok tt)) (record { machine = c.remove_file.new.self.machine; numbered = c.remove_file.new.self.has_proc; folder = string_bytes c.remove_file.new.self.path; syncs = c.self.inside.syncs; faults = c.self.inside.faults })) c.self.view_is (record {
   honest = honest_ok _;
   folder = ap string_bytes c.in-Ok.ensures.path;
+  syncs = refl;
   serves = c.in-Ok.ensures.removed;
 })

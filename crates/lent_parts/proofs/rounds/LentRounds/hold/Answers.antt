@@ -1,4 +1,4 @@
-use Rattle.std.proofs.Common.{refl, ap, ◌∙◌, subst, sym}
+use Rattle.std.proofs.Common.{◌≡◌, OnErr, refl, ap, ◌∙◌, subst, sym}
 use Rattle.std.specs.Prelude.{max}
 use Rattle.paced_rounds.specs.History.{round_at, history}
 use Rattle.paced_rounds.specs.Seconds.{AreAllowed}
@@ -23,5 +23,28 @@ invariant_of-self-clause-rated g c =
 
 pub invariant_of-self-clause-ended : goal.invariant_of-self-clause-ended
 invariant_of-self-clause-ended g c =
+    let old = c.args.self.now in
+    subst (AreAllowed g.B.PartsName.rates g.B.PartsName.when) (sym c.hold-result.ensures.ended) old.ended
+
+pub invariant_of-self-in_default-clause-carried : goal.invariant_of-self-in_default-clause-carried
+invariant_of-self-in_default-clause-carried g c =
+    let old = c.args.self.now in
+    c.hold-result.ensures.carried ∙ old.carried
+
+pub invariant_of-self-in_default-clause-counted : goal.invariant_of-self-in_default-clause-counted
+invariant_of-self-in_default-clause-counted g c =
+    let old = c.args.self.now in
+    let new = c.hold-result.new.self in
+    let same : new.rounds.book ≡ old.rounds.rounds.book = subst (λ x. OnErr x (new.rounds.book ≡ old.rounds.rounds.book)) c.in_default.is c.hold-result.ensures.unchanged in
+    ap (λ b. b.issued) same ∙ old.counted
+
+pub invariant_of-self-in_default-clause-moments : goal.invariant_of-self-in_default-clause-moments
+invariant_of-self-in_default-clause-moments g c =
+    let old = c.args.self.now in
+    moments_more g.B.PartsName.when (history old.rounds.log.items) (history c.hold-result.new.self.log.items) c.args.now old.rounds.latest (round_at (max c.args.now old.rounds.latest) c.hold-result.result) old.moments c.requires.when old.last refl
+    c.hold-result.ensures.grows
+
+pub invariant_of-self-in_default-clause-ended : goal.invariant_of-self-in_default-clause-ended
+invariant_of-self-in_default-clause-ended g c =
     let old = c.args.self.now in
     subst (AreAllowed g.B.PartsName.rates g.B.PartsName.when) (sym c.hold-result.ensures.ended) old.ended

@@ -5,6 +5,7 @@ use Rattle.paced_rounds.specs.History.{granted_in, round_at, history, octets_of,
 use Rattle.lane_desk.specs.Traces.{traces}
 use Rattle.lane_desk.specs.Tried.{is_given}
 use Rattle.paced_rounds.proofs.RunLemmas.{Leads, leads_ok, leads_err, grown, run_more, stretches_more, sum_more, reported_more}
+use Rattle.paced_rounds.proofs.SpanLemmas.{span_more}
 use Rattle.paced_rounds.proofs.rounds.PacedRounds.hold.Goals as goal
 use Rattle.paced_rounds.proofs.rounds.PacedRounds.hold.Goals.{in-Ok, in-Err}
 
@@ -34,7 +35,9 @@ invariant_of-self g c =
     grown old.log.items c.and-self.result.items (now, c.match-result.taken) (round_at now out) c.and-self.ensures.more (λ i. record { now = now; leaves = leads.log i }) in
     let all = stretches_more old.ended.items old.ended.items pace old.log.items c.and-self.result.items (round_at now out) refl more in
     record {
-      run = run_more c.histories_keep_rates.ensures.begin c.histories_keep_rates.ensures.stay old.pace pace old.latest (ended_in old.ended.items) (stretches old.ended.items pace c.and-self.result.items) (history old.log.items) (round_at now out) later leads.kept leads.is all old.run;
+      begun = (let b : old.opened ≤ old.latest = old.begun in omega arith);
+      spanned = span_more old.opened old.latest now (ended_in old.ended.items) (stretches old.ended.items pace c.and-self.result.items) old.pace pace (history old.log.items) (round_at now out) later old.begun refl all old.spanned;
+      run = run_more c.histories_keep_rates.ensures.begin c.histories_keep_rates.ensures.stay old.pace pace old.latest (ended_in old.ended.items) (stretches old.ended.items pace c.and-self.result.items) (history old.log.items) (round_at now out) later leads.kept leads.best leads.is all old.run;
       reported = reported_more old.rounds.book.issued new.book.issued old.carried (sum_by octets_in (stretches old.ended.items old.pace old.log.items)) (sum_by octets_in (stretches old.ended.items pace c.and-self.result.items)) (octets_of (round_at now out)) old.reported
           (sum_more (ended_in old.ended.items) (stretches old.ended.items pace c.and-self.result.items) old.pace pace (history old.log.items) (round_at now out) all) leads.issued;
     }

@@ -1,12 +1,9 @@
-use Rattle.std.proofs.Common.{◌≡◌, ◌∙◌, ℕ, ◌<◌, true, ap, arith, refl, subst, sym}
-use Rattle.std.specs.Prelude.{nat_eq}
-use Rattle.std.proofs.lemmas.Bool.{eqb-true}
+use Rattle.std.proofs.Common.{◌≡◌, ◌∙◌, ap, refl, sym}
 use Rattle.line_rates.specs.Rates.{Rates}
 use Rattle.round_pace.specs.Offered.{left_rates}
 use Rattle.round_pace.specs.Paced.{Paced}
 use Rattle.round_pace.proofs.GroupsIn.{other_rates as other_than_groups}
 use Rattle.round_pace.proofs.HandedIn.{hands_rows_in}
-use Rattle.round_pace.proofs.Handing.{handed_begun}
 use Rattle.round_pace.proofs.Keeping.{offered_all, groups_offered, users_offered}
 use Rattle.round_pace.proofs.Placed.{groups_quiet_with, users_quiet_with, users_with}
 use Rattle.round_pace.proofs.UsersIn.{other_rates as other_than_users}
@@ -14,8 +11,6 @@ use Rattle.round_pace.proofs.pace.Pace.hand_in.Goals as goal
 
 pub invariant_of-self : goal.invariant_of-self
 invariant_of-self g c =
-    let later : c.args.tick < c.self.inside.begun = omega (arith, ap (λ (v : Paced). v.begun) c.self.view_is, c.requires.later) in
-    let here : nat_eq c.args.begun c.self.inside.begun ≡ true → c.args.begun ≡ c.self.inside.begun = λ q. eqb-true c.args.begun c.self.inside.begun q in
     let kept = c.self.invariant in
     let p : Paced = record {
       begun = c.self.inside.begun;
@@ -27,9 +22,9 @@ invariant_of-self g c =
       users = c.self.inside.users.items;
       offered = c.self.inside.offered;
     } in
-    let put = offered_all c.args.begun c.args.tick p c.credit_rate.result c.credit_rate-2.result c.credit_rate-3.result c.put_line.new.self c.put_groups.new.offered c.put_users.new.offered c.deref.result.now c.deref-2.result.now
-    c.credit_rate.ensures.rate c.credit_rate-2.ensures.rate c.credit_rate-3.ensures.rate c.put_line.ensures.put c.deref.ensures.value c.put_groups.ensures.put c.deref-2.ensures.value c.put_users.ensures.put in
-    let rates : c.put_users.new.offered ≡ left_rates c.args.begun c.args.tick p = put ∙ hands_rows_in c.args.begun c.args.tick p kept.groups_rise kept.users_rise kept.are_groups kept.are_users in
+    let put = offered_all p c.credit_rate.result c.credit_rate-2.result c.credit_rate-3.result c.put_line.new.self c.put_groups.new.offered c.put_users.new.offered c.deref.result.now c.deref-2.result.now c.line_ticks-down.result c.line_ticks-up.result c.deref-3.result.now
+    c.credit_rate.ensures.rate c.credit_rate-2.ensures.rate c.credit_rate-3.ensures.rate c.put_line.ensures.put c.deref.ensures.value c.put_groups.ensures.put c.deref-2.ensures.value c.line_ticks-down.ensures.ticks c.line_ticks-up.ensures.ticks c.deref-3.ensures.value c.put_users.ensures.put in
+    let rates : c.put_users.new.offered ≡ left_rates p = put ∙ hands_rows_in p kept.groups_rise kept.users_rise kept.are_groups kept.are_users in
     record {
       server_fits = kept.server_fits;
       down_fits = kept.down_fits;
@@ -38,11 +33,11 @@ invariant_of-self g c =
       users_fit = kept.users_fit;
       groups_rise = kept.groups_rise;
       users_rise = kept.users_rise;
-      are_groups = groups_offered c.args.begun c.args.tick p c.put_users.new.offered rates;
-      are_users = users_offered c.args.begun c.args.tick p c.put_users.new.offered rates;
-      handed = λ q. handed_begun p.begun c.args.tick p.server p.down p.up p.groups p.users c.put_users.new.offered later (subst (λ (b : ℕ). c.put_users.new.offered ≡ left_rates b c.args.tick p) (here q) rates);
+      are_groups = groups_offered p c.put_users.new.offered rates;
+      are_users = users_offered p c.put_users.new.offered rates;
+      handed = λ q. sym rates;
       groups_quiet = groups_quiet_with c.put_groups.new.offered c.put_users.new.offered c.put_groups.new.marks.items c.deref.result.now c.self.inside.groups.items
-          (ap (λ (r : Rates). r.groups) c.put_users.ensures.put ∙ (other_than_users c.args.begun c.args.tick c.put_groups.new.offered c.deref-2.result.now).3) (sym c.deref.ensures.value) c.put_groups.ensures.marked;
+          (ap (λ (r : Rates). r.groups) c.put_users.ensures.put ∙ (other_than_users c.line_ticks-down.result c.line_ticks-up.result c.deref-3.result.now c.put_groups.new.offered c.deref-2.result.now).3) (sym c.deref.ensures.value) c.put_groups.ensures.marked;
       users_quiet = users_quiet_with c.put_users.new.offered c.put_users.new.offered c.put_users.new.marks.items c.deref-2.result.now c.self.inside.users.items refl (sym c.deref-2.ensures.value) c.put_users.ensures.marked;
     }
 
@@ -59,9 +54,9 @@ returns-clause-handed g c =
       users = c.self.inside.users.items;
       offered = c.self.inside.offered;
     } in
-    let put = offered_all c.args.begun c.args.tick p c.credit_rate.result c.credit_rate-2.result c.credit_rate-3.result c.put_line.new.self c.put_groups.new.offered c.put_users.new.offered c.deref.result.now c.deref-2.result.now
-    c.credit_rate.ensures.rate c.credit_rate-2.ensures.rate c.credit_rate-3.ensures.rate c.put_line.ensures.put c.deref.ensures.value c.put_groups.ensures.put c.deref-2.ensures.value c.put_users.ensures.put in
-    put ∙ hands_rows_in c.args.begun c.args.tick p kept.groups_rise kept.users_rise kept.are_groups kept.are_users
+    let put = offered_all p c.credit_rate.result c.credit_rate-2.result c.credit_rate-3.result c.put_line.new.self c.put_groups.new.offered c.put_users.new.offered c.deref.result.now c.deref-2.result.now c.line_ticks-down.result c.line_ticks-up.result c.deref-3.result.now
+    c.credit_rate.ensures.rate c.credit_rate-2.ensures.rate c.credit_rate-3.ensures.rate c.put_line.ensures.put c.deref.ensures.value c.put_groups.ensures.put c.deref-2.ensures.value c.line_ticks-down.ensures.ticks c.line_ticks-up.ensures.ticks c.deref-3.ensures.value c.put_users.ensures.put in
+    put ∙ hands_rows_in p kept.groups_rise kept.users_rise kept.are_groups kept.are_users
 
 pub put_users-requires-clause-rows : goal.put_users-requires-clause-rows
 put_users-requires-clause-rows g c =

@@ -20,8 +20,8 @@ returns-then-self-clause-round g c =
       users = c.self.inside.users.items;
       offered = c.self.inside.offered;
     } in
-    let same : offer_all p.begun tick p ≡ p.offered = hands_rows_in p.begun tick p kept.groups_rise kept.users_rise kept.are_groups kept.are_users ∙ kept.handed c.if-self.true tick c.if-tick-begun.true in
+    let same : offer_all p ≡ p.offered = hands_rows_in p kept.groups_rise kept.users_rise kept.are_groups kept.are_users ∙ kept.handed c.if-self.true in
     let moved : c.saturating_add-self-inside.result ≡ min (p.moment + 1000) (2 ^ 64 - 1) = cc in
     ap (λ (m : ℕ). record { begun = p.begun; moment = m; server = p.server; down = p.down; up = p.up; groups = p.groups; users = p.users; offered = p.offered }) moved
-    ∙ offered_again tick p c.if-tick-begun.true same
+    ∙ offered_again tick p c.if-tick-self.true same
     ∙ ap (offer_round tick) c.self.view_is

@@ -10,7 +10,7 @@ pub invariant_of-self : goal.invariant_of-self
 invariant_of-self g c =
     let kept = c.self-2.invariant in
     let groups = groups_taken c.args.way c.args.octets c.group_of-group.result c.self-2.inside.offered c.self-2.inside.groups.items c.take_groups-same_groups.new.groups.items c.take_groups-same_groups.ensures.taken kept.groups_rise kept.are_groups in
-    let users = users_taken c.args.way c.args.octets c.args.user c.self-2.inside.offered c.self-2.inside.users.items c.take_users-same_users.new.users.items c.take_users-same_users.ensures.taken kept.users_rise kept.are_users in
+    let users = users_taken c.args.way c.args.octets c.args.own c.args.user c.self-2.inside.offered c.self-2.inside.users.items c.take_users-same_users.new.users.items c.take_users-same_users.ensures.taken kept.users_rise kept.are_users in
     record {
       server_fits = kept.server_fits;
       down_fits = kept.down_fits;
@@ -26,13 +26,13 @@ invariant_of-self g c =
           | then-self v ↦ (
               let is = w.self-is in
               let test = w.if-same_groups in
-              let first = v.t-18-is in
+              let first = v.t-19-is in
               let stood = v.if-self in
               let groups_same : c.take_groups-same_groups.result ≡ true = cc in
               let users_same : c.take_users-same_users.result ≡ true = cc in
               let was : c.self-2.inside.is_handed ≡ true = cc in
               handed_still c.self-2.inside.begun c.self-2.inside.server c.self-2.inside.down c.self-2.inside.up c.self-2.inside.groups.items c.take_groups-same_groups.new.groups.items c.self-2.inside.users.items c.take_users-same_users.new.users.items c.self-2.inside.offered (c.take_groups-same_groups.ensures.same groups_same) (c.take_users-same_users.ensures.same users_same) (kept.handed was))
-          | else-self v ↦ (let test = w.if-same_groups in let first = v.t-18-is in absurd (cc))
+          | else-self v ↦ (let test = w.if-same_groups in let first = v.t-19-is in absurd (cc))
         ]
         | else-same_groups w ↦ (let is = w.self-is in absurd (cc))
       ];

@@ -17,12 +17,12 @@ loop-event-preserved g c =
     }
 
 pub returns-in_err-clone-clause-stopped : goal.returns-in_err-clone-clause-stopped
-returns-in_err-clone-clause-stopped g c = on_err _ c.from_residual.result (unbegun_run c.args.self.now.rates c.args.self.now.world c.args.events.now)
+returns-in_err-clone-clause-stopped g c = on_err _ c.from_residual.result (unbegun_run (λ _. c.args.self.now.rates) c.args.self.now.world c.args.events.now)
 
 pub returns-in_err-reserve-clause-stopped : goal.returns-in_err-reserve-clause-stopped
-returns-in_err-reserve-clause-stopped g c = on_err _ c.from_residual-in_err-reserve.result (stopped_run c.args.self.now.rates c.args.self.now.world c.loop-event.self.world c.loop-event.self.world c.args.events.now c.loop-event.event-index c.loop-event.replies.items c.loop-event.invariant.run refl c.loop-event.invariant.had (omega arith))
+returns-in_err-reserve-clause-stopped g c = on_err _ c.from_residual-in_err-reserve.result (stopped_run (λ _. c.args.self.now.rates) c.args.self.now.world c.loop-event.self.world c.loop-event.self.world c.args.events.now c.loop-event.event-index c.loop-event.replies.items c.loop-event.invariant.run refl c.loop-event.invariant.had (omega arith))
 
 pub returns-then-is_lack-clause-stopped : goal.returns-then-is_lack-clause-stopped
 returns-then-is_lack-clause-stopped g c =
-    stopped_run c.args.self.now.rates c.args.self.now.world c.loop-event.self.world c.step-reply.new.self.world c.args.events.now c.loop-event.event-index c.loop-event.replies.items c.loop-event.invariant.run
+    stopped_run (λ _. c.args.self.now.rates) c.args.self.now.world c.loop-event.self.world c.step-reply.new.self.world c.args.events.now c.loop-event.event-index c.loop-event.replies.items c.loop-event.invariant.run
     (unmoved c.loop-event.self.rates c.loop-event.self.world _ c.step-reply.result _ c.step-reply.new.self.world c.step-reply.ensures.step (c.is_lack.ensures.lack c.if-is_lack.true)) c.loop-event.invariant.had (omega arith)

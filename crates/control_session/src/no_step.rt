@@ -1,0 +1,12 @@
+//! Steps that were not made.
+
+use session_core::DataEvent;
+
+/// The reason for which a host made no step.
+#[derive(Drop)]
+pub enum NoStep<K> {
+    /// Memory ran out. An event of the data side is returned.
+    NoMemory(Option<DataEvent<K>>),
+    /// In the place of a step for a line, the host ended the session. It has told the client.
+    Over,
+}

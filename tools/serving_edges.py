@@ -23,12 +23,14 @@ APART = 2
 
 
 def is_closed(address, port):
-    """Whether nobody listens at a port of an address."""
+    """Whether nobody listens at a port of an address. Where connect(2) is reset, the listener is just being closed."""
     try:
         socket.create_connection((address, port), 5).close()
         return False
     except ConnectionRefusedError:
         return True
+    except ConnectionResetError:
+        return False
 
 
 def it_listens_at_its_address_alone():

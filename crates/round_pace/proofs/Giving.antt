@@ -1,5 +1,5 @@
 -- A round gives what is handed in for the guarantees of its asks.
-use Rattle.std.proofs.Common.{◌≡◌, ℕ, ◌*◌, ◌/◌, ◌<◌, ◌≤◌, List, [], length, map, get_or, inl, inr, sym, ap, ◌∙◌, subst, arith}
+use Rattle.std.proofs.Common.{◌≡◌, ℕ, ◌*◌, ◌/◌, ◌≤◌, List, length, map, get_or, inl, inr, sym, ap, ◌∙◌, arith}
 use Rattle.std.specs.FinMap as finite
 use Rattle.std.specs.List.{All}
 use Rattle.std.specs.Prelude.{min, slice_index}
@@ -12,7 +12,7 @@ use Rattle.round_pace.specs.Earned.{tick_of}
 use Rattle.round_pace.specs.FloorsFit.{floor_in}
 use Rattle.round_pace.specs.Given.{IsGiven, RoundsGive}
 use Rattle.round_pace.specs.Guaranteed.{IsGuaranteed, owed_to, parts_for}
-use Rattle.round_pace.specs.Histories.{Held, AreBest}
+use Rattle.round_pace.specs.Histories.{AreBest}
 use Rattle.round_pace.specs.Offered.{offer_round}
 use Rattle.round_pace.specs.Paced.{Paced}
 

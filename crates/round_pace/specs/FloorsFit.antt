@@ -17,7 +17,7 @@ ticks_due begun tick = min (ticks_since begun tick) MOST_OWED
 abbrev pub parts_left : Credit → ℕ
 parts_left c =
     if nat_eq c.rate 0 then MOST_PARTS
-    else min ((c.left * TICKS + (TICKS - 1)) * PARTS / c.rate) MOST_PARTS
+    else min ((c.left * (TICKS * PARTS) + (TICKS * PARTS - 1)) / c.rate) MOST_PARTS
 
 -- the octets that a rate earns in some thousandths of a tick
 abbrev pub part_share : ℕ → ℕ → ℕ

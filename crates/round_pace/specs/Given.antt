@@ -1,5 +1,5 @@
 -- Guarantees that a round gives.
-use Rattle.std.specs.Prelude.{ℕ, ◌≤◌, min}
+use Rattle.std.specs.Prelude.{◌≤◌, min}
 use Rattle.std.specs.FinMap as finite
 use Rattle.std.specs.List.{All}
 use Rattle.line_rates.specs.Granted.{Granted}

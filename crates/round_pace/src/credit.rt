@@ -99,7 +99,7 @@ pub(crate) fn parts_left(credit: Credit) -> u64
     if credit.rate == 0 {
         return MOST_PARTS;
     }
-    ((credit.left * TICKS + (TICKS - 1)) * PARTS / credit.rate).min(MOST_PARTS)
+    ((credit.left * (TICKS * PARTS) + (TICKS * PARTS - 1)) / credit.rate).min(MOST_PARTS)
 }
 
 /// The debt of a guarantee as a tick begins, in 500ths of an octet, if `begun` ticks had begun before.

@@ -145,6 +145,29 @@ def a_user_is_taken_out():
         server.ended()
 
 
+def who_is_taken_out_keeps_their_rates():
+    """A download that runs keeps the rate of its user and that of the group, which is gone too; put back, the user is the same, whose rate is one for both sessions."""
+    limits = {"ann": 'group = "staff"', "bob": 'down_rate = 100000', "cleo": ""}
+    group = '[[group]]\nname = "staff"\ndown_rate = 200000\n'
+    with served(rate=0, users=limits, more=group, stop=True) as server:
+        pairs = {name: begun(server, 1, name) for name in ("ann", "bob")}
+        both = pairs["ann"] + pairs["bob"]
+        moved_in(both, 1.5)
+        server.reloaded(text_of(server, 0, {"cleo": ""}))
+        moved_in(both, 1)
+        for name, rate in (("ann", 200_000), ("bob", 100_000)):
+            had = moved_in(pairs[name], 3)
+            want(had < 3 * rate * 1.1 + 131_072, f"{had} octets of {name} in three seconds, out of the file, under {rate}")
+        server.reloaded(text_of(server, 0, limits, group))
+        again = begun(server, 1, "bob")
+        moved_in(both + again, 1)
+        had = moved_in(pairs["bob"] + again, 3)
+        want(had < 3 * 100_000 * 1.1 + 131_072, f"{had} octets of both sessions in three seconds, back in the file")
+        closed(both + again)
+        server.stop()
+        server.ended()
+
+
 def who_sends_ahead_is_taken_out():
     """Lines that were held, or sent ahead, when the user was taken out are not carried out."""
     with served(stop=True) as server:
@@ -211,6 +234,7 @@ ROWS = [
     what_is_refused_changes_nothing,
     each_fixed_key_is_refused_by_name,
     a_user_is_taken_out,
+    who_is_taken_out_keeps_their_rates,
     who_sends_ahead_is_taken_out,
     sessions_keep_the_terms_of_their_login,
     ten_reloads_under_load,

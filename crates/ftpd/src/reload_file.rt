@@ -1,9 +1,9 @@
 //! The reload file of a server: once it appears, the configuration is read again.
 
-use crate::facts::{Start, facts_of};
+use crate::facts::{Start, copied_limits, facts_of};
 use crate::known::Known;
 use crate::sign_file::SignFile;
-use config_change::{FixedValues, count_fault, fixed_key, renumbered};
+use config_change::{FixedValues, count_fault, fixed_key, renumbered, with_past};
 use ftp_daemon::{Config, Reload, ReloadFault, ReloadSign, Terms};
 use line_rates::{Name, Way};
 use rate_floors::CarryFault;
@@ -162,16 +162,23 @@ impl ReloadFile {
             Ok(config) => config,
             Err(fault) => return Err(words(alloc, &fault)),
         };
-        let facts = facts_of(alloc, self.start, &config);
+        let limits = match with_past(alloc, &config.limits, &known.limits) {
+            Ok(limits) => limits,
+            Err(fault) => return Err(words(alloc, &fault)),
+        };
+        let facts = facts_of(alloc, self.start, &config, &limits);
+        let Some(copy) = copied_limits(alloc, &limits) else {
+            return Err(None);
+        };
         let Config {
             settings,
             numbers,
             users,
             store: _,
-            limits,
+            limits: _,
             groups,
         } = config;
-        let Ok(known) = Known::of(alloc, &users, known.next(), groups) else {
+        let Ok(known) = Known::of(alloc, &users, known.users(), groups, copy) else {
             return Err(None);
         };
         let Ok(terms) = Arc::new(alloc, Terms { users, settings }) else {

@@ -1,7 +1,7 @@
 //! The server of the machine that the program runs on.
 
 use crate::asked::AskedService;
-use crate::facts::{Start, facts_of, start_of};
+use crate::facts::{Start, copied_limits, facts_of, start_of};
 use crate::known::Known;
 use crate::log_thread::{QueuedTransfers, serve_with_log};
 use crate::page_thread::serve_with_page;
@@ -210,7 +210,10 @@ fn known_of(alloc: Global, config: Config) -> Result<(ServedConfig, Known), Allo
         limits,
         groups,
     } = config;
-    let known = Known::of(alloc, &users, 0, groups)?;
+    let Some(copy) = copied_limits(alloc, &limits) else {
+        return Err(AllocError);
+    };
+    let known = Known::of(alloc, &users, &[], groups, copy)?;
     let terms = Arc::new(alloc, Terms { users, settings })?;
     let served = ServedConfig {
         terms,
@@ -278,7 +281,7 @@ where
         transfers,
     } = shared_lines(rt.alloc())?;
     let start = start_of(machine);
-    let Some(facts) = facts_of(rt.alloc(), start, &config) else {
+    let Some(facts) = facts_of(rt.alloc(), start, &config, &config.limits) else {
         return Err(ServeFault::Memory);
     };
     let (cell, kept, watched) = cells(rt.alloc(), status.is_some() || page.is_some())?;

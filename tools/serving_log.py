@@ -255,7 +255,7 @@ def refusals_are_noted():
         client.says(None, "552 Storage is full")
         client.quit()
         server.ended()
-        same(server.notes_made()[2:4], ['the storage is full: user "ann"', 'received "/up"'], "the notes of an upload without room")
+        same(server.notes_made()[2:4], ['the storage is full: user "ann"', 'not received whole "/up": the store refused it at its end'], "the notes of an upload without room")
 
 
 def errors_of_the_machine_are_noted():

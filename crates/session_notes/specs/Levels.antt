@@ -3,6 +3,7 @@ use Rattle.log.specs.declared.level.Level.{Level}
 use Rattle.log.specs.declared.level.Level.TheVariants.{Warn, Info}
 use Rattle.server_house.specs.declared.cause.EndCause.{EndCause}
 use Rattle.server_house.specs.declared.cause.EndCause.TheVariants.{Aborted, NothingPrepared, NoClient, NotConnected, NoMemory, File, Connection, ControlLost, ServerEnds}
+use Rattle.server_house.specs.declared.cause.EndCause.TheVariants as ended
 use Rattle.server_house.specs.declared.server_hooks.NotServed.{NotServed}
 use Rattle.server_house.specs.declared.server_hooks.NotServed.TheVariants.{NotAdmitted, NoThread, Ending}
 use Rattle.server_house.specs.declared.server_hooks.ServerEvent.{ServerEvent}
@@ -27,6 +28,7 @@ level_of_cause NoClient = Info
 level_of_cause (NotConnected error) = Info
 level_of_cause NoMemory = Warn
 level_of_cause File = Warn
+level_of_cause ended.Refused = Warn
 level_of_cause (Connection error) = Info
 level_of_cause ControlLost = Info
 level_of_cause ServerEnds = Info

@@ -7,6 +7,7 @@ use Rattle.std.specs.declared.alloc.Global.{Global}
 use Rattle.passive_ports.specs.declared.fault.AdmitFault.TheVariants.{TooMany, TooManyOfAddress, Memory}
 use Rattle.server_house.specs.declared.cause.EndCause.{EndCause}
 use Rattle.server_house.specs.declared.cause.EndCause.TheVariants.{Aborted, NothingPrepared, NoClient, NotConnected, NoMemory, File, Connection, ControlLost, ServerEnds}
+use Rattle.server_house.specs.declared.cause.EndCause.TheVariants as ended
 use Rattle.server_house.specs.declared.server_hooks.ClientSession.{ClientSession}
 use Rattle.server_house.specs.declared.server_hooks.NotServed.{NotServed}
 use Rattle.server_house.specs.declared.server_hooks.NotServed.TheVariants.{NotAdmitted, NoThread, Ending}
@@ -68,6 +69,7 @@ cause_words NoClient = codes "nobody connected to the passive port in time"
 cause_words (NotConnected error) = codes "the client's port could not be connected to"
 cause_words NoMemory = codes "out of memory"
 cause_words File = codes "the file could not be read or written"
+cause_words ended.Refused = codes "the store refused it at its end"
 cause_words (Connection error) = codes "the data connection failed"
 cause_words ControlLost = codes "the control connection was lost"
 cause_words ServerEnds = codes "the server ends"

@@ -113,6 +113,7 @@ fn cause_words(cause: EndCause) -> &'static str
         EndCause::NotConnected(_) => "the client's port could not be connected to",
         EndCause::NoMemory => "out of memory",
         EndCause::File => "the file could not be read or written",
+        EndCause::Refused => "the store refused it at its end",
         EndCause::Connection(_) => "the data connection failed",
         EndCause::ControlLost => "the control connection was lost",
         EndCause::ServerEnds => "the server ends",

@@ -1,7 +1,7 @@
 //! Queues among threads.
 
 ghost use Rattle.std.specs.Prelude.{◌≡◌, ◌+◌, ◌<◌, ◌^◌, IfOk, MatchResult, string_bytes};
-ghost use Rattle.line_queue.specs.Queues.{offered, one_dropped, settled, settled_count, transfers_text};
+ghost use Rattle.line_queue.specs.Queues.{given_up, lines_lost, offered, one_dropped, settled, settled_count, transfers_text};
 
 use crate::queue::LineQueue;
 use event_word::EventCount;
@@ -43,6 +43,16 @@ fn settled(queue: &mut LineQueue) -> u64
     } else {
         0
     }
+}
+
+// Drops the lines that are left, and counts them as dropped. Returns the number of these and of those dropped before.
+fn given_up(queue: &mut LineQueue) -> u64
+    ensures count { lines_lost queue.old < 2 ^ 64 → result ≡ lines_lost queue.old }
+    ensures rest { lines_lost queue.old < 2 ^ 64 → queue.new ≡ given_up queue.old }
+{
+    let count = queue.lost();
+    queue.give_up();
+    count
 }
 
 // The note with the count of dropped lines of the transfer log.
@@ -95,11 +105,10 @@ impl SharedLines {
         }
     }
 
-    // The lines of both kinds that are not written yet.
-    pub(crate) fn left<R: Wait>(&self, rt: &R) -> u64 {
-        let notes = self.notes.lock(rt).len() as u64;
-        let transfers = self.transfers.lock(rt).len() as u64;
-        notes.saturating_add(transfers)
+    // Drops the lines of the transfer log that are not written, and counts them with those whose count is not noted.
+    // Returns the number of all these.
+    pub(crate) fn give_up<R: Wait>(&self, rt: &R) -> u64 {
+        given_up(&mut self.transfers.lock(rt))
     }
 
     pub(crate) fn is_closed(&self) -> bool {

@@ -10,7 +10,9 @@
 mod bell;
 mod door;
 mod heard;
+mod room;
 
 pub use bell::DoorBell;
 pub use door::ClientDoor;
 pub use heard::{Arrival, Heard, arrival_of, heard_by};
+pub use room::{LONGEST_STAY, MAX_GUESTS, WaitingRoom};

@@ -64,6 +64,9 @@ pub enum ServerEvent {
     Drains(u64),
     /// The time of a server that drains is over: that number of clients is told so, and their transfers are cut.
     DrainTimedOut(u64),
+    /// The server ends, and waits for that number of calls of the machine which have not returned: on files, or on
+    /// sockets.
+    Waits(u64),
 }
 
 /// The kind of a transfer.

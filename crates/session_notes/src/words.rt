@@ -190,6 +190,7 @@ fn server_words(event: ServerEvent) -> &'static str
         ServerEvent::FewDescriptors(_, _) => "too few open files are allowed",
         ServerEvent::Drains(_) => "ends once all transfers have ended",
         ServerEvent::DrainTimedOut(_) => "ends, and cuts transfers: the time for them is over",
+        ServerEvent::Waits(_) => "calls of the machine",
     }
 }
 
@@ -213,6 +214,7 @@ impl fmt::Display for ServerText {
             ServerEvent::Drains(sessions) | ServerEvent::DrainTimedOut(sessions) => {
                 write!(f, "{words}; clients that are connected: {sessions}")
             }
+            ServerEvent::Waits(calls) => write!(f, "waits for {calls} {words}"),
         }
     }
 }

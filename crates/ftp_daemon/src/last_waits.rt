@@ -3,9 +3,14 @@
 ghost use Rattle.std.specs.Prelude.{◌≡◌, ◌↔◌, ◌+◌, ◌<◌, IsTrue, false, true};
 
 use event_word::{EventCount, has_passed};
+use lent_parts::{MisplacedParts, PartsName};
+use server_house::{House, ServerEvent, ServerHooks};
+use std::alloc::Global;
 use std::sync::Wait;
 use std::sync::atomic::{AtomicU64, Ordering};
+use std::thread;
 use std::time::{Clock, Duration};
+use virtual_tree::Store;
 
 /// The time after the beginning of the end, and between two notes, in microseconds.
 pub(crate) const TELLS: u64 = 10_000_000;
@@ -54,6 +59,31 @@ impl LanesAtWork {
     /// Waits until a lane ends, or briefly.
     pub(crate) fn wait<R: Wait + Clock>(&self, rt: &R, seen: u64) {
         self.ended.wait(rt, seen, 0, Duration::from_millis(LOOK));
+    }
+}
+
+/// The time between two notes of a fault that never ends, in seconds.
+const MISPLACED: u64 = 10;
+
+/// The handler of a server, which is told of parts that are not in their places.
+pub(crate) struct ToldHandler<'h, R, S: Store<Global>, H: Drop, B: PartsName> {
+    pub(crate) rt: &'h R,
+    pub(crate) house: &'h House<S, H, B>,
+}
+
+impl<R, S, H, B> MisplacedParts for ToldHandler<'_, R, S, H, B>
+where
+    R: Wait + Clock,
+    S: Store<Global>,
+    H: ServerHooks,
+    B: PartsName,
+{
+    fn misplaced(&mut self, lane: usize) {
+        self.house
+            .handler
+            .lock(self.rt)
+            .on_server(ServerEvent::Misplaced(lane as u64));
+        thread::sleep(self.rt, Duration::from_secs(MISPLACED));
     }
 }
 

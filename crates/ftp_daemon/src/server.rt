@@ -13,7 +13,7 @@ ghost use Rattle.transfer_worker.specs.Boards.{AreNewPasses};
 ghost use Rattle.ftp_daemon.specs.SameRates.{Permits};
 
 use crate::lanes::serve_crew;
-use crate::last_waits::LanesAtWork;
+use crate::last_waits::{LanesAtWork, ToldHandler};
 use crate::listening::Entrance;
 use crate::opening::{Allocated, Line, Service, allocate};
 use crate::settling::settle_unlent;
@@ -32,6 +32,7 @@ use server_house::{House, ServerHooks, ServerRuntime, ServerShutdown, SharedTerm
 use std::alloc::Global;
 use std::sync::{Mutex, Wait};
 use std::thread::Threads;
+use std::time::Clock;
 use text_io::TextWriter;
 use transfer_worker::{BoardPass, JobBoard};
 use virtual_tree::Store;
@@ -199,25 +200,30 @@ where
 
 impl<R, S, H, B, P> Server<R, S, H, B, P>
 where
-    R: RoundClock + Wait + Drop,
+    R: RoundClock + Wait + Clock + Drop,
     S: Store<Global> + Drop,
-    H: Drop,
+    H: ServerHooks,
     B: PartsName,
     P: OwnerSigns + Drop,
 {
-    /// Settles the desk, once no thread has any part of it.
+    /// Settles the desk, once no thread has any part of it. A part that is not in its place is told to the handler, for
+    /// ever.
     pub(crate) fn settle(self) -> Settled
         ensures sum { result.issued ≡ result.moved + result.back }
         ensures kept { HasKept B.rates B.when B.carried result.issued }
     {
         let Server {
             rt,
-            house: _,
+            house,
             engine,
             passes: _,
             signs: _,
             at_work: _,
         } = self;
-        engine.settle(&rt)
+        let mut told = ToldHandler {
+            rt: &rt,
+            house: &house,
+        };
+        engine.settle(&rt, &mut told)
     }
 }

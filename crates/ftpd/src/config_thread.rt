@@ -1,8 +1,7 @@
 //! The thread that reads the configuration again.
 
-use crate::own_thread::{STACK, ThreadSigns};
+use crate::own_thread::{STACK, ThreadSigns, shared};
 use ftp_daemon::ServeFault;
-use std::alloc::Global;
 use std::sync::{Arc, Mutex, Wait};
 use std::thread::{Builder, Threads};
 use std::time::Clock;
@@ -67,7 +66,7 @@ impl ConfigReader {
     where
         R: Threads + Wait + Clock + Copy + Send + Sync + 'static,
     {
-        let reader = Arc::new(
+        let reader = shared(
             machine.alloc(),
             ConfigReader {
                 reading: Mutex::new(Reading::Idle),

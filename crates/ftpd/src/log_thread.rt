@@ -1,7 +1,7 @@
 //! The threads that write notes and the transfer log.
 
 use crate::log_file::LogFile;
-use crate::own_thread::{STACK, ThreadSigns};
+use crate::own_thread::{STACK, ThreadSigns, shared};
 use ftp_daemon::ServeFault;
 use line_queue::{LineOutlet, LogForm, Readiness, SharedLines, StandardError, write_lines};
 use session_notes::TransferLog;
@@ -92,8 +92,8 @@ struct LineThread {
 
 impl LineThread {
     fn new(alloc: Global) -> Result<Arc<LineThread>, AllocError> {
-        let lines = Arc::new(alloc, SharedLines::new(alloc)?)?;
-        Arc::new(
+        let lines = shared(alloc, SharedLines::new(alloc)?)?;
+        shared(
             alloc,
             LineThread {
                 lines,

@@ -7,7 +7,8 @@
 ghost use Rattle.std.specs.Prelude.{◌≡◌, ◌-◌, ◌/◌, ◌*◌};
 
 use event_word::{EventCount, micros};
-use std::sync::Wait;
+use std::alloc::{AllocError, Global};
+use std::sync::{Arc, Wait};
 use std::sync::atomic::{AtomicU64, Ordering};
 use std::time::{Clock, Duration};
 
@@ -19,6 +20,12 @@ pub(crate) const LAST_WAIT: u64 = 1_000_000;
 
 /// The longest sleep of such a thread, in seconds: a lost signal would cost no more.
 const LONGEST_SLEEP: u64 = 10;
+
+/// A value that such a thread shares with those who give it work.
+pub(crate) fn shared<T: Drop>(alloc: Global, value: T) -> Result<Arc<T>, AllocError> {
+    let handle = Arc::new(alloc, value)?;
+    Ok(handle)
+}
 
 /// The signals between such a thread and those who give it work.
 #[derive(Drop)]

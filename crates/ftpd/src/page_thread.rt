@@ -1,12 +1,12 @@
 //! The thread that serves the status page.
 
-use crate::own_thread::{STACK, ThreadSigns};
+use crate::own_thread::{STACK, ThreadSigns, shared};
 use client_door::{Arrival, ClientDoor, DoorBell, WaitingRoom};
 use ftp_daemon::{ServeFault, ServerRuntime};
+use httpdate::HttpDate;
 use server_status::Status;
 use status_keeper::StatusCell;
 use status_page::{MachineClock, MicrosClock, Timed, serve_request};
-use std::alloc::Global;
 use std::collections::hash_map::RandomState;
 use std::net::{Ipv4Addr, Net, SocketAddr, SocketAddrV4, TcpListener, TcpStream};
 use std::random::RandomSource;
@@ -50,6 +50,18 @@ impl PageSocket {
     }
 }
 
+// This moment, for an answer.
+fn date(machine: &HostRuntime) -> io::Result<HttpDate> {
+    let seconds = match machine.since_1970() {
+        Ok(time) => time.as_secs(),
+        Err(_) => 0,
+    };
+    match HttpDate::from_unix_secs(seconds) {
+        Ok(date) => Ok(date),
+        Err(_) => Err(io::Error::from(io::ErrorKind::InvalidData)),
+    }
+}
+
 // Answers one request on a connection. A peer that takes too long is left.
 fn answer<R>(rt: &R, machine: &HostRuntime, status: &Status, stream: TcpStream) -> io::Result<()>
 where
@@ -62,7 +74,7 @@ where
     let keys = RandomState::new(machine)?;
     let mut reader = Timed::new(&stream, MachineClock(rt), until);
     let mut writer = Timed::new(&stream, MachineClock(rt), until);
-    serve_request(rt.alloc(), keys, status, &mut reader, &mut writer)
+    serve_request(rt.alloc(), keys, status, date(machine)?, &mut reader, &mut writer)
 }
 
 /// A status page that a thread serves, which nobody waits for.
@@ -85,7 +97,7 @@ impl PageThread {
         R: Threads + ServerRuntime + Copy + Send + Sync + 'static,
     {
         let room = WaitingRoom::new(rt.alloc())?;
-        let page = Arc::new(
+        let page = shared(
             rt.alloc(),
             PageThread {
                 socket,

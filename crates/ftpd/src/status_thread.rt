@@ -1,6 +1,6 @@
 //! The thread that writes the status file.
 
-use crate::own_thread::{STACK, ThreadSigns};
+use crate::own_thread::{STACK, ThreadSigns, shared};
 use crate::status_file::StatusFile;
 use ftp_daemon::ServeFault;
 use std::alloc::Global;
@@ -26,7 +26,7 @@ impl StatusWriter {
     where
         R: Threads + Wait + Clock + Copy + Send + Sync + 'static,
     {
-        let writer = Arc::new(
+        let writer = shared(
             alloc,
             StatusWriter {
                 text: Mutex::new(None),

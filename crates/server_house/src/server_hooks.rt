@@ -67,6 +67,8 @@ pub enum ServerEvent {
     /// The server ends, and waits for that number of calls of the machine which have not returned: on files, or on
     /// sockets.
     Waits(u64),
+    /// Nothing can be settled: the part of this lane is not in its place, which is a fault of the program.
+    Misplaced(u64),
 }
 
 /// The kind of a transfer.

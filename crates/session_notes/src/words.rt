@@ -191,6 +191,7 @@ fn server_words(event: ServerEvent) -> &'static str
         ServerEvent::Drains(_) => "ends once all transfers have ended",
         ServerEvent::DrainTimedOut(_) => "ends, and cuts transfers: the time for them is over",
         ServerEvent::Waits(_) => "calls of the machine",
+        ServerEvent::Misplaced(_) => "fault of the program: nothing is settled without the part of lane",
     }
 }
 
@@ -215,6 +216,7 @@ impl fmt::Display for ServerText {
                 write!(f, "{words}; clients that are connected: {sessions}")
             }
             ServerEvent::Waits(calls) => write!(f, "waits for {calls} {words}"),
+            ServerEvent::Misplaced(lane) => write!(f, "{words} {lane}"),
         }
     }
 }

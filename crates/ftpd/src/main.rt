@@ -3,11 +3,13 @@
 #![tactic(auto)]
 
 mod asked;
+mod config_thread;
 mod facts;
 mod known;
 mod log_file;
 mod log_thread;
 mod machine_files;
+mod own_thread;
 mod page_thread;
 mod ready_file;
 mod reload_file;
@@ -15,6 +17,7 @@ mod serving;
 mod sign_file;
 mod starting;
 mod status_file;
+mod status_thread;
 mod watched_file;
 
 use asked::Asked;
@@ -43,7 +46,7 @@ fn run<'w, R, W>(
     output: &mut FallibleIo<W>,
 ) -> (FtpdExit<'w>, Option<StartFault>)
 where
-    R: Threads + ServerRuntime + RoundClock + Copy + Send + Sync,
+    R: Threads + ServerRuntime + RoundClock + Copy + Send + Sync + 'static,
     W: Write,
 {
     let mut asked = Asked::new();
@@ -108,7 +111,8 @@ where
         + AllocGlobal
         + Copy
         + Send
-        + Sync,
+        + Sync
+        + 'static,
 {
     let mut output = FallibleIo(Noted::new(io::writer(machine)));
     let texts = match line_words(machine) {

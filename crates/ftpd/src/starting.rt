@@ -26,7 +26,8 @@ pub(crate) struct Means {
     /// The sign that the configuration is to be read again, if there is to be one.
     pub reload: Option<SignFile>,
     pub is_logged: bool,
-    pub log: LogFile,
+    /// The transfer log, if there is to be one, until its thread takes it.
+    pub log: Option<LogFile>,
     pub status: Option<StatusFile>,
     pub page: Option<PageSocket>,
     pub patience: Patience,
@@ -175,12 +176,12 @@ fn form_named(name: Option<String>) -> Result<LogForm, StartFault> {
     }
 }
 
-/// Returns the transfer log at a path, if there is one. `Err` if its file cannot be opened.
-fn log_at(machine: &HostRuntime, path: Option<String>) -> Result<LogFile, StartFault> {
+/// Returns the transfer log at a path, if there is to be one. `Err` if its file cannot be opened.
+fn log_at(machine: &HostRuntime, path: Option<String>) -> Result<Option<LogFile>, StartFault> {
     match path {
-        None => Ok(LogFile::none(*machine)),
+        None => Ok(None),
         Some(path) => match LogFile::at(*machine, path) {
-            Ok(file) => Ok(file),
+            Ok(file) => Ok(Some(file)),
             Err((path, reason)) => Err(StartFault::TransferLogUnopened { path, reason }),
         },
     }

@@ -7,7 +7,7 @@ use Rattle.server_house.specs.declared.cause.EndCause.TheVariants as ended
 use Rattle.server_house.specs.declared.server_hooks.NotServed.{NotServed}
 use Rattle.server_house.specs.declared.server_hooks.NotServed.TheVariants.{NotAdmitted, NoThread, Ending}
 use Rattle.server_house.specs.declared.server_hooks.ServerEvent.{ServerEvent}
-use Rattle.server_house.specs.declared.server_hooks.ServerEvent.TheVariants.{NotBound, NotAccepted, FewDescriptors, Drains, DrainTimedOut}
+use Rattle.server_house.specs.declared.server_hooks.ServerEvent.TheVariants.{NotBound, NotAccepted, FewDescriptors, Drains, DrainTimedOut, Waits, Misplaced}
 use Rattle.server_house.specs.declared.server_hooks.SessionEvent.{SessionEvent}
 use Rattle.server_house.specs.declared.server_hooks.SessionEvent.TheVariants.{Refused, NoPort, TimedOut}
 use Rattle.session_notes.specs.declared.words.Noted.{Noted}
@@ -49,3 +49,5 @@ level_of_server (NotAccepted error) = Warn
 level_of_server (FewDescriptors limit needed) = Warn
 level_of_server (Drains sessions) = Info
 level_of_server (DrainTimedOut sessions) = Warn
+level_of_server (Waits calls) = Warn
+level_of_server (Misplaced lane) = Warn

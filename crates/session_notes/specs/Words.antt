@@ -12,7 +12,7 @@ use Rattle.server_house.specs.declared.server_hooks.ClientSession.{ClientSession
 use Rattle.server_house.specs.declared.server_hooks.NotServed.{NotServed}
 use Rattle.server_house.specs.declared.server_hooks.NotServed.TheVariants.{NotAdmitted, NoThread, Ending}
 use Rattle.server_house.specs.declared.server_hooks.ServerEvent.{ServerEvent}
-use Rattle.server_house.specs.declared.server_hooks.ServerEvent.TheVariants.{NotBound, NotAccepted, FewDescriptors, Drains, DrainTimedOut}
+use Rattle.server_house.specs.declared.server_hooks.ServerEvent.TheVariants.{NotBound, NotAccepted, FewDescriptors, Drains, DrainTimedOut, Waits, Misplaced}
 use Rattle.server_house.specs.declared.server_hooks.SessionEvent.{SessionEvent}
 use Rattle.server_house.specs.declared.server_hooks.SessionEvent.TheVariants.{Refused, NoPort, TimedOut}
 use Rattle.server_house.specs.declared.server_hooks.SessionRefusal.TheVariants.{TooManyLogins, NoGuarantee, TooManyHeldLines}
@@ -88,3 +88,6 @@ server_words (NotAccepted error) = codes "connections cannot be accepted"
 server_words (FewDescriptors limit needed) = codes "too few open files are allowed"
 server_words (Drains sessions) = codes "ends once all transfers have ended"
 server_words (DrainTimedOut sessions) = codes "ends, and cuts transfers: the time for them is over"
+server_words (Waits calls) = codes "calls of the machine"
+server_words (Misplaced lane) =
+    codes "fault of the program: nothing is settled without the part of lane"

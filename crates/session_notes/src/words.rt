@@ -191,6 +191,8 @@ fn server_words(event: ServerEvent) -> &'static str
         ServerEvent::FewDescriptors(_, _) => "too few open files are allowed",
         ServerEvent::Drains(_) => "ends once all transfers have ended",
         ServerEvent::DrainTimedOut(_) => "ends, and cuts transfers: the time for them is over",
+        ServerEvent::Waits(_) => "calls of the machine",
+        ServerEvent::Misplaced(_) => "fault of the program: nothing is settled without the part of lane",
     }
 }
 
@@ -214,6 +216,8 @@ impl fmt::Display for ServerText {
             ServerEvent::Drains(sessions) | ServerEvent::DrainTimedOut(sessions) => {
                 write!(f, "{words}; clients that are connected: {sessions}")
             }
+            ServerEvent::Waits(calls) => write!(f, "waits for {calls} {words}"),
+            ServerEvent::Misplaced(lane) => write!(f, "{words} {lane}"),
         }
     }
 }

@@ -79,13 +79,19 @@ impl LogFile {
         }
     }
 
-    // Opens the file anew if it was moved away. The one that is open stays if that fails.
-    fn follow(&mut self) {
+    // Opens the file anew if it was moved away. The one that is open stays if that fails. Returns whether another one is
+    // open now.
+    fn reopen(&mut self) -> bool {
         let there = numbers_of(fs::metadata(&self.machine, self.path.as_str()));
-        if must_open(self.open.numbers, there) {
-            if let Ok(open) = opened(&self.machine, self.path.as_str()) {
+        if !must_open(self.open.numbers, there) {
+            return false;
+        }
+        match opened(&self.machine, self.path.as_str()) {
+            Ok(open) => {
                 self.open = open;
+                true
             }
+            Err(_) => false,
         }
     }
 }
@@ -97,8 +103,12 @@ impl LineOutlet for LogFile {
 
     fn write(&mut self, octets: &[u8], goes_on: bool) -> usize {
         if !goes_on {
-            self.follow();
+            self.reopen();
         }
         self.open.file.write(octets).unwrap_or(0)
+    }
+
+    fn follow(&mut self) -> bool {
+        self.reopen()
     }
 }

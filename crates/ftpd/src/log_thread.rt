@@ -3,7 +3,9 @@
 use crate::log_file::LogFile;
 use crate::own_thread::{STACK, ThreadSigns, shared};
 use ftp_daemon::ServeFault;
-use line_queue::{LineOutlet, LogForm, Readiness, SharedLines, StandardError, write_lines};
+use line_queue::{
+    LineOutlet, LogForm, Readiness, SharedLines, StandardError, transfers_dropped, write_lines,
+};
 use session_notes::TransferLog;
 use std::alloc::{AllocError, Global};
 use std::sync::{Arc, Wait};
@@ -109,7 +111,7 @@ impl LineThread {
         N: LineOutlet,
         T: LineOutlet,
     {
-        let _ = write_lines(rt, &self.lines, head, notes, transfers);
+        write_lines(rt, &self.lines, head, notes, transfers);
         self.signs.end();
     }
 
@@ -123,6 +125,8 @@ impl LineThread {
 /// The notes and the transfer log of a server, each written by a thread of its own: a log that hangs holds no note.
 #[derive(Drop)]
 pub(crate) struct LogThreads {
+    // of a note with a count of lines
+    head: &'static str,
     notes: Arc<LineThread>,
     transfers: Arc<LineThread>,
 }
@@ -192,7 +196,11 @@ impl LogThreads {
             }
             None => transfers.signs.end(),
         }
-        Ok(LogThreads { notes, transfers })
+        Ok(LogThreads {
+            head,
+            notes,
+            transfers,
+        })
     }
 
     /// The lines of notes.
@@ -206,8 +214,15 @@ impl LogThreads {
     }
 
     /// No more lines come: waits until those of the transfer log are written, and then the notes, at most a second each.
-    pub fn leave<R: Wait + Clock>(&self, rt: &R) {
+    /// Lines of the transfer log that are left then are lost: their number is the last note, and is returned.
+    pub fn leave<R: Wait + Clock + AllocGlobal>(&self, rt: &R) -> u64 {
         self.transfers.leave(rt);
+        let lost = self.transfers.lines.give_up(rt);
+        if lost > 0 {
+            let line = transfers_dropped(rt.alloc(), self.head, lost);
+            self.notes.lines.note(rt, line);
+        }
         self.notes.leave(rt);
+        lost
     }
 }

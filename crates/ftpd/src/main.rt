@@ -16,6 +16,7 @@ mod reload_file;
 mod serving;
 mod sign_file;
 mod starting;
+mod stated_files;
 mod status_file;
 mod status_thread;
 mod watched_file;

@@ -1,5 +1,8 @@
 //! The server of the machine that the program runs on.
 
+ghost use Rattle.std.specs.Prelude.{◌≡◌, ◌<◌, Err, IfErr, IfOk};
+ghost use Rattle.ftpd_program.specs.declared.server.ServeFault.TheVariants.{TransferLog};
+
 use crate::asked::AskedService;
 use crate::config_thread::ConfigReader;
 use crate::facts::{Start, copied_limits, facts_of, start_of};
@@ -363,6 +366,18 @@ where
     served
 }
 
+/// The outcome of a server that lost this number of lines of its transfer log at the end.
+fn with_lost(served: Result<(), ServeFault>, lost: u64) -> Result<(), ServeFault>
+    ensures whole { lost ≡ 0 → result ≡ served }
+    ensures lost { IfOk served (λ _. 0 < lost → result ≡ Err TransferLog) }
+    ensures faulty { IfErr served (λ fault. result ≡ Err fault) }
+{
+    match served {
+        Ok(()) if lost > 0 => Err(ServeFault::TransferLog),
+        served => served,
+    }
+}
+
 /// Serves with what was prepared.
 fn serve_with<R, W>(
     rt: &R,
@@ -377,8 +392,7 @@ where
     let mut means = means;
     let log = LogThreads::start(rt, machine.alloc(), means.form, means.log.take())?;
     let served = serve_logged(rt, machine, means, &log, output);
-    log.leave(rt);
-    served
+    with_lost(served, log.leave(rt))
 }
 
 /// Serves as asked. The ready file, if any, is made before `ready` is written, and removed at the end. Returns the ending

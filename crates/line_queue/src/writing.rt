@@ -4,7 +4,7 @@ ghost use Rattle.std.specs.Prelude.{◌≡◌, ◌<◌, ◌↔◌, IfOk, OnOk, I
 ghost use Rattle.line_queue.specs.Queues.{next_octets};
 
 use crate::outlet::LineOutlet;
-use crate::queue::{LineQueue, MAX_LINES};
+use crate::queue::LineQueue;
 use crate::rounds::{Readiness, Round, Step, next_step};
 use crate::shared::SharedLines;
 use event_word::micros;
@@ -73,40 +73,17 @@ fn report<R: Wait>(rt: &R, alloc: Global, lines: &SharedLines, head: &str) {
     lines.report_transfers(rt, alloc, head);
 }
 
-// Gives up the lines of the transfer log that are left at the end. Their number is the last note, if the outlet of notes
-// takes it now; it is returned too.
-fn finish_lines<R: Wait + AllocGlobal, N: LineOutlet>(
-    rt: &R,
-    lines: &SharedLines,
-    head: &str,
-    notes: &mut N,
-    buffer: &mut Vec<u8>,
-) -> u64 {
-    let lost = lines.give_up(rt);
-    if lost == 0 {
-        return 0;
-    }
-    report(rt, rt.alloc(), lines, head);
-    for _ in 0..MAX_LINES {
-        if round(rt, &lines.notes, notes, buffer) != Round::Wrote {
-            break;
-        }
-    }
-    lost
-}
-
 /// Writes the lines that are offered, until no more come and the last are written, or [`LAST_WAIT`](crate::LAST_WAIT)
 /// has passed since. The counts of dropped lines are among the notes, under this head. A line that has begun in a file
-/// that was moved away, and cannot go on there, is begun anew in the file that the outlet follows. Returns the number of
-/// lines of the transfer log that are lost at the end: those that are not written, and those whose count was not noted
-/// before. The last note has that number.
+/// that was moved away, and cannot go on there, is begun anew in the file that the outlet follows. Lines that are left at
+/// the end are those of [`SharedLines::give_up`].
 pub fn write_lines<R, N, T>(
     rt: &R,
     lines: &SharedLines,
     head: &str,
     notes: &mut N,
     transfers: &mut T,
-) -> u64
+)
 where
     R: Wait + Clock + AllocGlobal,
     N: LineOutlet,
@@ -129,7 +106,7 @@ where
                 notes.readiness(PAUSE);
             }
             Step::Pause => thread::sleep(rt, Duration::from_millis(u64::from(PAUSE))),
-            Step::End => return finish_lines(rt, lines, head, notes, &mut buffer),
+            Step::End => return,
         }
     }
     unreachable!()

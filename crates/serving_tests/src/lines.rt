@@ -3,7 +3,7 @@
 use crate::expect::holds;
 use line_queue::{
     LAST_WAIT, LineQueue, MAX_LINES, Readiness, Round, SharedLines, Step, next_step, priority,
-    readiness_of,
+    readiness_of, transfers_dropped,
 };
 use log::Level;
 use std::process::Abort;
@@ -85,6 +85,9 @@ fn steps_of_the_writer(rt: HostRuntime) {
     lines.note(&rt, Ok(line(&rt, "a\n")));
     lines.transfer(&rt, Ok(line(&rt, "b\n")));
     lines.close();
+    holds(&rt, lines.give_up(&rt) == 1);
+    let note = transfers_dropped(rt.alloc(), "<4>", 1).expect(&rt, "memory");
+    holds(&rt, note.as_str() == "<4>lines of the transfer log dropped: 1\n");
 }
 
 #[test]

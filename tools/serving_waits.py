@@ -25,13 +25,25 @@ ALONE = """exec unshare -rn sh -c 'ip link set lo up; exec "$@"' sh "$@\""""
 HANGS = "the machine holds no call back (strace), so this row is left out"
 
 
-def ends(server):
-    """Stops a server, and wants that it ends promptly, settled."""
+def ends(server, sign=Server.stop, tracer=None):
+    """Gives a server a sign, and wants that it ends promptly, settled."""
     begun = time.monotonic()
-    server.stop()
-    server.ended()
+    sign(server)
+    until(lambda: is_over(server), "the end of the process")
     taken = time.monotonic() - begun
     want(taken < PROMPT, f"it ended after {taken:.1f} seconds")
+    if tracer:
+        # (what is left of a thread that it holds goes with it)
+        tracer.kill()
+    server.ended()
+
+
+def is_over(server):
+    """Whether the process of a server has ended, or its main thread has, which ends all others."""
+    if server.process.poll() is not None:
+        return True
+    with open(f"/proc/{server.process.pid}/stat", encoding="ascii") as it:
+        return it.read().rpartition(")")[2].split()[0] in "ZX"
 
 
 def is_lent(words):
@@ -41,17 +53,17 @@ def is_lent(words):
 
 @contextlib.contextmanager
 def held_back(server, calls, *paths):
-    """Calls of a server on these paths do not return, if the machine can do that: the value says so."""
+    """Calls of a server on these paths do not return, if the machine can do that: the value is the tracer, or none."""
     words = ["strace", "-f", "-qq", "-o", "/dev/null", "-e", f"trace={calls}", "-e", f"inject={calls}:delay_enter={HELD}"]
     for path in paths:
         words += ["-P", path]
     if not is_lent(["strace", "-o", "/dev/null", "true"]):
-        yield False
+        yield None
         return
     tracer = subprocess.Popen([*words, "-p", str(server.process.pid)], stdout=subprocess.DEVNULL, stderr=subprocess.PIPE)
     try:
         until(lambda: tracer.poll() is not None or is_traced(server), "the tracer")
-        yield tracer.poll() is None
+        yield tracer if tracer.poll() is None else None
     finally:
         tracer.kill()
         tracer.wait()
@@ -76,10 +88,7 @@ def an_address_that_is_gone():
         with Server(sessions=0, stop=True, drain=True, words=["--status-port", str(PORTS_TO_HAND_OUT.take(1))], before=ALONE) as server:
             inside = ["nsenter", "--preserve-credentials", "-U", "-n", "-t", str(server.process.pid)]
             subprocess.run([*inside, "ip", "link", "set", "lo", "down"], check=True, capture_output=True)
-            begun = time.monotonic()
-            sign(server)
-            server.ended()
-            want(time.monotonic() - begun < PROMPT, f"it ended after {time.monotonic() - begun:.1f} seconds")
+            ends(server, sign)
 
 
 def a_process_without_descriptors():
@@ -95,7 +104,8 @@ def a_failed_start_with_a_page():
     """A server that finds its port taken ends, though its page was served already."""
     with socket.create_server(("127.0.0.1", 0)) as other:
         words = ["--status-port", str(PORTS_TO_HAND_OUT.take(1))]
-        text = f'version = 1\n[server]\nroot = "memory"\naddress = "127.0.0.1"\nport = {other.getsockname()[1]}\n'
+        first = PORTS_TO_HAND_OUT.take(1)
+        text = f'version = 1\n[server]\nroot = "memory"\nport = {other.getsockname()[1]}\npassive_first = {first}\npassive_last = {first}\n'
         status, output, noted = Server(text=text, words=words).run()
         same((status, output), (1, ""), "its status and output")
         want(noted.endswith("ftpd: Bind\n"), noted)
@@ -115,8 +125,8 @@ def a_configuration_that_is_a_pipe():
 
 def a_configuration_that_hangs():
     """A call on the configuration that does not return holds neither clients nor a drain; who asks again is told."""
-    with Server(sessions=0, stop=True, drain=True, reload=True) as server, held_back(server, "openat", "ftpd.toml") as is_held:
-        if not is_held:
+    with Server(sessions=0, stop=True, drain=True, reload=True) as server, held_back(server, "openat", "ftpd.toml") as tracer:
+        if not tracer:
             print("a_configuration_that_hangs:", HANGS)
             return
         for _ in range(2):
@@ -126,24 +136,21 @@ def a_configuration_that_hangs():
         wanted = "configuration not reloaded: the file has not been read since the last time that it was asked for"
         until(lambda: wanted in server.noted(), "the note of the second")
         Client(server).quit()
-        begun = time.monotonic()
-        server.drain()
-        server.ended()
-        want(time.monotonic() - begun < PROMPT, f"it ended after {time.monotonic() - begun:.1f} seconds")
+        ends(server, Server.drain, tracer)
 
 
 def a_status_that_hangs():
     """A status file whose file system does not answer holds neither a reload nor the stop."""
     with Server(sessions=0, stop=True, reload=True, words=["--status", "status.json"]) as server:
         until(lambda: os.path.exists(f"{server.place}/status.json"), "the status")
-        with held_back(server, "openat,rename,unlink", "status.json.new", "status.json") as is_held:
-            if not is_held:
+        with held_back(server, "openat,rename,unlink", "status.json.new", "status.json") as tracer:
+            if not tracer:
                 print("a_status_that_hangs:", HANGS)
                 return
             time.sleep(1.5)
             server.reloaded()
             Client(server).quit()
-            ends(server)
+            ends(server, tracer=tracer)
 
 
 def a_status_path_that_is_a_pipe():
@@ -227,8 +234,8 @@ def what_the_end_waits_for():
         data = client.passive()
         data.socket.setsockopt(socket.SOL_SOCKET, socket.SO_RCVBUF, 4096)
         client.says("RETR big", "150 Opening data connection")
-        with held_back(server, "read", f"{server.folder}/big") as is_held:
-            if not is_held:
+        with held_back(server, "read", f"{server.folder}/big") as tracer:
+            if not tracer:
                 print("what_the_end_waits_for:", HANGS)
                 return
             reader = threading.Thread(target=data.whole, daemon=True)

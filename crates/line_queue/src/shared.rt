@@ -48,7 +48,7 @@ fn settled(queue: &mut LineQueue) -> u64
 // Drops the lines that are left. Returns the number of these and of those whose count is not reported.
 fn given_up(queue: &mut LineQueue) -> u64
     ensures count { lines_lost queue.old < 2 ^ 64 → result ≡ lines_lost queue.old }
-    ensures rest { queue.new ≡ empty }
+    ensures rest { lines_lost queue.old < 2 ^ 64 → queue.new ≡ empty }
 {
     let count = queue.lost();
     queue.give_up();

@@ -182,7 +182,7 @@ def a_store_that_is_full():
         client.quit()
         server.ended()
         # (all of it came, and the store refused it at its end)
-        wanted = ['the storage is full: user "ann"', 'received "/g"', 'received "/g"', 'sent "/g"']
+        wanted = ['the storage is full: user "ann"', 'not received whole "/g": the store refused it at its end', 'received "/g"', 'sent "/g"']
         same(server.notes_made()[2:6], wanted, "the notes")
 
 

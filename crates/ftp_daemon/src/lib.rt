@@ -15,6 +15,7 @@ mod accepting;
 mod crew;
 mod draining;
 mod lanes;
+mod last_waits;
 mod listening;
 mod opening;
 mod reloading;

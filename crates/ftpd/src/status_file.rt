@@ -4,6 +4,7 @@ ghost use Rattle.std.specs.Prelude.{true};
 
 use crate::reload_file::ReloadFile;
 use crate::sign_file::{SignFile, is_given};
+use crate::status_thread::StatusWriter;
 use ftp_daemon::{OwnerSigns, ReloadFault, ReloadSign};
 use server_status::status_text;
 use status_keeper::StatusCell;
@@ -46,8 +47,14 @@ impl StatusFile {
         }
     }
 
-    /// Writes a text. `Err` is the machine's reason: then what was at the path is still there.
+    /// Writes a text. `Err` is the machine's reason: then what was at the path is still there. What is no regular file
+    /// stays.
     pub fn write(&self, text: &[u8]) -> io::Result<()> {
+        if let Ok(found) = fs::metadata(&self.machine, self.path.as_str()) {
+            if !found.is_file() {
+                return Err(io::Error::from(io::ErrorKind::AlreadyExists));
+            }
+        }
         write_new(&self.machine, self.beside.as_str(), text)?;
         fs::rename(&self.machine, self.beside.as_str(), self.path.as_str())
     }
@@ -77,7 +84,8 @@ pub(crate) struct MachineSigns<R> {
     pub stop: Option<SignFile>,
     pub drain: Option<SignFile>,
     pub reload: Option<ReloadFile>,
-    pub file: Option<Arc<StatusFile>>,
+    /// The thread that writes the status file, if there is one.
+    pub status: Option<Arc<StatusWriter>>,
     /// The status, if it is shown at all.
     pub cell: Option<Arc<StatusCell>>,
 }
@@ -119,12 +127,12 @@ impl<R: Wait + AllocGlobal> OwnerSigns for MachineSigns<R> {
         self.cell.is_some()
     }
 
-    // If the file cannot be written, or memory runs out, the next look is written.
+    // If memory runs out, the next look is written.
     fn looked(&self) {
-        if let (Some(file), Some(cell)) = (&self.file, &self.cell) {
+        if let (Some(writer), Some(cell)) = (&self.status, &self.cell) {
             if let Ok(Some(status)) = cell.last(&self.rt) {
                 if let Ok(text) = status_text(self.rt.alloc(), &status) {
-                    let _ = file.write(text.as_bytes());
+                    writer.put(&self.rt, text);
                 }
             }
         }

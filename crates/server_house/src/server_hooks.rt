@@ -64,6 +64,11 @@ pub enum ServerEvent {
     Drains(u64),
     /// The time of a server that drains is over: that number of clients is told so, and their transfers are cut.
     DrainTimedOut(u64),
+    /// The server ends, and waits for that number of calls of the machine which have not returned: on files, or on
+    /// sockets.
+    Waits(u64),
+    /// Nothing can be settled: the part of this lane is not in its place, which is a fault of the program.
+    Misplaced(u64),
 }
 
 /// The kind of a transfer.

@@ -3,6 +3,8 @@ use Rattle.std.specs.Prelude.{ℕ, Bool, true, false, ◌&&◌, List, Option, So
 use Rattle.std.specs.declared.alloc.Global.{Global}
 use Rattle.ftp_terms.specs.declared.data_type.DataType.{DataType}
 use Rattle.ftp_terms.specs.declared.data_type.DataType.TheVariants.{Ascii, Image}
+use Rattle.server_house.specs.declared.cause.EndCause.{EndCause}
+use Rattle.server_house.specs.declared.cause.EndCause.TheVariants as cause
 use Rattle.server_house.specs.declared.server_hooks.TransferKind.{TransferKind}
 use Rattle.server_house.specs.declared.server_hooks.TransferKind.TheVariants.{Sent, Received, Listed}
 use Rattle.session_core.specs.declared.events.DataEvent.{DataEvent}
@@ -60,3 +62,9 @@ abbrev pub path_of : TransferKind → Option Path → Option (List ℕ)
 path_of Listed path = None
 path_of Sent path = option_map path_text path
 path_of Received path = option_map path_text path
+
+-- A transfer that came to its end, and whose file the store refused there, was refused.
+abbrev pub cause_with : Option EndCause → Bool → Option EndCause
+cause_with None false = None
+cause_with None true = Some cause.Refused
+cause_with (Some why) is_refused = Some why

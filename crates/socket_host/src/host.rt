@@ -1,6 +1,6 @@
 //! The host of a control session.
 
-ghost use Rattle.std.specs.Prelude.{◌≡◌, ◌<◌, IfErr, IfNone, IfOk, IfSome, OnErr, [], false, length, option_map, string_bytes, true};
+ghost use Rattle.std.specs.Prelude.{◌≡◌, ◌<◌, IfErr, IfNone, IfOk, IfSome, MatchResult, OnErr, [], false, length, option_map, string_bytes, true};
 ghost use Rattle.std.specs.declared.alloc.Global.{Global};
 ghost use Rattle.control_session.specs.Calls.{reads_within};
 ghost use Rattle.control_session.specs.Rows.{IsRow};
@@ -11,8 +11,8 @@ ghost use Rattle.rate_floors.specs.Promises.{HasNoSessions};
 ghost use Rattle.session_table.specs.Steps.{asks_floors};
 ghost use Rattle.session_table.specs.Views.{is_closed};
 ghost use Rattle.socket_host.specs.Cuts.{cause_of_cut};
-ghost use Rattle.socket_host.specs.Records.{ends_file, ends_listing, is_end, is_text, job_kind, path_of};
-ghost use Rattle.socket_host.specs.Refusals.{refusal_of};
+ghost use Rattle.socket_host.specs.Records.{cause_with, ends_file, ends_listing, is_end, is_text, job_kind, path_of};
+ghost use Rattle.socket_host.specs.Refusals.{is_refusal, refusal_of, says_refusal};
 ghost use Rattle.socket_host.specs.Standing.{Follows};
 ghost use Rattle.socket_host.specs.Texts.{is_without_port, last_reply, time_out_reply};
 ghost use Rattle.socket_host.specs.Doing.{SocketDoes, Stays, kept_users};
@@ -90,6 +90,47 @@ fn cause_of_cut<K>(last: &Option<DataEvent<K>>, is_ending: bool) -> Option<EndCa
         } else {
             EndCause::ControlLost
         }),
+    }
+}
+
+// The reason for which a transfer did not come to its end, if the store refused its file at the end or did not.
+fn cause_with(cause: Option<EndCause>, is_refused: bool) -> Option<EndCause>
+    ensures cause { result ≡ cause_with cause is_refused }
+{
+    match cause {
+        Some(cause) => Some(cause),
+        None if is_refused => Some(EndCause::Refused),
+        None => None,
+    }
+}
+
+// Returns whether an action is a reply that refuses.
+fn is_refusal<R, K>(action: &Action<Global, R, K>) -> bool
+    ensures refusal { result ≡ is_refusal action.now }
+{
+    matches!(action, Action::Say(Answer::Refusal(_)))
+}
+
+// Returns whether an action of a step is a reply that refuses.
+fn says_refusal<R, K>(actions: &[Action<Global, R, K>]) -> bool
+    ensures refusal { result ≡ says_refusal actions.now }
+{
+    for action in actions {
+        if is_refusal(action) {
+            return true;
+        }
+    }
+    false
+}
+
+// Returns whether a step was made that says a refusal.
+fn is_refused<R, K>(made: &Result<Vec<Action<Global, R, K>>, NoStep<K>>) -> bool
+    ensures refused { MatchResult made.now
+        (λ actions. result ≡ says_refusal actions.items) (λ why. result ≡ false) }
+{
+    match made {
+        Ok(actions) => says_refusal(actions),
+        Err(_) => false,
     }
 }
 
@@ -224,6 +265,8 @@ pub struct SocketHost<'h, R, S: Store<Global>, H: Drop, B: PartsName, T> {
     path: Option<VPath>,
     // the reply that comes next is to a wrong password
     is_wrong: bool,
+    // the last step said a refusal: if it was the end of an upload, the store refused the file
+    is_refused: bool,
     // lent to steps that need no floors
     no_floors: Floors,
 }
@@ -264,6 +307,7 @@ where
             },
             path: None,
             is_wrong: false,
+            is_refused: false,
             no_floors,
         }
     }
@@ -281,6 +325,7 @@ where
             begun: _,
             path: _,
             is_wrong: _,
+            is_refused: _,
             no_floors: _,
         } = self;
         side.leave();
@@ -480,11 +525,14 @@ where
         self.house.handler.lock(self.rt).on_store(self.own, &note);
     }
 
-    // Follows a call of the store: the file that is opened, a change, or a fault.
-    fn follow_store(&mut self, record: Option<StoreRecord>)
+    // Follows a step, which may have said a refusal, and its call of the store: the file that is opened, a change, or a
+    // fault.
+    fn follow_store(&mut self, record: Option<StoreRecord>, is_refused: bool)
         ensures standing { self.new.standing ≡ self.old.standing }
         ensures side { self.new.side ≡ self.old.side }
+        ensures refused { self.new.is_refused ≡ is_refused }
     {
+        self.is_refused = is_refused;
         match record {
             Some(StoreRecord::OpenedToRead(path)) => self.path = path,
             Some(StoreRecord::OpenedToWrite(path)) => self.path = path,
@@ -609,7 +657,7 @@ where
             end_by(session, users, floors, &mut *store, event, moment);
             store.take_last()
         };
-        self.follow_store(record);
+        self.follow_store(record, false);
     }
 
     /// Ends the control connection in such a way that the last reply arrives.
@@ -647,7 +695,7 @@ where
         }
         self.compare_terms(session.is_inside());
         let (made, record) = self.step_over(session, input);
-        self.follow_store(record);
+        self.follow_store(record, is_refused(&made));
         self.report_made(&made);
         made
     }
@@ -681,7 +729,7 @@ where
     fn note(&mut self, call: &HookCall<Global>) {
         self.follow(call);
         if ends_file(call) {
-            self.report_end(self.side.cause());
+            self.report_end(cause_with(self.side.cause(), self.is_refused));
         }
         self.house.handler.lock(self.rt).on_call(self.own, call);
     }

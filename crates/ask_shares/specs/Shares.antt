@@ -48,7 +48,7 @@ pub record AreAskShares (rates : Rates) (tick : ℕ) (asks : List Ask)
 abbrev pub share_granted : AskShare → Granted
 share_granted s = record { ask = s.ask; octets = s.grant }
 
--- what asks are granted under a name is at most its limit in the tick
+-- the sum of the grants under a name is at most its limit in the tick
 abbrev pub KeepNames : Rates → ℕ → List AskShare → Type 0
 KeepNames rates tick shares =
     (n : Name) (most : ℕ) → rate_limit (rate_of rates n) tick ≡ Some most

@@ -1,7 +1,7 @@
 //! A line divided among asks, without files, sessions or threads: asks in, shares out, each with the limit that holds it
 //! back.
 //!
-//! What the asks are is the caller's: the requests of a proxy, the jobs of a queue, the writers of a disk. Each is of a
+//! An ask is any piece of work that waits: the request of a proxy, the job of a queue, the writer of a disk. Each is of a
 //! user, who may be in a group, and of a session of that user; limits and guarantees are those of a `Limits`, in units per
 //! second. `share_asks` shares a tick, a tenth of a second: whoever calls it ten times a second, with ticks that rise by
 //! one, hands out each rate to the unit.

@@ -38,7 +38,7 @@ pub struct FtpServer {
     /// The rates of users in the order in which `limit_user` set them. Of two for one user the later counts; a user
     /// without any has no limit and no guarantee.
     pub user_rates: Vec<SetRates>,
-    alloc: Global,
+    pub(crate) alloc: Global,
 }
 
 /// The numbers of a server at an address and a port.

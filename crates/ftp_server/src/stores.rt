@@ -2,11 +2,9 @@
 
 use crate::fault::FtpServerFault;
 use folder_store::DirStore;
-use ftp_daemon::ServeFault;
 use last_fault::LastFault;
 use recorded_store::RecordedStore;
 use std::alloc::Global;
-use std::rt::Files;
 use virtual_tree::{Store, StoreFault};
 
 /// A store, and more of them over the same files, one for each connection, if they can be had: then no session waits for a
@@ -28,17 +26,17 @@ impl<S: Store<Global> + Drop> Stores<S> {
 }
 
 /// A store over a folder of the machine.
-pub type FolderStore<R> = DirStore<R>;
+pub type FolderStore = DirStore<HostRuntime>;
 
 // Opens a folder, with a record of its calls and of the machine's errors.
-fn open_recorded<R>(rt: &R, folder: &str) -> Result<RecordedStore<DirStore<R>>, FtpServerFault>
-where
-    R: Files + AllocGlobal + Copy + Drop,
-{
-    let error = LastFault::new(rt.alloc())?;
+fn open_recorded(
+    machine: &HostRuntime,
+    folder: &str,
+) -> Result<RecordedStore<FolderStore>, FtpServerFault> {
+    let error = LastFault::new(machine.alloc())?;
     let kept = error.another()?;
-    match DirStore::new(*rt, folder, kept) {
-        Ok(store) => Ok(RecordedStore::with_fault(rt.alloc(), store, error)),
+    match DirStore::new(*machine, folder, kept) {
+        Ok(store) => Ok(RecordedStore::with_fault(machine.alloc(), store, error)),
         Err(StoreFault::Memory) => Err(FtpServerFault::Memory),
         Err(_) => Err(FtpServerFault::Folder(error.take())),
     }
@@ -47,18 +45,20 @@ where
 /// Opens a folder of the machine, as a store for all and as one for each of `connections`.
 ///
 /// Returns `Folder` with the machine's reason if it cannot be opened.
-pub fn open_folder<R>(
-    rt: &R,
+///
+/// ```text
+/// let stores = open_folder(&rt, "/srv/ftp", server.numbers.max_cons)?;
+/// server.serve_with(&rt, stores, handler, flag)?;
+/// ```
+pub fn open_folder(
+    machine: &HostRuntime,
     folder: &str,
     connections: u16,
-) -> Result<Stores<DirStore<R>>, FtpServerFault>
-where
-    R: Files + AllocGlobal + Copy + Drop,
-{
-    let store = open_recorded(rt, folder)?;
-    let mut own = Vec::new(rt.alloc());
+) -> Result<Stores<FolderStore>, FtpServerFault> {
+    let store = open_recorded(machine, folder)?;
+    let mut own = Vec::new(machine.alloc());
     for _ in 0..connections {
-        let another = open_recorded(rt, folder)?;
+        let another = open_recorded(machine, folder)?;
         own.push(another)?;
     }
     Ok(Stores { store, own })

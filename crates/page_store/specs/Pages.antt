@@ -15,7 +15,8 @@ use Rattle.virtual_tree.specs.declared.fault.StoreFault.{StoreFault}
 use Rattle.virtual_tree.specs.declared.fault.StoreFault.TheVariants.{Device, Full, IsDir, Memory, NotDir, NotFound, PastEnd}
 use Rattle.virtual_tree.specs.declared.listed.ListedEntry.{ListedEntry}
 
--- What may be shown for a name: the octets of the file of that name, or none if there is none.
+-- Pages that may be shown for a name: the octets of the file of that name, or none if there is
+-- none.
 abbrev pub Showing : Type 1
 Showing = List ℕ → Option (List ℕ) → Type 0
 

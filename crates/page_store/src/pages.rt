@@ -37,8 +37,8 @@ impl From<AllocError> for PageFault {
 
 /// Files that are made when they are asked for, all of them in the root. A call may give another page than the one before.
 pub trait Pages: Drop {
-    /// What may be shown for a name: the octets of its file, or none if there is none. A store shows nothing else; whoever
-    /// states nothing may show anything.
+    /// Pages that may be shown for a name: the octets of its file, or none if there is none. A store shows no others;
+    /// whoever states nothing may show any.
     ghost Shows: { List ℕ → Option (List ℕ) → Type 0 } = { λ name page. ⊤ };
 
     /// The names of the files, in any order. A text that is no name of a path is left out of listings, and so is one for

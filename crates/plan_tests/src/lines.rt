@@ -28,7 +28,7 @@ fn row(user: u32, down: u64, floor: u64) -> UserRate {
     }
 }
 
-// Whether the share at a place has these octets, and is held back by this name.
+// Stops the test unless the share at a place has these octets, and is held back by this name.
 fn gets(rt: &impl Abort, shares: &[AskShare], place: usize, grant: u64, held: Option<Name>) {
     match shares.get(place) {
         Some(share) => {

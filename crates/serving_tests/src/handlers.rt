@@ -79,7 +79,7 @@ fn new_called() -> Called {
     }
 }
 
-// Whether a handler was called once, by this name.
+// Stops the test unless a handler was called once, by this name.
 fn was_called(rt: &impl Abort, called: &Called, name: &str, size: u64) {
     holds(rt, called.times == 1);
     holds(rt, called.last == name);

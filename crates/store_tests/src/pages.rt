@@ -6,7 +6,7 @@ use std::alloc::Global;
 
 /// Two files; a name that no path has, one that is listed twice, and one without a page.
 #[derive(Drop)]
-struct Two;
+pub(crate) struct Two;
 
 impl Pages for Two {
     fn names(&mut self, alloc: Global) -> Result<Vec<String>, PageFault> {

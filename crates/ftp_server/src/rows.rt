@@ -12,6 +12,7 @@ use line_rates::UserRate;
 use std::alloc::{AllocError, Global};
 
 // The rates that were set last for a number.
+#[tactic(auto, using(crate::proofs::Last::last_more))]
 fn last_set(set: &[SetRates], number: u32) -> UserRates
     ensures last { result ≡ last_set set.now number }
 {
@@ -48,6 +49,7 @@ fn row_of(users: &Authorizer, set: &[SetRates], name: &str) -> Option<UserRate>
 }
 
 // Rows for the users with these names.
+#[tactic(auto, using(crate::proofs::Last::named_push))]
 fn rows_named(
     alloc: Global,
     users: &Authorizer,

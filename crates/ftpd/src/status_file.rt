@@ -5,6 +5,7 @@ ghost use Rattle.std.specs.Prelude.{true};
 use crate::reload_file::ReloadFile;
 use crate::sign_file::{SignFile, is_given};
 use crate::status_thread::StatusWriter;
+use folder_store::LeaveSign;
 use ftp_daemon::{OwnerSigns, ReloadFault, ReloadSign};
 use server_status::status_text;
 use status_keeper::StatusCell;
@@ -82,6 +83,8 @@ impl StatusFile {
 pub(crate) struct MachineSigns<R> {
     pub rt: R,
     pub stop: Option<SignFile>,
+    /// Given once the server is to end: listings under way are left.
+    pub leaves: Option<LeaveSign>,
     pub drain: Option<SignFile>,
     pub reload: Option<ReloadFile>,
     /// The thread that writes the status file, if there is one.
@@ -92,7 +95,11 @@ pub(crate) struct MachineSigns<R> {
 
 impl<R: Wait + AllocGlobal> OwnerSigns for MachineSigns<R> {
     fn is_up(&self) -> bool {
-        is_given(&self.stop)
+        let is_up = is_given(&self.stop);
+        if let (true, Some(sign)) = (is_up, &self.leaves) {
+            sign.give();
+        }
+        is_up
     }
 
     fn is_to_drain(&self) -> bool {

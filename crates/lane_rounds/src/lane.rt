@@ -52,7 +52,9 @@ fn looks_of<R: Source, K: Sink, B: PartsName>(
     match job {
         LaneJob::Send { .. } => None,
         LaneJob::Take {
-            connection, user, ..
+            connection,
+            user,
+            ..
         } => {
             let is_free = is_free(engine, *user);
             sign.set_free(is_free);

@@ -35,7 +35,8 @@ pub record HasParts (p : Promises) (tops left : Lefts) : Type 0 where
   pub user : (row : UserRate) (w : Way)
       → part_share (way_of row.down row.up w) (tops.user row w) ≤ left.user row w
   pub session : (row : UserRate) (w : Way)
-      → part_share (way_of row.session_down row.session_up w) (tops.session row w) ≤ left.session row w
+      → part_share (way_of row.session_down row.session_up w) (tops.session row w)
+      ≤ left.session row w
 
 -- for each user and way, the octets that are handed in for the guarantee of each session
 abbrev pub Owed : Type 0

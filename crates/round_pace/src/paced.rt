@@ -15,7 +15,7 @@ ghost use Rattle.round_pace.specs.Taken.{take_if_down, take_if_up, owed_if_down,
 ghost use Rattle.round_pace.specs.declared.credit.TheConstants.{MOST_PARTS};
 
 use crate::credit::{
-    Credit, as_rate, floor_in, is_dry, owed_after, owed_in, refill_row, take_row, parts_left,
+    Credit, as_rate, floor_in, is_dry, owed_after, owed_in, parts_left, refill_row, take_row,
 };
 use crate::quiet::{is_full_group, is_full_user, is_marked, set_mark};
 use crate::rows::{floor_of, group_credit};

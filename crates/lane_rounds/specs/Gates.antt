@@ -33,7 +33,8 @@ abbrev pub come_at_first : Bool → Option ℕ
 come_at_first is_free = if is_free then None else Some 0
 
 -- The octets that are known to be there after a read of this many. They are not counted while no
--- rate is a limit, nor, while the rates have plenty left, after a read of as many as one can return.
+-- rate is a limit, nor after a read of as many as one can return, while the rates have plenty
+-- left.
 abbrev pub left_after : Option ℕ → Bool → Bool → ℕ → Option ℕ
 left_after None is_free has_plenty octets =
     if is_free || (has_plenty && nat_le MAX_READ octets) then None else Some 0

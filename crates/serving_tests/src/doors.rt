@@ -1,7 +1,9 @@
 //! A door over the loopback address, its bell, and the room of those who are silent.
 
 use crate::expect::holds;
-use client_door::{Arrival, ClientDoor, DoorBell, Heard, LONGEST_STAY, WaitingRoom, arrival_of, heard_by};
+use client_door::{
+    Arrival, ClientDoor, DoorBell, Heard, LONGEST_STAY, WaitingRoom, arrival_of, heard_by,
+};
 use server_house::{listen, socket_address};
 use std::io;
 use std::io::{ErrorKind, Write};

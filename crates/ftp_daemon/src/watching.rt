@@ -303,10 +303,7 @@ where
         let now = micros(rt);
         if is_told(calls, told, now) {
             told = told.saturating_add(TELLS);
-            house
-                .handler
-                .lock(rt)
-                .on_server(ServerEvent::Waits(calls));
+            house.handler.lock(rt).on_server(ServerEvent::Waits(calls));
         }
         shown = look_if_due(rt, house, engine, signs, shown, now);
         at_work.wait(rt, seen);

@@ -1,15 +1,15 @@
 //! Threads that own what they use, so that nobody has to wait for them.
 //!
 //! A call on a path of the machine has no limit of time: a file system may hang, or somebody has put a pipe at the path. So
-//! the owner's paths are looked at, opened, read and written by such threads, and the end of the server waits at most
+//! the owner's paths are examined, opened, read and written by such threads, and the end of the server waits at most
 //! [`LAST_WAIT`] for each. One that has not ended by then ends with the process.
 
 ghost use Rattle.std.specs.Prelude.{◌≡◌, ◌-◌, ◌/◌, ◌*◌};
 
 use event_word::{EventCount, micros};
 use std::alloc::{AllocError, Global};
-use std::sync::{Arc, Wait};
 use std::sync::atomic::{AtomicU64, Ordering};
+use std::sync::{Arc, Wait};
 use std::time::{Clock, Duration};
 
 /// The stack of such a thread, in octets.

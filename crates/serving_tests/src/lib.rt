@@ -1,5 +1,5 @@
 //! Tests of the parts of the server that need no desk and no session: counts that threads wait on, tickets, the mender
-//! of control text, the pace of rounds and their cadence, limits of time, ports that rest, the queue of lines, and the
+//! of control text, the pace of rounds and their cadence, limits of time, doors, ports that rest, the queue of lines, and the
 //! line of a transfer log. They call only public functions.
 #![tactic(auto)]
 
@@ -7,6 +7,8 @@
 mod cadences;
 #[cfg(test)]
 mod counts;
+#[cfg(test)]
+mod doors;
 #[cfg(test)]
 mod expect;
 #[cfg(test)]

@@ -38,11 +38,7 @@ fn ask_at(asks: &[Ask], place: u8) -> Ask
 }
 
 // The asks at these places.
-fn in_order<A: Allocator>(
-    alloc: A,
-    asks: &[Ask],
-    places: &[u8],
-) -> Result<Vec<Ask, A>, AllocError>
+fn in_order<A: Allocator>(alloc: A, asks: &[Ask], places: &[u8]) -> Result<Vec<Ask, A>, AllocError>
     requires places { All (λ place. place < length asks.now) places.now }
     ensures order { IfOk result
         (λ order. map (λ place. slice_get asks.now place) places.now

@@ -53,10 +53,7 @@ impl FtpServer {
     /// ```text
     /// let (server, store) = FtpServer::of_config(alloc, Config::read(alloc, TEXT.as_bytes())?)?;
     /// ```
-    pub fn of_config(
-        alloc: Global,
-        config: Config,
-    ) -> Result<(FtpServer, ServedStore), AllocError>
+    pub fn of_config(alloc: Global, config: Config) -> Result<(FtpServer, ServedStore), AllocError>
         ensures config { IfOk result (λ made. IsOfConfig config made.0) }
         ensures store { IfOk result (λ made. made.1 ≡ config.store) }
     {

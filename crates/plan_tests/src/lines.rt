@@ -59,7 +59,13 @@ fn limits(rt: &(impl Abort + AllocGlobal)) -> Result<Limits, Fail> {
 fn a_line_is_divided(rt: HostRuntime) -> Result<(), Fail> {
     let limits = limits(&rt)?;
     // the tick has 100 of the line, 96 of the group, and 10 of user 3; user 2 is in no group
-    let asks = [ask(3, 400), ask(1, 400), ask(0, 400), ask(1, 7), ask(2, 400)];
+    let asks = [
+        ask(3, 400),
+        ask(1, 400),
+        ask(0, 400),
+        ask(1, 7),
+        ask(2, 400),
+    ];
     let shares = share_asks(rt.alloc(), &limits, 0, &asks)?;
     let line = Some(Name::Server);
     gets(&rt, &shares, 0, 10, Some(Name::User(Way::Down, 3)));

@@ -1,9 +1,7 @@
 //! The callbacks of a handler: each event comes to one of them, once.
 
 use crate::expect::holds;
-use server_house::{
-    ClientSession, EndCause, NoHooks, ServerHooks, TransferKind, TransferRecord,
-};
+use server_house::{ClientSession, EndCause, NoHooks, ServerHooks, TransferKind, TransferRecord};
 use session_table::{HookCall, Text};
 use std::alloc::Global;
 use std::process::Abort;
@@ -123,7 +121,12 @@ fn of_files(rt: HostRuntime) {
     ends(&rt, TransferKind::Sent, None, "sent");
     ends(&rt, TransferKind::Sent, Some(EndCause::Aborted), "not sent");
     ends(&rt, TransferKind::Received, None, "received");
-    ends(&rt, TransferKind::Received, Some(EndCause::File), "not received");
+    ends(
+        &rt,
+        TransferKind::Received,
+        Some(EndCause::File),
+        "not received",
+    );
 }
 
 // A file's event comes by its record alone, and a listing is no file.

@@ -1,11 +1,11 @@
 -- What comes of the data side, among the inputs.
-use Rattle.std.proofs.Common.{◌≡◌, ◌≢◌, Some, refl, true}
+use Rattle.std.proofs.Common.{◌≡◌, Some, refl, true}
 use Rattle.std.proofs.lemmas.Bool.{false≢true}
 use Rattle.session_core.specs.Events.{is_event}
 use Rattle.session_table.specs.declared.inputs.Input.{Input}
 use Rattle.session_table.specs.declared.inputs.Input.TheVariants as input
 use Rattle.control_session.specs.Sides.{SideEvent, back_in, came_of, event_in, given_of}
-use Rattle.control_session.specs.Sides.Given.{Came, Closed}
+use Rattle.control_session.specs.Sides.Given.{Came}
 use Rattle.control_session.specs.Sides.SideEvent.{Ready, Ended}
 
 module _ {A K : Type 0} where
@@ -23,10 +23,3 @@ module _ {A K : Type 0} where
   came_back (input.TransferEnded end sink) = refl
   came_back (input.DataReady port) = refl
   came_back input.Closed = refl
-
-  pub event_open : (came : Input A K) → is_event came ≡ true → given_of came ≢ Closed
-  event_open (input.Line item) is = absurd (false≢true is)
-  event_open input.Held is = absurd (false≢true is)
-  event_open (input.TransferEnded end sink) is = λ same. absurd (cc)
-  event_open (input.DataReady port) is = λ same. absurd (cc)
-  event_open input.Closed is = absurd (false≢true is)

@@ -123,12 +123,6 @@ module _ {H A S R K : Type 0} (Row : Users → Standing → Given K → ℕ → 
       (turn_went host host' host' v v' came None taken taken heard owes owes [] closed lost lost (Came event) [] [] (is, refl, refl)
       (subst (λ (g : Given K). Stepped Row Does host v g v' [] host') given_is stepped) refl refl (refl, refl))
 
-  pub gone_went : (host : H) (v : Standing) (came : Option (SideEvent K)) (taken : List Item) (heard : Heard) (owes : List ℕ) (closed : Bool) (lost : Option TurnFault)
-      → came ≡ None → Went Row Does host (at v came taken heard owes closed lost) host (at v None taken heard owes closed lost)
-  gone_went host v came taken heard owes closed lost none =
-      subst (λ (x : Option (SideEvent K)). Went Row Does host (at v x taken heard owes closed lost) host (at v None taken heard owes closed lost)) (sym none)
-      (went_none Row Does host (at v None taken heard owes closed lost))
-
   next_event : {I : Type 0} (now : Situation K) (reported : Input I K) (came : Option (SideEvent K)) (taken : List Item) → Next now (given_of reported) came taken → given_of reported ≢ Closed → event_in reported ≡ now.came
   next_event now (input.Line item) came taken ((is, asked, held), live, rest, none, same) other = sym is
   next_event now input.Held came taken (is, asked, held, live, none, same) other = sym is

@@ -13,11 +13,10 @@ returns-in-Ok-clause-row g c floors = record {
 
 pub returns-in-Err-clause-stopped : goal.returns-in-Err-clause-stopped
 returns-in-Err-clause-stopped g c =
-    let input = TransferEnded {A = g.row.A.Denot} c.args.end c.args.sink in
     let before = c.args.session.now in
     record {
-      reported = input;
+      reported = TransferEnded c.args.end c.args.sink;
       reported_is = refl;
-      stops = subst (λ s. SessionStops {A = g.row.A.Denot} {R = g.row.S-Source.Denot} {K = g.row.S-Sink.Denot} g.S.Store.Step c.args.users.now.users before.view before.held c.args.moment input c.args.store.now s) (sym c.in-Err.ensures.untouched)
-          (step_stops_here g.S.Store.Step c.args.users.now.users before.view before.held c.args.moment input c.args.store.now);
+      stops = subst (λ s. SessionStops {A = g.row.A.Denot} {R = g.row.S-Source.Denot} {K = g.row.S-Sink.Denot} g.S.Store.Step c.args.users.now.users before.view before.held c.args.moment (TransferEnded c.args.end c.args.sink) c.args.store.now s) (sym c.in-Err.ensures.untouched)
+          (step_stops_here g.S.Store.Step c.args.users.now.users before.view before.held c.args.moment (TransferEnded c.args.end c.args.sink) c.args.store.now);
     }

@@ -12,10 +12,9 @@ returns-in-Ok-clause-row g c moment store floors = record {
 
 pub returns-in-Err-clause-stopped : goal.returns-in-Err-clause-stopped
 returns-in-Err-clause-stopped g c moment store =
-    let input = DataReady {A = g.row.A.Denot} {K = g.row.S-Sink.Denot} c.args.port in
     let before = c.args.session.now in
     record {
-      reported = input;
+      reported = DataReady c.args.port;
       reported_is = refl;
-      stops = step_stops_here g.S.Store.Step c.args.users.now.users before.view before.held moment input store;
+      stops = step_stops_here g.S.Store.Step c.args.users.now.users before.view before.held moment (DataReady c.args.port) store;
     }

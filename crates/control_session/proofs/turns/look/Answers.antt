@@ -4,7 +4,7 @@ use Rattle.control_session.specs.Calls.HostCall.{Asked}
 use Rattle.control_session.specs.Sides.{SideEvent, came_of}
 use Rattle.control_session.specs.Sides.SideCall.{Looks}
 use Rattle.control_session.specs.Turns.{asked_as, at}
-use Rattle.control_session.proofs.Events.{event_is, event_open}
+use Rattle.control_session.proofs.Events.{event_is}
 use Rattle.control_session.proofs.Going.{on_ok_to}
 use Rattle.control_session.proofs.Turning.{came_next, fewer_came, looked_none, looked_some}
 use Rattle.control_session.proofs.turns.look.Goals as goal
@@ -29,6 +29,3 @@ pub returns-in-Some-clause-held : goal.returns-in-Some-clause-held
 returns-in-Some-clause-held g c =
     let event = event_is c.in-Some.event c.in-Some.ensures.event in
     on_ok_to c.turn.result _ _ (fewer_came _ event.0 _ _ event.2) c.turn.ensures.held
-
-pub turn-requires-clause-live : goal.turn-requires-clause-live
-turn-requires-clause-live g c = event_open c.in-Some.event c.in-Some.ensures.event

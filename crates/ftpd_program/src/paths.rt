@@ -10,7 +10,7 @@ pub struct FileIdentity {
     pub inode: u64,
 }
 
-/// A path that is stated, with the numbers of what is there; none if nothing is, or if it cannot be looked at.
+/// A path that is stated, with the numbers of what is there; none if nothing is, or if it cannot be examined.
 #[derive(Clone, Copy, Debug)]
 pub struct StatedPath<'a> {
     pub path: &'a str,

@@ -119,7 +119,7 @@ impl ReloadFile {
             return false;
         }
         let was_stuck = *is_stuck;
-        *is_stuck = fs::remove_file(&self.machine, self.sign.path.as_str()).is_err();
+        *is_stuck = fs::remove_file(&self.machine, self.sign.path()).is_err();
         !was_stuck
     }
 

@@ -358,6 +358,7 @@ where
         stop,
         drain,
         reload: reload_file(machine, reload, reader, known, &config, start)?,
+        notes: log.plain_notes()?,
         status: another(&threads.status)?,
         cell: watched,
     };

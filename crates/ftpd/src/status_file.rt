@@ -2,8 +2,9 @@
 
 ghost use Rattle.std.specs.Prelude.{true};
 
+use crate::log_thread::PlainNotes;
 use crate::reload_file::ReloadFile;
-use crate::sign_file::{SignFile, is_given};
+use crate::sign_file::{SignFile, SignLook};
 use crate::status_thread::StatusWriter;
 use ftp_daemon::{OwnerSigns, ReloadFault, ReloadSign};
 use server_status::status_text;
@@ -84,19 +85,35 @@ pub(crate) struct MachineSigns<R> {
     pub stop: Option<SignFile>,
     pub drain: Option<SignFile>,
     pub reload: Option<ReloadFile>,
+    /// The notes, for a file that cannot be examined.
+    pub notes: PlainNotes,
     /// The thread that writes the status file, if there is one.
     pub status: Option<Arc<StatusWriter>>,
     /// The status, if it is shown at all.
     pub cell: Option<Arc<StatusCell>>,
 }
 
+impl<R: Wait + AllocGlobal> MachineSigns<R> {
+    // Returns whether a sign is there; not if there is no such file to be. One that cannot be examined is noted once.
+    fn is_given(&self, sign: &Option<SignFile>) -> bool {
+        let Some(sign) = sign else {
+            return false;
+        };
+        let look = sign.look();
+        if let Some(reason) = sign.new_reason(look) {
+            self.notes.note_unseen(&self.rt, sign.path(), reason);
+        }
+        matches!(look, SignLook::There)
+    }
+}
+
 impl<R: Wait + AllocGlobal> OwnerSigns for MachineSigns<R> {
     fn is_up(&self) -> bool {
-        is_given(&self.stop)
+        self.is_given(&self.stop)
     }
 
     fn is_to_drain(&self) -> bool {
-        is_given(&self.drain)
+        self.is_given(&self.drain)
     }
 
     ghost allows = { λ _. true };

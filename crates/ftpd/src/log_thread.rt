@@ -52,6 +52,15 @@ pub(crate) struct PlainNotes {
 }
 
 impl PlainNotes {
+    /// Notes the number of users that a new configuration has no longer.
+    pub fn note_gone<R: Wait + AllocGlobal>(&self, rt: &R, count: u64) {
+        let head = self.head;
+        let line = format!(in rt.alloc();
+            "{head}users that the new configuration has no longer: {count}\n"
+        );
+        self.lines.note(rt, line);
+    }
+
     /// Notes that the file of a sign cannot be examined.
     pub fn note_unseen<R: Wait + AllocGlobal>(&self, rt: &R, path: &str, reason: io::Error) {
         let head = self.head;

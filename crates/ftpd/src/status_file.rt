@@ -126,10 +126,17 @@ impl<R: Wait + AllocGlobal> OwnerSigns for MachineSigns<R> {
     }
 
     fn taken(&self) {
-        if let Some(file) = &self.reload {
-            if let (Some(facts), Some(cell)) = (file.taken(&self.rt), &self.cell) {
-                cell.put_facts(&self.rt, facts);
-            }
+        let Some(file) = &self.reload else {
+            return;
+        };
+        let Some((gone, facts)) = file.taken(&self.rt) else {
+            return;
+        };
+        if gone > 0 {
+            self.notes.note_gone(&self.rt, gone);
+        }
+        if let (Some(facts), Some(cell)) = (facts, &self.cell) {
+            cell.put_facts(&self.rt, facts);
         }
     }
 

@@ -374,6 +374,7 @@ where
         leaves: None,
         drain,
         reload: reload_file(machine, reload, reader, known, &config, start)?,
+        notes: log.plain_notes()?,
         status: another(&threads.status)?,
         cell: watched,
     };

@@ -1,5 +1,5 @@
 -- The rates of a server of one's own.
-use Rattle.std.specs.Prelude.{◌≡◌, ℕ, nat_eq, if◌then◌else◌, List, [], ◌∷◌, ◌++◌, Option, Some, None}
+use Rattle.std.specs.Prelude.{◌≡◌, ◌⊎◌, ℕ, Bool, false, nat_eq, if◌then◌else◌, List, [], ◌∷◌, ◌++◌, Option, Some, None, Result, Err}
 use Rattle.std.specs.FinMap as finite
 use Rattle.authorizer.specs.Users.{User, Users}
 use Rattle.line_rates.specs.Rates.{Rates}
@@ -23,10 +23,13 @@ no_rates = record {
   session_up_floor = 0;
 }
 
+-- the rates of a number after these were set
+abbrev pub later : UserRates → SetRates → ℕ → UserRates
+later found set number = if nat_eq set.number number then set.rates else found
+
 abbrev pub last_after : UserRates → List SetRates → ℕ → UserRates
 last_after found [] number = found
-last_after found (set ∷ rest) number =
-    last_after (if nat_eq set.number number then set.rates else found) rest number
+last_after found (set ∷ rest) number = last_after (later found set number) rest number
 
 -- the rates that were set last for a number; none if none were set
 abbrev pub last_set : List SetRates → ℕ → UserRates
@@ -52,15 +55,15 @@ abbrev pub found_row : List SetRates → Option User → Option UserRate
 found_row set None = None
 found_row set (Some user) = Some (user_row set user)
 
-abbrev pub with_row : Option UserRate → List UserRate → List UserRate
-with_row None rows = rows
-with_row (Some row) rows = row ∷ rows
+abbrev pub row_list : Option UserRate → List UserRate
+row_list None = []
+row_list (Some row) = row ∷ []
 
 -- the rows of the users with these names, in their order
 abbrev pub named_rows : Users → List SetRates → List (List ℕ) → List UserRate
 named_rows users set [] = []
 named_rows users set (name ∷ names) =
-    with_row (found_row set (finite.get users name)) (named_rows users set names)
+    row_list (found_row set (finite.get users name)) ++ named_rows users set names
 
 -- a row for each user, in the order of their names
 abbrev pub user_rows : Users → List SetRates → List UserRate

@@ -7,6 +7,7 @@ use server_config::ConfigFault;
 use std::alloc::{AllocError, AllocFailed};
 use std::io;
 use thiserror::Error;
+use virtual_tree::StoreFault;
 
 /// The reason for which a server is not as it was to be, or did not serve. The faults of all calls become one by `?`.
 #[derive(Debug, Drop, Error)]
@@ -23,12 +24,16 @@ pub enum FtpServerFault {
     /// A number of the server is out of its range.
     #[error("a port, a maximum count or the number of lanes is out of its range")]
     Number,
-    /// The folder cannot be opened: the machine's reason, if it is known.
-    #[error("the folder cannot be opened")]
-    Folder(Option<io::Error>),
+    /// The folder cannot be opened: it is not there, it is no directory, or a fault of the device, with the machine's error
+    /// if that is known.
+    #[error("the folder cannot be opened: {0}")]
+    Folder(StoreFault, Option<io::Error>),
     /// The server did not start, or ended with a fault.
     #[error("{0}")]
     Serve(ServeFault),
+    /// A file or an output of the program's own failed: for `?` in the program, no call of this crate returns it.
+    #[error("{0}")]
+    Io(io::Error),
     /// Memory ran out.
     #[error("out of memory")]
     Memory,
@@ -97,5 +102,16 @@ impl From<ConfigFault> for FtpServerFault {
 
     fn from(reason: ConfigFault) -> FtpServerFault {
         FtpServerFault::Config(reason)
+    }
+}
+
+impl From<io::Error> for FtpServerFault {
+    ghost use Rattle.std.specs.Prelude.{◌≡◌};
+    ghost use Rattle.ftp_server.specs.declared.fault.FtpServerFault.TheVariants.{Io};
+
+    ghost from_gives = { λ reason fault. fault ≡ Io reason };
+
+    fn from(reason: io::Error) -> FtpServerFault {
+        FtpServerFault::Io(reason)
     }
 }

@@ -1,26 +1,33 @@
 //! The rows of rates that a server's users have.
 
-ghost use Rattle.std.specs.Prelude.{◌≡◌, IfOk, map};
+ghost use Rattle.std.specs.Prelude.{◌≡◌, ◌++◌, IfOk, OnOk, map};
 ghost use Rattle.std.specs.FinMap as finite;
 ghost use Rattle.std.specs.String.{string_bytes};
-ghost use Rattle.ftp_server.specs.Rows.{found_row, last_set, named_rows, row_with, user_rows};
+ghost use Rattle.ftp_server.specs.Rows.{found_row, last_set, later, named_rows, row_list, row_with, user_rows};
 
-use crate::fault::FtpServerFault;
 use crate::rates::{SetRates, UserRates};
 use authorizer::Authorizer;
 use line_rates::UserRate;
 use std::alloc::{AllocError, Global};
 
+// The rates of a number after these were set.
+fn later(found: UserRates, set: SetRates, number: u32) -> UserRates
+    ensures later { result ≡ later found set number }
+{
+    if set.number == number {
+        set.rates
+    } else {
+        found
+    }
+}
+
 // The rates that were set last for a number.
-#[tactic(auto, using(crate::proofs::Last::last_more))]
 fn last_set(set: &[SetRates], number: u32) -> UserRates
     ensures last { result ≡ last_set set.now number }
 {
     let mut found = UserRates::NONE;
-    for row in set {
-        if row.number == number {
-            found = row.rates;
-        }
+    for place in 0..set.len() {
+        found = later(found, set[place], number);
     }
     found
 }
@@ -48,8 +55,17 @@ fn row_of(users: &Authorizer, set: &[SetRates], name: &str) -> Option<UserRate>
     Some(row_with(number, users.group(name), last_set(set, number)))
 }
 
+// Adds a row, if there is one.
+fn add_row(rows: &mut Vec<UserRate>, row: Option<UserRate>) -> Result<(), AllocError>
+    ensures added { OnOk result (rows.new.items ≡ rows.old.items ++ row_list row) }
+{
+    if let Some(row) = row {
+        rows.push(row)?;
+    }
+    Ok(())
+}
+
 // Rows for the users with these names.
-#[tactic(auto, using(crate::proofs::Last::named_push))]
 fn rows_named(
     alloc: Global,
     users: &Authorizer,
@@ -60,10 +76,8 @@ fn rows_named(
         ≡ named_rows users.now.users set.now (map string_bytes names.now)) }
 {
     let mut rows = Vec::with_capacity(alloc, names.len())?;
-    for name in names {
-        if let Some(row) = row_of(users, set, name.as_str()) {
-            rows.push(row)?;
-        }
+    for place in 0..names.len() {
+        add_row(&mut rows, row_of(users, set, names[place].as_str()))?;
     }
     Ok(rows)
 }

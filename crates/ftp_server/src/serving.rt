@@ -129,7 +129,7 @@ impl FtpServer {
     /// Serves a folder of the machine, each session with a store of its own, as `serve_with` does without signs: until it
     /// has had as many sessions as `numbers.sessions` says, or for good if that is 0.
     ///
-    /// Besides the faults of `serve_with`, returns `Folder` with the machine's reason if the folder cannot be opened.
+    /// Besides the faults of `serve_with`, returns `Folder` if the folder cannot be opened.
     ///
     /// ```text
     /// server.serve_folder(&rt, &rt, "/srv/ftp", NoHooks)?;

@@ -38,13 +38,13 @@ fn open_recorded(
     match DirStore::new(*machine, folder, kept) {
         Ok(store) => Ok(RecordedStore::with_fault(machine.alloc(), store, error)),
         Err(StoreFault::Memory) => Err(FtpServerFault::Memory),
-        Err(_) => Err(FtpServerFault::Folder(error.take())),
+        Err(fault) => Err(FtpServerFault::Folder(fault, error.take())),
     }
 }
 
 /// Opens a folder of the machine, as a store for all and as one for each of `connections`.
 ///
-/// Returns `Folder` with the machine's reason if it cannot be opened.
+/// Returns `Folder` if it cannot be opened.
 ///
 /// ```text
 /// let stores = open_folder(&rt, "/srv/ftp", server.numbers.max_cons)?;

@@ -15,7 +15,7 @@ use crate::sign_file::SignFile;
 use crate::starting::{Means, Prepared, Unprepared, prepare};
 use crate::status_file::{MachineSigns, StatusFile};
 use crate::status_thread::StatusWriter;
-use folder_store::DirStore;
+use folder_store::{DirStore, LeaveSign};
 use ftp_daemon::{Patience, RoundClock, ServeFault, ServerRuntime, Service, Terms, serve};
 use ftpd_program::{FtpdExit, ReadyOutput, StartFault};
 use last_fault::LastFault;
@@ -37,10 +37,15 @@ use virtual_tree::StoreFault;
 /// A folder of the machine, whose calls are recorded.
 type FolderStore = RecordedStore<DirStore<HostRuntime>>;
 
-fn open_folder(machine: &HostRuntime, folder: &str) -> Result<FolderStore, ServeFault> {
+fn open_folder(
+    machine: &HostRuntime,
+    folder: &str,
+    leaves: &LeaveSign,
+) -> Result<FolderStore, ServeFault> {
     let error = LastFault::new(machine.alloc())?;
+    let sign = leaves.another()?;
     match DirStore::new(*machine, folder, error.another()?) {
-        Ok(store) => Ok(RecordedStore::with_fault(machine.alloc(), store, error)),
+        Ok(store) => Ok(RecordedStore::with_fault(machine.alloc(), store.left_by(sign), error)),
         Err(StoreFault::Memory) => Err(ServeFault::Memory),
         Err(_) => Err(ServeFault::Store),
     }
@@ -50,11 +55,12 @@ fn open_folder(machine: &HostRuntime, folder: &str) -> Result<FolderStore, Serve
 fn open_folders(
     machine: &HostRuntime,
     folder: &str,
+    leaves: &LeaveSign,
     connections: u16,
 ) -> Result<Vec<FolderStore>, ServeFault> {
     let mut stores = Vec::new(machine.alloc());
     for _ in 0..connections {
-        let store = open_folder(machine, folder)?;
+        let store = open_folder(machine, folder, leaves)?;
         if stores.push(store).is_err() {
             return Err(ServeFault::Memory);
         }
@@ -67,6 +73,13 @@ type MachineNotes<R> = StatusKeeper<
     R,
     Notes<Logged<HostRuntime, QueuedLog<R>>, QueuedTransfers<R>>,
 >;
+
+// The signs of a server whose listings are left once it is to end.
+fn leaving<R>(signs: MachineSigns<R>, leaves: LeaveSign) -> MachineSigns<R> {
+    let mut signs = signs;
+    signs.leaves = Some(leaves);
+    signs
+}
 
 /// The parts of a configuration that a server takes at its start.
 #[derive(Drop)]
@@ -112,8 +125,10 @@ where
             serve(rt, service, output)?;
         }
         ServedStore::Folder(folder) => {
-            let store = open_folder(machine, folder.as_str())?;
-            let own_stores = open_folders(machine, folder.as_str(), numbers.max_cons)?;
+            let leaves = LeaveSign::new(machine.alloc())?;
+            let store = open_folder(machine, folder.as_str(), &leaves)?;
+            let own_stores = open_folders(machine, folder.as_str(), &leaves, numbers.max_cons)?;
+            let signs = leaving(signs, leaves);
             let service = Service {
                 terms,
                 numbers,
@@ -356,6 +371,7 @@ where
     let signs = MachineSigns {
         rt: *rt,
         stop,
+        leaves: None,
         drain,
         reload: reload_file(machine, reload, reader, known, &config, start)?,
         notes: log.plain_notes()?,

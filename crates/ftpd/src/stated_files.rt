@@ -85,8 +85,8 @@ fn found_file<'a>(
     Ok(FoundFile::Other)
 }
 
-/// What is at a path. The first octets of a regular file go to `octets`. `Err` is the machine's reason for which it cannot
-/// be looked at or read.
+/// The kind of what is at a path. The first octets of a regular file go to `octets`. `Err` is the machine's reason for which
+/// it cannot be examined or read.
 pub(crate) fn found_at<'a>(
     machine: &HostRuntime,
     path: &str,

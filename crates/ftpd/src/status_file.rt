@@ -6,6 +6,7 @@ use crate::log_thread::PlainNotes;
 use crate::reload_file::ReloadFile;
 use crate::sign_file::{SignFile, SignLook};
 use crate::status_thread::StatusWriter;
+use folder_store::LeaveSign;
 use ftp_daemon::{OwnerSigns, ReloadFault, ReloadSign};
 use server_status::status_text;
 use status_keeper::StatusCell;
@@ -83,6 +84,8 @@ impl StatusFile {
 pub(crate) struct MachineSigns<R> {
     pub rt: R,
     pub stop: Option<SignFile>,
+    /// Given once the server is to end: listings under way are left.
+    pub leaves: Option<LeaveSign>,
     pub drain: Option<SignFile>,
     pub reload: Option<ReloadFile>,
     /// The notes, for a file that cannot be examined.
@@ -109,7 +112,11 @@ impl<R: Wait + AllocGlobal> MachineSigns<R> {
 
 impl<R: Wait + AllocGlobal> OwnerSigns for MachineSigns<R> {
     fn is_up(&self) -> bool {
-        self.is_given(&self.stop)
+        let is_up = self.is_given(&self.stop);
+        if let (true, Some(sign)) = (is_up, &self.leaves) {
+            sign.give();
+        }
+        is_up
     }
 
     fn is_to_drain(&self) -> bool {

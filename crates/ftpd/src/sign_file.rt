@@ -3,7 +3,7 @@
 use std::sync::atomic::{AtomicU64, Ordering};
 use std::{fs, io};
 
-/// What is at the path of a sign.
+/// A look at the path of a sign.
 #[derive(Clone, Copy)]
 pub(crate) enum SignLook {
     /// The file.
@@ -42,7 +42,7 @@ impl SignFile {
         matches!(self.look(), SignLook::There)
     }
 
-    /// What is at the path.
+    /// Looks at the path.
     pub fn look(&self) -> SignLook {
         match fs::metadata(&self.machine, self.path.as_str()) {
             Ok(_) => SignLook::There,

@@ -123,7 +123,7 @@ fn says_refusal<R, K>(actions: &[Action<Global, R, K>]) -> bool
 }
 
 // Returns whether a step was made that says a refusal.
-fn is_refused<R, K>(made: &Result<Vec<Action<Global, R, K>>, NoStep<K>>) -> bool
+fn is_refused<R, K>(made: &Result<Vec<Action<Global, R, K>>, NoStep<Global, K>>) -> bool
     ensures refused { MatchResult made.now
         (λ actions. result ≡ says_refusal actions.items) (λ why. result ≡ false) }
 {

@@ -46,7 +46,7 @@ fn a_door_and_its_bell(rt: HostRuntime) {
     holds(&rt, is_bell(door.next(&bell, 1_000))); // once rung, it has always been rung
 }
 
-// Who is silent waits in the room, and leaves after two seconds.
+// A silent client waits in the room, and leaves after two seconds.
 #[test]
 fn a_room_for_the_silent(rt: HostRuntime) {
     let at = free_address(&rt);

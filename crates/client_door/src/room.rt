@@ -1,6 +1,6 @@
 //! The room of those who came in and have sent nothing yet.
 
-ghost use Rattle.std.specs.Prelude.{◌≡◌, ◌<◌, ◌≤◌, ◌↔◌, ◌+◌, ◌-◌, IfSome, IsTrue, length, min};
+ghost use Rattle.std.specs.Prelude.{◌<◌, ◌↔◌, ◌-◌, IfSome, IsTrue, length};
 
 use crate::bell::DoorBell;
 use crate::door::ClientDoor;

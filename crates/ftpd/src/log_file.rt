@@ -43,7 +43,7 @@ const NO_LOG: i32 = 95;
 
 /// Returns whether a file of this mode (inode(7)) can be a log: a regular one, or a character device, such as a terminal.
 fn is_log(mode: u32) -> bool
-    ensures log { result ≡ (nat_eq (mode / 2 ^ 12 % 16) 8 || nat_eq (mode / 2 ^ 12 % 16) 2) }
+    ensures log { result ≡ (nat_eq ((mode / 2 ^ 12) % 16) 8 || nat_eq ((mode / 2 ^ 12) % 16) 2) }
 {
     let kind = mode / 4_096 % 16;
     kind == 8 || kind == 2

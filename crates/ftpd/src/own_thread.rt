@@ -4,7 +4,7 @@
 //! the owner's paths are examined, opened, read and written by such threads, and the end of the server waits at most
 //! [`LAST_WAIT`] for each. One that has not ended by then ends with the process.
 
-ghost use Rattle.std.specs.Prelude.{◌≡◌, ◌-◌, ◌/◌, ◌*◌};
+ghost use Rattle.std.specs.Prelude.{◌≡◌, ◌-◌};
 
 use event_word::{EventCount, micros};
 use std::alloc::{AllocError, Global};

@@ -38,7 +38,8 @@ pub use outgoing::{Outgoing, Progress};
 pub use own_address::OwnAddress;
 pub use own_runs::OwnRuns;
 pub use passive::{
-    accept_from, address_octets, empty_queue, listen, may_keep_ports, socket_address,
+    PeerConnection, accept_from, address_octets, empty_queue, listen, may_keep_ports,
+    socket_address,
 };
 pub use runtime::ServerRuntime;
 pub use served::{Listing, Served};

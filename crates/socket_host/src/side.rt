@@ -391,10 +391,10 @@ where
         ensures payer { self.new.run.payer ≡ self.old.run.payer }
     {
         match accept_from(&listener, self.wanted) {
-            Some(stream) => {
+            Some(connection) => {
                 let closed = self.kept.keep(listener, port);
                 self.close(closed);
-                self.hand_over(stream, job);
+                self.hand_over(connection.into_stream(), job);
             }
             None => {
                 if has_passed(since, now, PATIENCE) {

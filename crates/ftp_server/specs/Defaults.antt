@@ -9,9 +9,9 @@ use Rattle.client_patience.specs.declared.patience.Patience.{Patience}
 use Rattle.ftp_server.specs.declared.server.FtpServer.{FtpServer}
 
 -- the numbers of a configuration that states the address and the port, with passive ports
-pub record AreDefaultNumbers (address : List ℕ) (port : ℕ) (numbers : ServerNumbers) : Type 0 where
-  pub address : numbers.address ≡ address
-  pub port : numbers.port ≡ port
+pub record AreDefaultNumbers (own : List ℕ) (control : ℕ) (numbers : ServerNumbers) : Type 0 where
+  pub address : numbers.address ≡ own
+  pub port : numbers.port ≡ control
   pub max_cons : numbers.max_cons ≡ 64
   pub max_cons_per_address : numbers.max_cons_per_address ≡ 0
   pub passive_first : numbers.passive_first ≡ 30000
@@ -20,12 +20,12 @@ pub record AreDefaultNumbers (address : List ℕ) (port : ℕ) (numbers : Server
   pub sessions : numbers.sessions ≡ 0
 
 -- the settings of a configuration that states the address
-pub record AreDefaultSettings (address : List ℕ) (settings : Settings Global) : Type 0 where
+pub record AreDefaultSettings (own : List ℕ) (settings : Settings Global) : Type 0 where
   pub banner : text_of settings.banner ≡ codes "Ready"
   pub attempts : settings.login_attempts ≡ 3
   pub foreign : settings.permits_foreign_addresses ≡ false
   pub privileged : settings.permits_privileged_ports ≡ false
-  pub address : settings.address ≡ address
+  pub address : settings.address ≡ own
 
 -- the time limits of a command line that states none, in seconds
 pub record IsDefaultPatience (patience : Patience) : Type 0 where

@@ -84,7 +84,7 @@ pub struct PeerConnection {
     stream: TcpStream,
     peer: Option<[u8; 4]>,
     from: SocketAddr,
-    ghost wanted: { IsWanted peer from },
+    ghost wanted: { ∥ IsWanted peer from ∥₁ },
 }
 
 impl PeerConnection {

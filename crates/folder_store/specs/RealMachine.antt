@@ -1,6 +1,6 @@
 -- The effect of the calls of the real machine, as far as a program sees it. That on files is not
 -- seen.
-use Rattle.std.specs.Prelude.{ℤ, ◌≡◌, ◌≢◌, ¬◌, List, ℕ, Some, Ok, Err, pos, negsuc}
+use Rattle.std.specs.Prelude.{ℤ, ◌≡◌, ◌≢◌, List, ℕ, Some, Ok, Err, pos, negsuc}
 use Rattle.std.specs.IoError.{raw_os_error}
 use Rattle.std.specs.declared.io.Error.{Error}
 use Rattle.libc.specs.declared.TheConstants.{ENOENT}

@@ -77,7 +77,7 @@ ftpd_limit_bytes_per_second{kind="group",name="a\"b\\c\né",direction="up"} 5
 
 /// The fields of each answer but its type and its length, up to the policy.
 const FIELDS: &str =
-    "connection: close\r\ncache-control: no-store\r\nx-content-type-options: nosniff\r\ncontent-security-policy: default-src 'none'; connect-src 'self'; script-src 'sha256-";
+    "connection: close\r\ndate: Tue, 29 Feb 2000 12:34:56 GMT\r\ncache-control: no-store\r\nx-content-type-options: nosniff\r\ncontent-security-policy: default-src 'none'; connect-src 'self'; script-src 'sha256-";
 
 const HELD: HeldRounds = HeldRounds {
     server: 1,

@@ -114,6 +114,7 @@ impl<B: PartsName> Lent<B> {
 }
 
 /// No part is out of its place in a test, which would not end otherwise.
+#[derive(Drop)]
 struct InPlace;
 
 impl MisplacedParts for InPlace {

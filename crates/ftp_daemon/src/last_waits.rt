@@ -65,16 +65,16 @@ impl LanesAtWork {
 /// The time between two notes of a fault that never ends, in seconds.
 const MISPLACED: u64 = 10;
 
-/// The handler of a server, which is told of parts that are not in their places.
+/// The house of a server that has ended, whose handler is told of parts that are not in their places.
 #[derive(Drop)]
-pub(crate) struct ToldHandler<'h, R, S: Store<Global>, H: Drop, B: PartsName> {
-    pub(crate) rt: &'h R,
-    pub(crate) house: &'h House<S, H, B>,
+pub(crate) struct ToldHandler<R: Drop, S: Store<Global>, H: Drop, B: PartsName> {
+    pub(crate) rt: R,
+    pub(crate) house: House<S, H, B>,
 }
 
-impl<R, S, H, B> MisplacedParts for ToldHandler<'_, R, S, H, B>
+impl<R, S, H, B> MisplacedParts for ToldHandler<R, S, H, B>
 where
-    R: Wait + Clock,
+    R: Wait + Clock + Drop,
     S: Store<Global>,
     H: ServerHooks,
     B: PartsName,
@@ -82,9 +82,9 @@ where
     fn misplaced(&mut self, lane: usize) {
         self.house
             .handler
-            .lock(self.rt)
+            .lock(&self.rt)
             .on_server(ServerEvent::Misplaced(lane as u64));
-        thread::sleep(self.rt, Duration::from_secs(MISPLACED));
+        thread::sleep(&self.rt, Duration::from_secs(MISPLACED));
     }
 }
 

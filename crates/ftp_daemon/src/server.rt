@@ -200,7 +200,7 @@ where
 
 impl<R, S, H, B, P> Server<R, S, H, B, P>
 where
-    R: RoundClock + Wait + Clock + Drop,
+    R: RoundClock + Wait + Clock + Copy + Drop,
     S: Store<Global> + Drop,
     H: ServerHooks,
     B: PartsName,
@@ -220,10 +220,7 @@ where
             signs: _,
             at_work: _,
         } = self;
-        let mut told = ToldHandler {
-            rt: &rt,
-            house: &house,
-        };
+        let mut told = ToldHandler { rt, house };
         engine.settle(&rt, &mut told)
     }
 }

@@ -85,7 +85,7 @@ fn texts_are_written(rt: HostRuntime) {
 /// Numbers of interruptions before each octet of a write that passes.
 static INTERRUPTIONS: [usize; 4] = [0, 1, 2, 99];
 
-/// An interrupted write is made again, and after a hundred interruptions it has failed.
+/// An interrupted write is made again, a hundred times in all.
 #[test]
 fn interrupted_texts_are_written(rt: HostRuntime) {
     for times in &INTERRUPTIONS {

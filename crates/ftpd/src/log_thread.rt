@@ -47,14 +47,14 @@ fn count_head(form: LogForm) -> &'static str {
 /// Notes without a time, under the head of a warning.
 #[derive(Drop)]
 pub(crate) struct PlainNotes {
-    head: &'static str,
+    form: LogForm,
     lines: Arc<SharedLines>,
 }
 
 impl PlainNotes {
     /// Notes the number of users that a new configuration has no longer.
     pub fn note_gone<R: Wait + AllocGlobal>(&self, rt: &R, count: u64) {
-        let head = self.head;
+        let head = count_head(self.form);
         let line = format!(in rt.alloc();
             "{head}users that the new configuration has no longer: {count}\n"
         );
@@ -63,7 +63,7 @@ impl PlainNotes {
 
     /// Notes that the file of a sign cannot be examined.
     pub fn note_unseen<R: Wait + AllocGlobal>(&self, rt: &R, path: &str, reason: io::Error) {
-        let head = self.head;
+        let head = count_head(self.form);
         let line = format!(in rt.alloc(); "{head}the file {path:?} cannot be examined: {reason}\n");
         self.lines.note(rt, line);
     }
@@ -151,8 +151,8 @@ impl LineThread {
 /// The notes and the transfer log of a server, each written by a thread of its own: a log that hangs holds no note.
 #[derive(Drop)]
 pub(crate) struct LogThreads {
-    // of a note with a count of lines
-    head: &'static str,
+    // that of the notes
+    form: LogForm,
     notes: Arc<LineThread>,
     transfers: Arc<LineThread>,
 }
@@ -219,7 +219,7 @@ impl LogThreads {
             None => transfers.signs.end(),
         }
         Ok(LogThreads {
-            head,
+            form,
             notes,
             transfers,
         })
@@ -228,7 +228,7 @@ impl LogThreads {
     /// Notes without a time.
     pub fn plain_notes(&self) -> Result<PlainNotes, AllocError> {
         Ok(PlainNotes {
-            head: self.head,
+            form: self.form,
             lines: self.notes()?,
         })
     }
@@ -249,7 +249,7 @@ impl LogThreads {
         self.transfers.leave(rt);
         let lost = self.transfers.lines.give_up(rt);
         if lost > 0 {
-            let line = transfers_dropped(rt.alloc(), self.head, lost);
+            let line = transfers_dropped(rt.alloc(), count_head(self.form), lost);
             self.notes.lines.note(rt, line);
         }
         self.notes.leave(rt);

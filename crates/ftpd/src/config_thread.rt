@@ -76,11 +76,9 @@ impl ConfigReader {
         let own = Arc::try_clone(&reader)?;
         let runtime = *rt;
         let machine = *machine;
-        let started = Builder::new()
-            .stack_size(STACK)
-            .spawn(rt, move || {
-                own.work(&runtime, &machine, path.as_str());
-            });
+        let started = Builder::new().stack_size(STACK).spawn(rt, move || {
+            own.work(&runtime, &machine, path.as_str());
+        });
         match started {
             Ok(_) => Ok(reader),
             Err(_) => Err(ServeFault::NoThread),

@@ -137,11 +137,9 @@ where
     R: Threads + Wait + Clock + AllocGlobal + Copy + Send + Sync + 'static,
 {
     let runtime = *rt;
-    let started = Builder::new()
-        .stack_size(STACK)
-        .spawn(rt, move || {
-            thread.write(&runtime, head, &mut StandardError, &mut NoOutlet);
-        });
+    let started = Builder::new().stack_size(STACK).spawn(rt, move || {
+        thread.write(&runtime, head, &mut StandardError, &mut NoOutlet);
+    });
     match started {
         Ok(_) => Ok(()),
         Err(_) => Err(ServeFault::NoThread),
@@ -160,13 +158,11 @@ where
     R: Threads + Wait + Clock + AllocGlobal + Copy + Send + Sync + 'static,
 {
     let runtime = *rt;
-    let started = Builder::new()
-        .stack_size(STACK)
-        .spawn(rt, move || {
-            let mut counts = NoteOutlet { rt: runtime, notes };
-            let mut file = file;
-            thread.write(&runtime, head, &mut counts, &mut file);
-        });
+    let started = Builder::new().stack_size(STACK).spawn(rt, move || {
+        let mut counts = NoteOutlet { rt: runtime, notes };
+        let mut file = file;
+        thread.write(&runtime, head, &mut counts, &mut file);
+    });
     match started {
         Ok(_) => Ok(()),
         Err(_) => Err(ServeFault::NoThread),

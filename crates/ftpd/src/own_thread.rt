@@ -8,8 +8,8 @@ ghost use Rattle.std.specs.Prelude.{◌≡◌, ◌-◌, ◌/◌, ◌*◌};
 
 use event_word::{EventCount, micros};
 use std::alloc::{AllocError, Global};
-use std::sync::{Arc, Wait};
 use std::sync::atomic::{AtomicU64, Ordering};
+use std::sync::{Arc, Wait};
 use std::time::{Clock, Duration};
 
 /// The stack of such a thread, in octets.

@@ -74,7 +74,14 @@ where
     let keys = RandomState::new(machine)?;
     let mut reader = Timed::new(&stream, MachineClock(rt), until);
     let mut writer = Timed::new(&stream, MachineClock(rt), until);
-    serve_request(rt.alloc(), keys, status, date(machine)?, &mut reader, &mut writer)
+    serve_request(
+        rt.alloc(),
+        keys,
+        status,
+        date(machine)?,
+        &mut reader,
+        &mut writer,
+    )
 }
 
 /// A status page that a thread serves, which nobody waits for.

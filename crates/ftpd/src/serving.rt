@@ -37,10 +37,17 @@ use virtual_tree::StoreFault;
 /// A folder of the machine, whose calls are recorded.
 type FolderStore = RecordedStore<DirStore<HostRuntime>>;
 
-fn open_folder(machine: &HostRuntime, folder: &str) -> Result<FolderStore, ServeFault> {
+fn open_folder(
+    machine: &HostRuntime,
+    folder: &str,
+    syncs: bool,
+) -> Result<FolderStore, ServeFault> {
     let error = LastFault::new(machine.alloc())?;
     match DirStore::new(*machine, folder, error.another()?) {
-        Ok(store) => Ok(RecordedStore::with_fault(machine.alloc(), store, error)),
+        Ok(store) => {
+            let store = store.syncing(syncs);
+            Ok(RecordedStore::with_fault(machine.alloc(), store, error))
+        }
         Err(StoreFault::Memory) => Err(ServeFault::Memory),
         Err(_) => Err(ServeFault::Store),
     }
@@ -51,10 +58,11 @@ fn open_folders(
     machine: &HostRuntime,
     folder: &str,
     connections: u16,
+    syncs: bool,
 ) -> Result<Vec<FolderStore>, ServeFault> {
     let mut stores = Vec::new(machine.alloc());
     for _ in 0..connections {
-        let store = open_folder(machine, folder)?;
+        let store = open_folder(machine, folder, syncs)?;
         if stores.push(store).is_err() {
             return Err(ServeFault::Memory);
         }
@@ -75,6 +83,8 @@ struct ServedConfig {
     numbers: ServerNumbers,
     store: ServedStore,
     limits: Limits,
+    /// A folder has the octets of each file that is received written to the device.
+    syncs: bool,
 }
 
 /// Serves a configuration: its store is in memory, or a folder of the machine.
@@ -96,6 +106,7 @@ where
         numbers,
         store,
         limits,
+        syncs,
     } = config;
     match store {
         ServedStore::Memory(store) => {
@@ -112,8 +123,8 @@ where
             serve(rt, service, output)?;
         }
         ServedStore::Folder(folder) => {
-            let store = open_folder(machine, folder.as_str())?;
-            let own_stores = open_folders(machine, folder.as_str(), numbers.max_cons)?;
+            let store = open_folder(machine, folder.as_str(), syncs)?;
+            let own_stores = open_folders(machine, folder.as_str(), numbers.max_cons, syncs)?;
             let service = Service {
                 terms,
                 numbers,
@@ -171,7 +182,11 @@ fn cells(
 }
 
 /// The parts of a configuration that a server takes, and the names that it knows by numbers.
-fn known_of(alloc: Global, config: Config) -> Result<(ServedConfig, Known), AllocError> {
+fn known_of(
+    alloc: Global,
+    config: Config,
+    syncs: bool,
+) -> Result<(ServedConfig, Known), AllocError> {
     let Config {
         settings,
         numbers,
@@ -190,6 +205,7 @@ fn known_of(alloc: Global, config: Config) -> Result<(ServedConfig, Known), Allo
         numbers,
         store,
         limits,
+        syncs,
     };
     Ok((served, known))
 }
@@ -331,6 +347,7 @@ where
         log: _,
         status,
         page,
+        syncs,
         patience,
     } = means;
     let (lines, transfers) = offered_lines(log, is_logged)?;
@@ -344,7 +361,7 @@ where
     let notes = Notes::new(Logged::new(*machine, Level::Info, queued), form, transfers);
     notes.note_warnings(warnings.as_str());
     let handler = StatusKeeper::new(*rt, notes, facts, kept);
-    let (config, known) = known_of(rt.alloc(), config)?;
+    let (config, known) = known_of(rt.alloc(), config, syncs)?;
     let own = OwnMeans {
         config: if reload.is_some() { Some(path) } else { None },
         status,

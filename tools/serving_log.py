@@ -231,6 +231,26 @@ def a_transfer_log_that_fills_its_disk():
             same(log.read().count("\n"), 10_001, "the whole lines of the old log")
 
 
+def a_stop_file_that_cannot_be_seen():
+    """A path at which nothing can be looked for any more is noted once, and the file is seen once it can."""
+    server = Server(sessions=0, words=["--stop-file", "signs/stop"])
+    folder = f"{server.place}/signs"
+    os.mkdir(folder)
+    note = '[WARN ] the file "signs/stop" cannot be examined: Not a directory (os error 20)\n'
+    with server:
+        os.rename(folder, f"{folder}.gone")
+        with open(folder, "w", encoding="utf-8"):
+            pass
+        until(lambda: note in server.noted(), "a note of it")
+        time.sleep(0.5)
+        same(server.noted().count(note), 1, "its notes")
+        os.remove(folder)
+        os.rename(f"{folder}.gone", folder)
+        with open(f"{folder}/stop", "w", encoding="utf-8"):
+            pass
+        server.ended()
+
+
 def transfers_have_their_amounts():
     """A note of a file has its user, its octets and its seconds, also if it was aborted."""
     with Server(sessions=0, root="folder", files={"f": b"abc", "big": 100_000_000}, stop=True, rates="session_down_rate = 100_000") as server:
@@ -368,6 +388,7 @@ ROWS = [
     a_transfer_log_that_is_moved,
     a_transfer_log_that_takes_nothing,
     a_transfer_log_that_fills_its_disk,
+    a_stop_file_that_cannot_be_seen,
     transfers_have_their_amounts,
     a_reader_that_stops_for_a_while,
     a_reader_that_stops_for_good,

@@ -151,6 +151,7 @@ def a_user_is_taken_out():
         reading.says("RETR f", "150 Opening data connection")
         server.reloaded(text_of(server, users={"ann": "", "robert": ""}))
         same(data.whole(), b"a\nb", "the file")
+        want("[WARN ] users that the new configuration has no longer: 1\n" in server.all_noted(), "a note of their number")
         reading.says(None, "226 Transfer complete", "421 User is not served any more")
         idle.says(None, "421 User is not served any more")
         for client in (reading, idle):

@@ -66,7 +66,7 @@ def an_upload_that_brings_nothing():
 
             together(first, second)
             server.ended()
-            same(server.told(), "ready\nsettled issued 4 moved 3 back 1\n", "what it told")
+            same(server.told(), "ready\nsettled issued 65539 moved 3 back 65536\n", "what it told")
 
 
 def what_is_stored_comes_back():

@@ -1,4 +1,4 @@
--- What is heard at a door, and who comes in.
+-- The ends of a wait at a door, and those who come in.
 use Rattle.std.specs.Prelude.{◌≡◌, ℕ, ℤ, pos, negsuc, Bool, true, false, nat_eq, if◌then◌else◌, Option, Some, Result, Ok, Err}
 use Rattle.std.specs.IoError.{error_kind, raw_os_error}
 use Rattle.std.specs.declared.io.Error.{Error}

@@ -31,11 +31,11 @@ struct Guest {
 #[derive(Drop)]
 pub struct WaitingRoom {
     guests: Vec<Guest>,
-    // what poll(2) is asked: the door, the bell, and then the guests
+    // the descriptors for poll(2): the door, the bell, and then the guests
     asked: Vec<pollfd>,
 }
 
-// What poll(2) is asked of a descriptor.
+// A descriptor for poll(2).
 fn asked_of(number: RawFd) -> pollfd {
     pollfd {
         fd: number,

@@ -107,7 +107,7 @@ group_at rates earlier q new old =
     ∙ first_both group_number q (finite.values rates.groups) (past_groups rates (finite.values earlier.groups))
     ∙ ap (λ o. option_or o (first_row group_number q (past_groups rates (finite.values earlier.groups)))) (at_number group_number rates.groups q new)
     ∙ by_first (finite.get rates.groups q) (first_row group_number q (past_groups rates (finite.values earlier.groups))) (finite.get earlier.groups q) (λ none.
-      first_kept group_number (finite.contains_key rates.groups) q none (finite.values earlier.groups) ∙ at_number group_number earlier.groups q old)
+    first_kept group_number (finite.contains_key rates.groups) q none (finite.values earlier.groups) ∙ at_number group_number earlier.groups q old)
 
 user_at : (rates earlier : Rates) (q : ℕ) → by_number user_number (finite.values rates.users) ≡ rates.users → by_number user_number (finite.values earlier.users) ≡ earlier.users
     → finite.get (by_number user_number (users_with_past rates earlier)) q ≡ option_or (finite.get rates.users q) (option_map without_guarantee (finite.get earlier.users q))
@@ -116,8 +116,8 @@ user_at rates earlier q new old =
     ∙ first_both user_number q (finite.values rates.users) (past_users rates (finite.values earlier.users))
     ∙ ap (λ o. option_or o (first_row user_number q (past_users rates (finite.values earlier.users)))) (at_number user_number rates.users q new)
     ∙ by_first (finite.get rates.users q) (first_row user_number q (past_users rates (finite.values earlier.users))) (option_map without_guarantee (finite.get earlier.users q)) (λ none.
-      first_unguaranteed q (filter (λ row. not (finite.contains_key rates.users row.user)) (finite.values earlier.users))
-      ∙ ap (option_map without_guarantee) (first_kept user_number (finite.contains_key rates.users) q none (finite.values earlier.users) ∙ at_number user_number earlier.users q old))
+    first_unguaranteed q (filter (λ row. not (finite.contains_key rates.users row.user)) (finite.values earlier.users))
+    ∙ ap (option_map without_guarantee) (first_kept user_number (finite.contains_key rates.users) q none (finite.values earlier.users) ∙ at_number user_number earlier.users q old))
 
 pub keep_past : (rates earlier all : Rates) → all ≡ stated rates.server rates.down rates.up (groups_with_past rates earlier) (users_with_past rates earlier)
     → by_number group_number (finite.values rates.groups) ≡ rates.groups → by_number group_number (finite.values earlier.groups) ≡ earlier.groups

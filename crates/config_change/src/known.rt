@@ -57,7 +57,7 @@ fn push_past(
 }
 
 /// The names of users with their numbers, and the names that were known earlier and are no user's with theirs: so a name
-/// keeps its number as long as a server runs.
+/// keeps its number while a server runs.
 pub fn known_names(
     alloc: Global,
     users: &Authorizer,

@@ -78,11 +78,7 @@ fn push_users(
 /// Limits with the earlier rows of the groups and users that have no row in them: a session of a user whom a
 /// configuration has no longer keeps its rates and those of its group, without a guarantee, until it has ended. `earlier`
 /// are the limits in force, with rows that were kept before.
-pub fn with_past(
-    alloc: Global,
-    limits: &Limits,
-    earlier: &Limits,
-) -> Result<Limits, RenumberFault>
+pub fn with_past(alloc: Global, limits: &Limits, earlier: &Limits) -> Result<Limits, RenumberFault>
     ensures kept { IfOk result (KeepPast limits.now earlier.now) }
     ensures refused { IfErr result (IsLimitsFault (limits_fault limits.now.server
         limits.now.down limits.now.up (groups_with_past limits.now earlier.now)

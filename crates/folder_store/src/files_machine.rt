@@ -1,6 +1,6 @@
 //! The machine that a program runs on.
 
-ghost use Rattle.std.specs.Prelude.{◌≡◌, ◌≢◌, ◌⊎◌, pos, IfErr, IfOk, OnErr, OnOk, Some};
+ghost use Rattle.std.specs.Prelude.{◌≡◌, ◌≢◌, ◌⊎◌, negsuc, pos, IfErr, IfOk, OnErr, OnOk, Some};
 ghost use Rattle.std.specs.IoError.{raw_os_error};
 ghost use Rattle.libc.specs.declared.TheConstants.{ENOENT};
 
@@ -56,6 +56,18 @@ fn examine_in(directory: i32, name: &EntryName) -> io::Result<Looked> {
     Ok(Looked::of_statx(&found))
 }
 
+/// The answer of open(2) of a directory by its number, and the number of its error.
+fn entered(number: i32, error: i32) -> io::Result<OpenDirectory>
+    ensures opened { IfOk result (λ directory. (directory.number ≡ number)
+        × (number ≢ negsuc 0)) }
+    ensures error { IfErr result (λ reason. raw_os_error reason ≡ Some error) }
+{
+    if number < 0 {
+        return Err(io::Error::from_raw_os_error(error));
+    }
+    Ok(OpenDirectory { number })
+}
+
 /// The answer of close(2) by its status, and the number of its error. A descriptor whose close failed is closed, so the call
 /// is not repeated.
 fn closed(status: i32, error: i32) -> io::Result<()>
@@ -76,6 +88,7 @@ fn names_count(count: usize, error: i32) -> io::Result<usize>
     ensures count { IfOk result (λ read. read ≡ count) }
     ensures whole { OnOk result ((error ≡ pos 0) ⊎ (error ≡ ENOENT)) }
     ensures refused { OnErr result ((error ≢ pos 0) × (error ≢ ENOENT)) }
+    ensures error { IfErr result (λ reason. raw_os_error reason ≡ Some error) }
 {
     if error == 0 || error == libc::ENOENT {
         Ok(count)
@@ -86,13 +99,13 @@ fn names_count(count: usize, error: i32) -> io::Result<usize>
 
 // (The bound names the type of files, since one alone is closed with a status.)
 impl<R: Files<File = File> + Alloc> FolderMachine for R {
-    ghost use Rattle.folder_store.specs.MachineCalls.{AnyMachineCall};
+    ghost use Rattle.folder_store.specs.RealMachine.{MachineShows};
 
     type File = File;
 
     type Directory = OpenDirectory;
 
-    ghost Does = { AnyMachineCall };
+    ghost Does = { MachineShows };
 
     fn open(&mut self, how: &OpenOptions, place: &str) -> io::Result<File> {
         how.open(self, place)
@@ -100,10 +113,7 @@ impl<R: Files<File = File> + Alloc> FolderMachine for R {
 
     fn enter(&mut self, place: &str) -> io::Result<OpenDirectory> {
         let number = os::open_dir_at(libc::AT_FDCWD, place.as_bytes());
-        if number < 0 {
-            return Err(last_error());
-        }
-        Ok(OpenDirectory { number })
+        entered(number, os::errno())
     }
 
     fn look(&mut self, place: &str) -> io::Result<Looked> {

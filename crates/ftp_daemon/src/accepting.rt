@@ -249,8 +249,8 @@ where
     house.registry.lock(rt).leave(session.number);
 }
 
-/// Accepts control connections until the wanted number of sessions has begun, or the sessions are to end, which the bell
-/// tells; then stops listening. Returns once all sessions have ended.
+/// Accepts control connections until the wanted number of sessions has begun, or the bell is rung since
+/// the sessions are to end; then stops listening. Returns once all sessions have ended.
 pub(crate) fn accept_all<R, S, H, B, T>(
     rt: &R,
     house: &House<S, H, B>,

@@ -51,12 +51,7 @@ where
 
 // Runs lanes and rounds, and checks for the stop sign, while clients are served. Returns once all threads have ended.
 // Nobody is served if one of these threads could not be started, or `ready` could not be written.
-fn run_threads<R, T, F>(
-    rt: &R,
-    crew: &T,
-    bell: &DoorBell,
-    clients: F,
-) -> Result<(), ServeFault>
+fn run_threads<R, T, F>(rt: &R, crew: &T, bell: &DoorBell, clients: F) -> Result<(), ServeFault>
 where
     R: Threads + Wait,
     T: Crew + Sync,

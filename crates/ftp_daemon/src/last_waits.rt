@@ -66,6 +66,7 @@ impl LanesAtWork {
 const MISPLACED: u64 = 10;
 
 /// The handler of a server, which is told of parts that are not in their places.
+#[derive(Drop)]
 pub(crate) struct ToldHandler<'h, R, S: Store<Global>, H: Drop, B: PartsName> {
     pub(crate) rt: &'h R,
     pub(crate) house: &'h House<S, H, B>,

@@ -37,4 +37,4 @@ pub use serving::serve;
 pub use sheet_check::{CheckFault, run_check};
 pub use sheet_share::{ShareFault, run_share};
 pub use text_io::{TextFault, TextReader, TextWriter};
-pub use watching::OwnerSigns;
+pub use watching::{NoSigns, OwnerSigns};

@@ -1,6 +1,6 @@
 //! The signs of a server's owner while it serves.
 
-ghost use Rattle.std.specs.Prelude.{◌≡◌, Bool, true};
+ghost use Rattle.std.specs.Prelude.{◌≡◌, Bool, true, false};
 ghost use Rattle.ftp_daemon.specs.Reloading.{IsAllowed};
 ghost use Rattle.ftp_daemon.specs.SameRates.{Permits};
 ghost use Rattle.line_rates.specs.Rates.{Rates};
@@ -33,36 +33,53 @@ const NO_MEMORY: &str = "out of memory";
 const SECOND: u64 = 1_000_000;
 
 /// The signs of a server's owner: that the server is to end, such as a file that appears, or to drain, and that looks at
-/// what goes on are wanted. A thread of the server sees to them.
+/// what goes on are wanted. A thread of the server sees to them. Without methods of its own an owner gives no sign.
 pub trait OwnerSigns {
     /// Returns whether the server is to end. It is checked before the server begins, and ten times a second while it
     /// serves.
-    fn is_up(&self) -> bool;
+    fn is_up(&self) -> bool {
+        false
+    }
 
     /// Returns whether the server is to drain: it admits no more clients, each session ends once no transfer of it runs,
     /// and then the server ends. It is checked as often.
-    fn is_to_drain(&self) -> bool;
+    fn is_to_drain(&self) -> bool {
+        false
+    }
 
-    /// A test that the rates pass which the owner may put in force.
-    ghost allows: { Rates → Bool };
+    /// A test that the rates pass which the owner may put in force: no rates pass.
+    ghost allows: { Rates → Bool } = { λ _. false };
 
     /// The configuration that the server is to take now, or the reason for which it takes none, if one was asked for. It
     /// is asked for as often.
     fn reload(&self) -> ReloadSign
-        ensures allowed { IsAllowed allows result };
+        ensures allowed { IsAllowed allows result }
+    {
+        ReloadSign::Nothing
+    }
 
     /// The server has taken the configuration.
-    fn taken(&self);
+    fn taken(&self) {}
 
     /// The server has refused the configuration. Returns the reason in words; none if memory runs out.
-    fn refused(&self, fault: ReloadFault) -> Option<String>;
+    fn refused(&self, _fault: ReloadFault) -> Option<String> {
+        None
+    }
 
     /// Returns whether the handler is to be shown what goes on, once a second.
-    fn wants_looks(&self) -> bool;
+    fn wants_looks(&self) -> bool {
+        false
+    }
 
     /// The handler was shown what goes on. Nobody waits for this call.
-    fn looked(&self);
+    fn looked(&self) {}
 }
+
+/// An owner who gives no sign: the server ends after its number of sessions, or never.
+#[derive(Drop)]
+pub struct NoSigns;
+
+impl OwnerSigns for NoSigns {}
 
 /// Returns whether the server is to end by its owner's signs, if there are any.
 pub(crate) fn is_up<P: OwnerSigns>(signs: &Option<P>) -> bool {
@@ -303,10 +320,7 @@ where
         let now = micros(rt);
         if is_told(calls, told, now) {
             told = told.saturating_add(TELLS);
-            house
-                .handler
-                .lock(rt)
-                .on_server(ServerEvent::Waits(calls));
+            house.handler.lock(rt).on_server(ServerEvent::Waits(calls));
         }
         shown = look_if_due(rt, house, engine, signs, shown, now);
         at_work.wait(rt, seen);

@@ -18,6 +18,8 @@ pub(crate) struct Known {
     users: Vec<NumberedName>,
     // the least number that no user has had, nor any below it
     next: u64,
+    // the numbers of those who are users now, ascending
+    present: Vec<u32>,
     /// The names of groups, by their numbers.
     pub groups: Vec<String>,
     /// The limits in force, with the rows of the past.
@@ -31,6 +33,18 @@ fn skip(users: &mut Authorizer, from: u64, to: u64) -> Result<(), AuthorizerFaul
         users.remove_user(NOBODY)?;
     }
     Ok(())
+}
+
+/// The numbers of users, ascending.
+fn present_of(alloc: Global, users: &Authorizer) -> Result<Vec<u32>, AllocError> {
+    let mut present = Vec::new(alloc);
+    for name in users.names(alloc)? {
+        if let Some(number) = users.number(name.as_str()) {
+            present.push(number)?;
+        }
+    }
+    present.sort_unstable();
+    Ok(present)
 }
 
 impl Known {
@@ -51,9 +65,21 @@ impl Known {
         Ok(Known {
             users: numbered,
             next,
+            present: present_of(alloc, users)?,
             groups,
             limits,
         })
+    }
+
+    /// Number of those who are users here, and no longer there.
+    pub fn gone(&self, next: &Known) -> u64 {
+        let mut count: u64 = 0;
+        for number in &self.present {
+            if next.present.binary_search(number).is_err() {
+                count = count.saturating_add(1);
+            }
+        }
+        count
     }
 
     /// The names of all who are or were users, with their numbers.

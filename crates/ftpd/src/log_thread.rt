@@ -8,6 +8,7 @@ use line_queue::{
 };
 use session_notes::TransferLog;
 use std::alloc::{AllocError, Global};
+use std::io;
 use std::sync::{Arc, Wait};
 use std::thread::{Builder, Threads};
 use std::time::Clock;
@@ -40,6 +41,31 @@ fn count_head(form: LogForm) -> &'static str {
     match form {
         LogForm::Plain => "[WARN ] ",
         LogForm::Journal => "<4>",
+    }
+}
+
+/// Notes without a time, under the head of a warning.
+#[derive(Drop)]
+pub(crate) struct PlainNotes {
+    head: &'static str,
+    lines: Arc<SharedLines>,
+}
+
+impl PlainNotes {
+    /// Notes the number of users that a new configuration has no longer.
+    pub fn note_gone<R: Wait + AllocGlobal>(&self, rt: &R, count: u64) {
+        let head = self.head;
+        let line = format!(in rt.alloc();
+            "{head}users that the new configuration has no longer: {count}\n"
+        );
+        self.lines.note(rt, line);
+    }
+
+    /// Notes that the file of a sign cannot be examined.
+    pub fn note_unseen<R: Wait + AllocGlobal>(&self, rt: &R, path: &str, reason: io::Error) {
+        let head = self.head;
+        let line = format!(in rt.alloc(); "{head}the file {path:?} cannot be examined: {reason}\n");
+        self.lines.note(rt, line);
     }
 }
 
@@ -196,6 +222,14 @@ impl LogThreads {
             head,
             notes,
             transfers,
+        })
+    }
+
+    /// Notes without a time.
+    pub fn plain_notes(&self) -> Result<PlainNotes, AllocError> {
+        Ok(PlainNotes {
+            head: self.head,
+            lines: self.notes()?,
         })
     }
 

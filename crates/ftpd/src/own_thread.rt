@@ -1,7 +1,7 @@
 //! Threads that own what they use, so that nobody has to wait for them.
 //!
 //! A call on a path of the machine has no limit of time: a file system may hang, or somebody has put a pipe at the path. So
-//! the owner's paths are looked at, opened, read and written by such threads, and the end of the server waits at most
+//! the owner's paths are examined, opened, read and written by such threads, and the end of the server waits at most
 //! [`LAST_WAIT`] for each. One that has not ended by then ends with the process.
 
 ghost use Rattle.std.specs.Prelude.{◌≡◌, ◌-◌, ◌/◌, ◌*◌};

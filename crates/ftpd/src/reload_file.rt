@@ -119,7 +119,7 @@ impl ReloadFile {
             return false;
         }
         let was_stuck = *is_stuck;
-        *is_stuck = fs::remove_file(&self.machine, self.sign.path.as_str()).is_err();
+        *is_stuck = fs::remove_file(&self.machine, self.sign.path()).is_err();
         !was_stuck
     }
 
@@ -205,11 +205,14 @@ impl ReloadFile {
         }
     }
 
-    /// The server has taken the configuration. Returns the facts that its status shows from now on.
-    pub fn taken<R: Wait>(&self, rt: &R) -> Option<StatusFacts> {
+    /// The server has taken the configuration. Returns the number of users that it has no longer, and the facts that its
+    /// status shows from now on.
+    pub fn taken<R: Wait>(&self, rt: &R) -> Option<(u64, Option<StatusFacts>)> {
         let NextConfig { known, facts } = self.next.lock(rt).take()?;
-        *self.known.lock(rt) = known;
-        facts
+        let mut earlier = self.known.lock(rt);
+        let gone = earlier.gone(&known);
+        *earlier = known;
+        Some((gone, facts))
     }
 
     /// The reason in words for which the server has refused the configuration.

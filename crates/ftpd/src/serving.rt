@@ -15,7 +15,7 @@ use crate::sign_file::SignFile;
 use crate::starting::{Means, Prepared, Unprepared, prepare};
 use crate::status_file::{MachineSigns, StatusFile};
 use crate::status_thread::StatusWriter;
-use folder_store::DirStore;
+use folder_store::{DirStore, LeaveSign};
 use ftp_daemon::{Patience, RoundClock, ServeFault, ServerRuntime, Service, Terms, serve};
 use ftpd_program::{FtpdExit, ReadyOutput, StartFault};
 use last_fault::LastFault;
@@ -40,12 +40,14 @@ type FolderStore = RecordedStore<DirStore<HostRuntime>>;
 fn open_folder(
     machine: &HostRuntime,
     folder: &str,
+    leaves: &LeaveSign,
     syncs: bool,
 ) -> Result<FolderStore, ServeFault> {
     let error = LastFault::new(machine.alloc())?;
+    let sign = leaves.another()?;
     match DirStore::new(*machine, folder, error.another()?) {
         Ok(store) => {
-            let store = store.syncing(syncs);
+            let store = store.left_by(sign).syncing(syncs);
             Ok(RecordedStore::with_fault(machine.alloc(), store, error))
         }
         Err(StoreFault::Memory) => Err(ServeFault::Memory),
@@ -57,12 +59,13 @@ fn open_folder(
 fn open_folders(
     machine: &HostRuntime,
     folder: &str,
+    leaves: &LeaveSign,
     connections: u16,
     syncs: bool,
 ) -> Result<Vec<FolderStore>, ServeFault> {
     let mut stores = Vec::new(machine.alloc());
     for _ in 0..connections {
-        let store = open_folder(machine, folder, syncs)?;
+        let store = open_folder(machine, folder, leaves, syncs)?;
         if stores.push(store).is_err() {
             return Err(ServeFault::Memory);
         }
@@ -75,6 +78,13 @@ type MachineNotes<R> = StatusKeeper<
     R,
     Notes<Logged<HostRuntime, QueuedLog<R>>, QueuedTransfers<R>>,
 >;
+
+// The signs of a server whose listings are left once it is to end.
+fn leaving<R>(signs: MachineSigns<R>, leaves: LeaveSign) -> MachineSigns<R> {
+    let mut signs = signs;
+    signs.leaves = Some(leaves);
+    signs
+}
 
 /// The parts of a configuration that a server takes at its start.
 #[derive(Drop)]
@@ -123,8 +133,11 @@ where
             serve(rt, service, output)?;
         }
         ServedStore::Folder(folder) => {
-            let store = open_folder(machine, folder.as_str(), syncs)?;
-            let own_stores = open_folders(machine, folder.as_str(), numbers.max_cons, syncs)?;
+            let leaves = LeaveSign::new(machine.alloc())?;
+            let store = open_folder(machine, folder.as_str(), &leaves, syncs)?;
+            let own_stores =
+                open_folders(machine, folder.as_str(), &leaves, numbers.max_cons, syncs)?;
+            let signs = leaving(signs, leaves);
             let service = Service {
                 terms,
                 numbers,
@@ -373,8 +386,10 @@ where
     let signs = MachineSigns {
         rt: *rt,
         stop,
+        leaves: None,
         drain,
         reload: reload_file(machine, reload, reader, known, &config, start)?,
+        notes: log.plain_notes()?,
         status: another(&threads.status)?,
         cell: watched,
     };

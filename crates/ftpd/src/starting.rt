@@ -134,10 +134,7 @@ fn sign_if_any(
     };
     match hindrance_at(machine, path.as_str()) {
         Some(hindrance) => Err(sign_fault(sign, path, hindrance)),
-        None => Ok(Some(SignFile {
-            machine: *machine,
-            path,
-        })),
+        None => Ok(Some(SignFile::new(*machine, path))),
     }
 }
 

@@ -61,14 +61,11 @@ pub(crate) fn twin_of(
     }
 }
 
-// Reads the first octets of a file. Returns their number.
+// Reads the first octets of a regular file. Returns their number.
 fn read_front(machine: &HostRuntime, path: &str, octets: &mut [u8]) -> io::Result<usize> {
     let mut file = fs::open(machine, path)?;
-    let mut count = 0;
-    for _ in 0..FRONT {
-        count += file.read(&mut octets[count..])?;
-    }
-    Ok(count)
+    let count = file.read(octets)?;
+    Ok(count.min(octets.len()))
 }
 
 // A file that is there, with its first octets if it is a regular one.
@@ -79,7 +76,7 @@ fn found_file<'a>(
     octets: &'a mut [u8],
 ) -> io::Result<FoundFile<'a>> {
     if found.is_file() {
-        let count = read_front(machine, path, octets)?;
+        let count = read_front(machine, path, octets)?.min(octets.len());
         return Ok(FoundFile::File(&octets[..count]));
     }
     if found.mode() / 4_096 % 16 == CHARACTER_DEVICE {
@@ -88,8 +85,8 @@ fn found_file<'a>(
     Ok(FoundFile::Other)
 }
 
-/// What is at a path. The first octets of a regular file go to `octets`. `Err` is the machine's reason for which it cannot
-/// be looked at or read.
+/// The kind of what is at a path. The first octets of a regular file go to `octets`. `Err` is the machine's reason for which
+/// it cannot be examined or read.
 pub(crate) fn found_at<'a>(
     machine: &HostRuntime,
     path: &str,

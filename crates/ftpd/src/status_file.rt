@@ -2,9 +2,11 @@
 
 ghost use Rattle.std.specs.Prelude.{true};
 
+use crate::log_thread::PlainNotes;
 use crate::reload_file::ReloadFile;
-use crate::sign_file::{SignFile, is_given};
+use crate::sign_file::{SignFile, SignLook};
 use crate::status_thread::StatusWriter;
+use folder_store::LeaveSign;
 use ftp_daemon::{OwnerSigns, ReloadFault, ReloadSign};
 use server_status::status_text;
 use status_keeper::StatusCell;
@@ -82,21 +84,43 @@ impl StatusFile {
 pub(crate) struct MachineSigns<R> {
     pub rt: R,
     pub stop: Option<SignFile>,
+    /// Given once the server is to end: listings under way are left.
+    pub leaves: Option<LeaveSign>,
     pub drain: Option<SignFile>,
     pub reload: Option<ReloadFile>,
+    /// The notes, for a file that cannot be examined.
+    pub notes: PlainNotes,
     /// The thread that writes the status file, if there is one.
     pub status: Option<Arc<StatusWriter>>,
     /// The status, if it is shown at all.
     pub cell: Option<Arc<StatusCell>>,
 }
 
+impl<R: Wait + AllocGlobal> MachineSigns<R> {
+    // Returns whether a sign is there; not if there is no such file to be. One that cannot be examined is noted once.
+    fn is_given(&self, sign: &Option<SignFile>) -> bool {
+        let Some(sign) = sign else {
+            return false;
+        };
+        let look = sign.look();
+        if let Some(reason) = sign.new_reason(look) {
+            self.notes.note_unseen(&self.rt, sign.path(), reason);
+        }
+        matches!(look, SignLook::There)
+    }
+}
+
 impl<R: Wait + AllocGlobal> OwnerSigns for MachineSigns<R> {
     fn is_up(&self) -> bool {
-        is_given(&self.stop)
+        let is_up = self.is_given(&self.stop);
+        if let (true, Some(sign)) = (is_up, &self.leaves) {
+            sign.give();
+        }
+        is_up
     }
 
     fn is_to_drain(&self) -> bool {
-        is_given(&self.drain)
+        self.is_given(&self.drain)
     }
 
     ghost allows = { λ _. true };
@@ -109,10 +133,17 @@ impl<R: Wait + AllocGlobal> OwnerSigns for MachineSigns<R> {
     }
 
     fn taken(&self) {
-        if let Some(file) = &self.reload {
-            if let (Some(facts), Some(cell)) = (file.taken(&self.rt), &self.cell) {
-                cell.put_facts(&self.rt, facts);
-            }
+        let Some(file) = &self.reload else {
+            return;
+        };
+        let Some((gone, facts)) = file.taken(&self.rt) else {
+            return;
+        };
+        if gone > 0 {
+            self.notes.note_gone(&self.rt, gone);
+        }
+        if let (Some(facts), Some(cell)) = (facts, &self.cell) {
+            cell.put_facts(&self.rt, facts);
         }
     }
 

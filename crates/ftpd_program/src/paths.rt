@@ -10,7 +10,7 @@ pub struct FileIdentity {
     pub inode: u64,
 }
 
-/// A path that is stated, with the numbers of what is there; none if nothing is, or if it cannot be looked at.
+/// A path that is stated, with the numbers of what is there; none if nothing is, or if it cannot be examined.
 #[derive(Clone, Copy, Debug)]
 pub struct StatedPath<'a> {
     pub path: &'a str,
@@ -86,7 +86,7 @@ fn begins_log(octets: &[u8]) -> bool
 
 /// Returns whether a status may replace what is at a path: nothing, an empty file, or an earlier status.
 pub fn is_free_for_status(found: FoundFile<'_>) -> bool
-    ensures free { result ≡ is_free_for_status found }
+    ensures free { result ≡ is_free_for_status found.entry }
 {
     match found {
         FoundFile::Nothing => true,
@@ -98,7 +98,7 @@ pub fn is_free_for_status(found: FoundFile<'_>) -> bool
 /// Returns whether lines of a transfer log may follow what is at a path: nothing, an empty file, an earlier log, or a
 /// device that takes characters.
 pub fn is_free_for_log(found: FoundFile<'_>) -> bool
-    ensures free { result ≡ is_free_for_log found }
+    ensures free { result ≡ is_free_for_log found.entry }
 {
     match found {
         FoundFile::Nothing | FoundFile::Device => true,

@@ -22,7 +22,7 @@ impl<B: PartsName> Engine<B> {
     /// is a history of rounds, under rates and at moments that pass the tests of the name, in which each rate was kept,
     /// and which granted the octets issued beyond those carried.
     ///
-    /// If a seat is not back in its place, this waits for ever, and tells `told` so.
+    /// If a seat is not back in its place, this waits for ever, and reports it to `told`.
     pub fn settle<R: Wait, M: MisplacedParts>(self, rt: &R, told: &mut M) -> Settled
         ensures sum { result.issued ≡ result.moved + result.back }
         ensures kept { HasKept B.rates B.when B.carried result.issued }

@@ -137,7 +137,7 @@ impl<B: PartsName> LentSeats<B> {
     }
 
     /// Gathers the seats, once no thread has one any more, and settles the book of their desk, as `settle_lent`. If there
-    /// are more seats than room was made for, which `lend` is not called with, the first of those is told for ever.
+    /// are more seats than room was made for, which `lend` is not called with, the first of those is reported for ever.
     pub fn settle<R: Wait, M: MisplacedParts>(
         self,
         rt: &R,

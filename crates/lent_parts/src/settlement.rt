@@ -15,13 +15,13 @@ use std::alloc::Allocator;
 use std::sync::Wait;
 
 /// Is told of a fault of the program: parts that were lent are not back in their places, so nothing can be settled. Parts
-/// cannot be dropped, so the call that settles them does not return then, and tells this again and again.
+/// cannot be dropped, so the call that settles them does not return then, and reports this again and again.
 pub trait MisplacedParts {
     /// The part of a lane is missing, or in the place of another. Waits a while.
     fn misplaced(&mut self, lane: usize);
 }
 
-/// Tells for ever that the part of a lane is not in its place.
+/// Reports for ever that the part of a lane is not in its place.
 pub(crate) fn tell_misplaced<R: Wait, M: MisplacedParts>(rt: &R, told: &mut M, lane: usize) -> ! {
     for _ in rt.forever() {
         told.misplaced(lane);
@@ -30,7 +30,7 @@ pub(crate) fn tell_misplaced<R: Wait, M: MisplacedParts>(rt: &R, told: &mut M, l
 }
 
 // Gathers workers in the order of their lanes. The type of a worker does not contain its lane: one that is not in its
-// lane's place is told for ever.
+// lane's place is reported for ever.
 fn gather<R: Wait, B: PartsName, M: MisplacedParts, A: Allocator>(
     rt: &R,
     told: &mut M,
@@ -60,8 +60,8 @@ fn gather<R: Wait, B: PartsName, M: MisplacedParts, A: Allocator>(
 /// and which granted the octets issued beyond those carried.
 ///
 /// The types of the workers say that they are of this desk. That each lane's worker is there, and in its place, is checked:
-/// otherwise this waits for ever, as a caller would have to that got all parts back, which cannot be dropped, and tells
-/// `told` so.
+/// otherwise this waits for ever, as a caller would have to that got all parts back, which cannot be dropped, and reports
+/// it to `told`.
 pub fn settle_lent<R: Wait, B: PartsName, M: MisplacedParts, A: Allocator, D: Allocator>(
     rt: &R,
     told: &mut M,

@@ -9,7 +9,7 @@ use crate::fault::AdmitFault;
 use crate::registry::Registry;
 use std::alloc::{Allocator, Global};
 
-/// Greatest numbers of connections: in all, where 0 admits none, and from one address, where 0 is no limit.
+/// Greatest numbers of connections: in all, of which 0 admits none, and from one address, of which 0 is no limit.
 #[derive(Clone, Copy, Debug, PartialEq, Eq)]
 pub struct ConnectionLimits {
     pub max: usize,

@@ -43,8 +43,8 @@ pub use passive::{
 pub use runtime::ServerRuntime;
 pub use served::{Listing, Served};
 pub use server_hooks::{
-    BegunTransfer, ClientSession, LaneLook, NotServed, ServerEvent, ServerHooks, ServerLook,
-    SessionEvent, SessionRefusal, StoreNote, TransferKind, TransferRecord,
+    BegunTransfer, ClientSession, LaneLook, NoHooks, NotServed, ServerEvent, ServerHooks,
+    ServerLook, SessionEvent, SessionRefusal, StoreNote, TransferKind, TransferRecord,
 };
 pub use terms::{HeldTerms, SharedTerms, Terms};
 pub use ticket::{LaneEnds, SessionEnd, SessionJob, SessionTicket};

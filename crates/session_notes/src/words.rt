@@ -192,7 +192,8 @@ fn server_words(event: ServerEvent) -> &'static str
         ServerEvent::Drains(_) => "ends once all transfers have ended",
         ServerEvent::DrainTimedOut(_) => "ends, and cuts transfers: the time for them is over",
         ServerEvent::Waits(_) => "calls of the machine",
-        ServerEvent::Misplaced(_) => "fault of the program: nothing is settled without the part of lane",
+        ServerEvent::Misplaced(_) =>
+            "fault of the program: nothing is settled without the part of lane",
     }
 }
 

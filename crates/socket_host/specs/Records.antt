@@ -7,8 +7,8 @@ use Rattle.server_house.specs.declared.cause.EndCause.{EndCause}
 use Rattle.server_house.specs.declared.cause.EndCause.TheVariants as cause
 use Rattle.server_house.specs.declared.server_hooks.TransferKind.{TransferKind}
 use Rattle.server_house.specs.declared.server_hooks.TransferKind.TheVariants.{Sent, Received, Listed}
-use Rattle.session_core.specs.declared.events.DataEvent.{DataEvent}
-use Rattle.session_core.specs.declared.events.DataEvent.TheVariants.{Ready, Ended}
+use Rattle.session_table.specs.declared.inputs.Input.{Input}
+use Rattle.session_table.specs.declared.inputs.Input.TheVariants.{TransferEnded}
 use Rattle.session_table.specs.declared.actions.HookCall.{HookCall}
 use Rattle.session_table.specs.declared.actions.HookCall.TheVariants.{Connect, Disconnect, Login, LoginFailed, Logout, FileSent, FileReceived, IncompleteFileSent, IncompleteFileReceived}
 use Rattle.session_table.specs.declared.actions.Job.{Job}
@@ -43,17 +43,16 @@ job_kind (SendFile source data_type) = Sent
 job_kind (TakeFile sink data_type) = Received
 
 -- the event is the end of a transfer
-abbrev pub is_end : {K : Type 0} → Option (DataEvent K) → Bool
-is_end None = false
-is_end (Some (Ready port)) = false
-is_end (Some (Ended end sink)) = true
+abbrev pub is_end : {K : Type 0} → Option (Input Global K) → Bool
+is_end (Some (TransferEnded end sink)) = true
+is_end _ = false
 
 abbrev is_listed : TransferKind → Bool
 is_listed Listed = true
 is_listed Sent = false
 is_listed Received = false
 
-abbrev pub ends_listing : {K : Type 0} → Option (DataEvent K) → TransferKind → Bool
+abbrev pub ends_listing : {K : Type 0} → Option (Input Global K) → TransferKind → Bool
 ends_listing event kind = is_end event && is_listed kind
 
 -- the text of the path of the last file that was opened, if it is known and the transfer is a

@@ -5,9 +5,9 @@ ghost use Rattle.std.specs.declared.alloc.Global.{Global};
 ghost use Rattle.control_session.specs.Calls.{reads_within};
 ghost use Rattle.control_session.specs.Rows.{IsRow};
 ghost use Rattle.control_session.specs.Turns.{StepRefused, Stepped};
-ghost use Rattle.control_session.specs.Sides.{event_in, given_of, is_line};
-ghost use Rattle.control_session.specs.Sides.Given.{Came};
+ghost use Rattle.control_session.specs.Sides.{back_in, given_of, is_line};
 ghost use Rattle.rate_floors.specs.Promises.{HasNoSessions};
+ghost use Rattle.session_core.specs.Events.{is_event};
 ghost use Rattle.session_table.specs.Steps.{asks_floors};
 ghost use Rattle.session_table.specs.Views.{is_closed};
 ghost use Rattle.socket_host.specs.Cuts.{cause_of_cut};
@@ -24,9 +24,7 @@ use crate::side::SocketSide;
 use crate::standing::Standing;
 use crate::waiting::{is_due, is_life, passed_limit};
 use client_patience::{TimeOut, Waits};
-use control_session::{
-    DataEvent, Host, Leaving, NoStep, Piece, Session, close_by, end_by, step_by,
-};
+use control_session::{Host, Leaving, NoStep, Piece, Session, close_by, end_by, step_by};
 use event_word::micros;
 use ftp_terms::DataType;
 use ftp_wire::HostPort;
@@ -80,16 +78,17 @@ fn time_out_reply(why: TimeOut) -> &'static [u8]
 }
 
 // The reason for which the transfer was cut whose end is the last event of its session, if it was.
-fn cause_of_cut<K>(last: &Option<DataEvent<K>>, is_ending: bool) -> Option<EndCause>
+fn cause_of_cut<K>(last: &Option<Input<Global, K>>, is_ending: bool) -> Option<EndCause>
     ensures cause { result ≡ cause_of_cut last.now is_ending }
 {
     match last {
-        None | Some(DataEvent::Ready(_)) | Some(DataEvent::Ended { end: End::Done, .. }) => None,
-        Some(DataEvent::Ended { .. }) => Some(if is_ending {
+        Some(Input::TransferEnded { end: End::Done, .. }) => None,
+        Some(Input::TransferEnded { .. }) => Some(if is_ending {
             EndCause::ServerEnds
         } else {
             EndCause::ControlLost
         }),
+        _ => None,
     }
 }
 
@@ -124,7 +123,7 @@ fn says_refusal<R, K>(actions: &[Action<Global, R, K>]) -> bool
 }
 
 // Returns whether a step was made that says a refusal.
-fn is_refused<R, K>(made: &Result<Vec<Action<Global, R, K>>, NoStep<K>>) -> bool
+fn is_refused<R, K>(made: &Result<Vec<Action<Global, R, K>>, NoStep<Global, K>>) -> bool
     ensures refused { MatchResult made.now
         (λ actions. result ≡ says_refusal actions.items) (λ why. result ≡ false) }
 {
@@ -135,10 +134,10 @@ fn is_refused<R, K>(made: &Result<Vec<Action<Global, R, K>>, NoStep<K>>) -> bool
 }
 
 // Returns whether a passive port was asked for, and none could be had.
-fn is_without_port<K>(event: &Option<DataEvent<K>>) -> bool
+fn is_without_port<K>(event: &Option<Input<Global, K>>) -> bool
     ensures none { result ≡ is_without_port event.now }
 {
-    matches!(event, Some(DataEvent::Ready(None)))
+    matches!(event, Some(Input::DataReady(None)))
 }
 
 /// Floors without rows, which need no memory.
@@ -200,18 +199,18 @@ fn kind_of<R, K>(job: &Job<Global, R, K>) -> TransferKind
 }
 
 // Returns whether an event is the end of a transfer.
-fn is_end<K>(event: &Option<DataEvent<K>>) -> bool
+fn is_end<K>(event: &Option<Input<Global, K>>) -> bool
     ensures end { result ≡ is_end event.now }
 {
-    matches!(event, Some(DataEvent::Ended { .. }))
+    matches!(event, Some(Input::TransferEnded { .. }))
 }
 
 // Returns whether an event is the end of a listing, if the last transfer was of this kind.
-fn ends_listing<K>(event: &Option<DataEvent<K>>, kind: TransferKind) -> bool
+fn ends_listing<K>(event: &Option<Input<Global, K>>, kind: TransferKind) -> bool
     ensures ends { result ≡ ends_listing event.now kind }
 {
     match (event, kind) {
-        (Some(DataEvent::Ended { .. }), TransferKind::Listed) => true,
+        (Some(Input::TransferEnded { .. }), TransferKind::Listed) => true,
         _ => false,
     }
 }
@@ -551,7 +550,7 @@ where
     }
 
     // Reports the refusals of a step, if it was made.
-    fn report_made<F, K>(&self, made: &Result<Vec<Action<Global, F, K>>, NoStep<K>>) {
+    fn report_made<F, K>(&self, made: &Result<Vec<Action<Global, F, K>>, NoStep<Global, K>>) {
         if let Ok(actions) = made {
             self.report_refusals(actions);
         }
@@ -563,7 +562,7 @@ where
         session: &mut Session<Global>,
         input: &mut Option<Input<Global, S::Sink>>,
     ) -> (
-        Result<Vec<Action<Global, S::Source, S::Sink>>, NoStep<S::Sink>>,
+        Result<Vec<Action<Global, S::Source, S::Sink>>, NoStep<Global, S::Sink>>,
         Option<StoreRecord>,
     )
         ensures row { IfSome input.old (λ input. IfOk result.0 (λ actions.
@@ -572,7 +571,7 @@ where
         ensures unchanged { OnErr result.0 (session.new ≡ session.old) }
         ensures refused { IfSome input.old (λ input. IfErr result.0 (λ why.
             RefusedFor {A = Global} {R = S.Source} (IsRow S.Step) (kept_users self.old.standing)
-            session.old (given_of input) (event_in input) why)) }
+            session.old (given_of input) (back_in input) why)) }
         ensures standing { self.new.standing ≡ self.old.standing }
         ensures side { self.new.side ≡ self.old.side }
     {
@@ -641,10 +640,11 @@ where
     }
 
     // Passes on the events of the data side after the end of the control connection.
-    fn end_with(&mut self, session: &mut Session<Global>, event: DataEvent<S::Sink>)
+    fn end_with(&mut self, session: &mut Session<Global>, event: Input<Global, S::Sink>)
         requires closed { is_closed session.old.view.stage ≡ true }
+        requires event { is_event event ≡ true }
         ensures row { LentFor (IsRow {A = Global} {R = S.Source} S.Step)
-            (kept_users self.old.standing) session.old (Came event) session.new [] }
+            (kept_users self.old.standing) session.old (given_of event) session.new [] }
         ensures closed { is_closed session.new.view.stage ≡ true }
         ensures standing { self.new.standing ≡ self.old.standing }
         ensures side { self.new.side ≡ self.old.side }
@@ -689,7 +689,7 @@ where
         &mut self,
         session: &mut Session<Global>,
         input: &mut Option<Input<Global, S::Sink>>,
-    ) -> Result<Vec<Action<Global, S::Source, S::Sink>>, NoStep<S::Sink>> {
+    ) -> Result<Vec<Action<Global, S::Source, S::Sink>>, NoStep<Global, S::Sink>> {
         if self.ends_instead(input) {
             return Err(NoStep::Over);
         }
@@ -715,7 +715,7 @@ where
         }
     }
 
-    fn end(&mut self, session: &mut Session<Global>, event: &mut Option<DataEvent<S::Sink>>) {
+    fn end(&mut self, session: &mut Session<Global>, event: &mut Option<Input<Global, S::Sink>>) {
         match event.take() {
             Some(event) => self.end_with(session, event),
             None => {}
@@ -785,7 +785,7 @@ where
         self.side.abort();
     }
 
-    fn look(&mut self) -> Option<DataEvent<S::Sink>> {
+    fn look(&mut self) -> Option<Input<Global, S::Sink>> {
         let event = self.side.look(micros(self.rt));
         if is_without_port(&event) {
             if let Some(error) = self.side.port_fault() {
@@ -798,7 +798,7 @@ where
         event
     }
 
-    fn settle(&mut self) -> Option<DataEvent<S::Sink>> {
+    fn settle(&mut self) -> Option<Input<Global, S::Sink>> {
         let last = self.side.settle();
         if is_end(&last) {
             self.report_end(cause_of_cut(&last, self.is_ending()));

@@ -29,7 +29,7 @@ route_of path =
 abbrev pub is_read : List ℕ → Bool
 is_read method = bytes_eq method (codes "GET") || bytes_eq method (codes "HEAD")
 
--- what is shown: a status, at a date
+-- a status that is shown at a date
 pub record Shown : Type 0 where
   pub status : Status
   pub date : HttpDate

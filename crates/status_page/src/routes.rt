@@ -90,11 +90,7 @@ fn fill(
     response.body.put_slice(octets)
 }
 
-fn show_json(
-    moment: Moment,
-    status: &Status,
-    response: &mut Response,
-) -> Result<(), AllocError>
+fn show_json(moment: Moment, status: &Status, response: &mut Response) -> Result<(), AllocError>
     requires blank { IsBlank response.old }
     ensures shown { OnOk result
         (IsShown (shown_at status.now moment.date) Route.Json response.new) }
@@ -104,11 +100,7 @@ fn show_json(
     fill(moment, response, StatusCode::OK, kind, text.as_bytes())
 }
 
-fn show_metrics(
-    moment: Moment,
-    status: &Status,
-    response: &mut Response,
-) -> Result<(), AllocError>
+fn show_metrics(moment: Moment, status: &Status, response: &mut Response) -> Result<(), AllocError>
     requires blank { IsBlank response.old }
     ensures shown { OnOk result
         (IsShown (shown_at status.now moment.date) Route.Metrics response.new) }
@@ -143,7 +135,13 @@ fn not_found(moment: Moment, response: &mut Response) -> Result<(), AllocError>
         (IsTyped moment.date 404 (codes "text/plain; charset=utf-8") (codes "not found\n") response.new) }
 {
     let kind = HeaderValue::from_static("text/plain; charset=utf-8");
-    fill(moment, response, StatusCode::NOT_FOUND, kind, b"not found\n")
+    fill(
+        moment,
+        response,
+        StatusCode::NOT_FOUND,
+        kind,
+        b"not found\n",
+    )
 }
 
 fn not_allowed(moment: Moment, response: &mut Response) -> Result<(), AllocError>
@@ -166,7 +164,13 @@ fn misdirected(moment: Moment, response: &mut Response) -> Result<(), AllocError
 {
     let kind = HeaderValue::from_static("text/plain; charset=utf-8");
     let text = b"misdirected request\n";
-    fill(moment, response, StatusCode::MISDIRECTED_REQUEST, kind, text)
+    fill(
+        moment,
+        response,
+        StatusCode::MISDIRECTED_REQUEST,
+        kind,
+        text,
+    )
 }
 
 /// Answers requests from one status.

@@ -130,5 +130,12 @@ pub(crate) fn settle_house<B: PartsName, R: Abort + AllocGlobal + Wait>(
 {
     let room = Vec::<Worked<()>>::with_capacity(rt.alloc(), workers.len());
     let (desk, rounds) = house.into_parts();
-    settle_lent(rt, &mut InPlace, desk, rounds, workers, room.expect(rt, "memory"))
+    settle_lent(
+        rt,
+        &mut InPlace,
+        desk,
+        rounds,
+        workers,
+        room.expect(rt, "memory"),
+    )
 }

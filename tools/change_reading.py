@@ -93,7 +93,7 @@ def lines(old, new):
     if why:
         told = [f"a reload would be refused: {why}"]
     elif found:
-        told = ["a reload would be taken, unless more clients are connected than max_cons, or their sessions were guaranteed more than a rate"]
+        told = ["a reload would be taken, unless the sessions of connected clients were guaranteed more than a rate"]
     else:
         told = ["a reload would change nothing"]
     for key, before, after in settings(old, new):

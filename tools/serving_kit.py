@@ -239,12 +239,12 @@ class Server:
         same(note.endswith("configuration reloaded"), taken, note)
         return note
 
-    def ended(self):
-        """The octets issued, moved and given back, once it has ended by itself."""
+    def ended(self, status=0):
+        """The octets issued, moved and given back, once it has ended by itself, with a status."""
         until(lambda: self.process.poll() is not None, "the server's end")
         found = SETTLED.fullmatch(self.told())
         want(found, f"its output: {self.told()!r}, and noted {self.noted()[-2000:]!r}")
-        same(self.process.returncode, 0, "its status")
+        same(self.process.returncode, status, "its status")
         issued, moved, back = (int(it) for it in found.groups())
         same(issued, moved + back, "issued")
         return issued, moved, back

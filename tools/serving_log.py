@@ -2,6 +2,7 @@
 import fcntl
 import os
 import re
+import resource
 import select
 import subprocess
 import time
@@ -193,6 +194,63 @@ def a_transfer_log_that_is_moved():
         same(told, {("/a_b", 1000, "b", "o", "r", "ann", "127.0.0.1", "c"), ("/up", 7, "b", "i", "r", "ann", "127.0.0.1", "c")}, "the lines")
 
 
+def a_transfer_log_that_takes_nothing():
+    """Lines that are left at the end are counted in the last note, and the server ends with a fault after its settled line."""
+    with Server(sessions=0, root="folder", files={"f": b"x"}, stop=True, words=["--transfer-log", "/dev/full"]) as server:
+        client = Client(server)
+        for _ in range(3):
+            client.retrieve("f")
+        client.quit()
+        server.stop()
+        server.ended(status=1)
+        same(server.noted().splitlines()[-2:], ["[WARN ] lines of the transfer log dropped: 3", "ftpd: TransferLog"], "the last lines")
+
+
+def a_transfer_log_that_fills_its_disk():
+    """The line that has begun in a file that takes no more is begun anew, once that file is moved away."""
+    server = Server(sessions=0, root="folder", files={"f": b"x"}, stop=True, before='trap "" XFSZ', words=["--transfer-log", "xferlog"])
+    path, line = f"{server.place}/xferlog", "Thu Nov 26 15:04:45 2026 2 127.0.0.1 6 /a_b.txt b _ o r ann ftp 0 * c\n"
+    with open(path, "w", encoding="utf-8") as log:
+        log.write(line * 10_000)
+    most = len(line) * 10_000 + 100
+    with server:
+        resource.prlimit(server.process.pid, resource.RLIMIT_FSIZE, (most, resource.RLIM_INFINITY))
+        client = Client(server)
+        for _ in range(3):
+            client.retrieve("f")
+        until(lambda: os.path.getsize(path) == most, "a log that takes no more")
+        time.sleep(0.1)
+        os.rename(path, f"{path}.1")
+        until(lambda: os.path.exists(path) and os.path.getsize(path) > 100, "a new log")
+        client.quit()
+        server.stop()
+        server.ended()
+        with open(path, encoding="utf-8") as log:
+            same([it.path for it in xferlog_reading.read_text(log.read())], ["/f", "/f"], "its lines")
+        with open(f"{path}.1", encoding="utf-8") as log:
+            same(log.read().count("\n"), 10_001, "the whole lines of the old log")
+
+
+def a_stop_file_that_cannot_be_seen():
+    """A path at which nothing can be looked for any more is noted once, and the file is seen once it can."""
+    server = Server(sessions=0, words=["--stop-file", "signs/stop"])
+    folder = f"{server.place}/signs"
+    os.mkdir(folder)
+    note = '[WARN ] the file "signs/stop" cannot be examined: Not a directory (os error 20)\n'
+    with server:
+        os.rename(folder, f"{folder}.gone")
+        with open(folder, "w", encoding="utf-8"):
+            pass
+        until(lambda: note in server.noted(), "a note of it")
+        time.sleep(0.5)
+        same(server.noted().count(note), 1, "its notes")
+        os.remove(folder)
+        os.rename(f"{folder}.gone", folder)
+        with open(f"{folder}/stop", "w", encoding="utf-8"):
+            pass
+        server.ended()
+
+
 def transfers_have_their_amounts():
     """A note of a file has its user, its octets and its seconds, also if it was aborted."""
     with Server(sessions=0, root="folder", files={"f": b"abc", "big": 100_000_000}, stop=True, rates="session_down_rate = 100_000") as server:
@@ -255,7 +313,7 @@ def refusals_are_noted():
         client.says(None, "552 Storage is full")
         client.quit()
         server.ended()
-        same(server.notes_made()[2:4], ['the storage is full: user "ann"', 'received "/up"'], "the notes of an upload without room")
+        same(server.notes_made()[2:4], ['the storage is full: user "ann"', 'not received whole "/up": the store refused it at its end'], "the notes of an upload without room")
 
 
 def errors_of_the_machine_are_noted():
@@ -328,6 +386,9 @@ ROWS = [
     errors_of_the_machine_are_noted,
     each_transfer_has_one_line,
     a_transfer_log_that_is_moved,
+    a_transfer_log_that_takes_nothing,
+    a_transfer_log_that_fills_its_disk,
+    a_stop_file_that_cannot_be_seen,
     transfers_have_their_amounts,
     a_reader_that_stops_for_a_while,
     a_reader_that_stops_for_good,

@@ -75,14 +75,13 @@ def a_rate_is_halved_and_a_user_added():
 
 
 def what_is_refused_changes_nothing():
-    """A faulty file, a key that cannot change, fewer connections than there are, and a guarantee that would break: each is noted with its reason."""
+    """A faulty file, a key that cannot change, and a guarantee that would break: each is noted with its reason."""
     with served(users={"ann": "session_down_floor = 500000", "bob": ""}, stop=True) as server:
         ann, bob = Client(server), Client(server, "bob")
         good = server.text
         for text, reason in (
             ("version = 1\n[server]\nrot = 1\n", "rot: no such key"),
             (good.replace("lanes = 16", "lanes = 15"), "`lanes` cannot change while the server runs"),
-            (good.replace("sessions = 0", "sessions = 0\nmax_cons = 1"), "2 clients are connected"),
             (good.replace(f"rate = {RATE}", "rate = 400000"), "the sessions inside are promised 500000, and `rate` of the server would be 400000"),
         ):
             note = server.reloaded(text, taken=False)
@@ -93,6 +92,27 @@ def what_is_refused_changes_nothing():
             client.quit()
         server.stop()
         server.ended()
+
+
+def fewer_connections_than_there_are():
+    """A limit below what is connected, in all or from one address, is taken: nobody is cut, and nobody comes until enough have left."""
+    for key, reply in (("max_cons", "421 Too many connections"), ("max_cons_per_address", "421 Too many connections from this address")):
+        with served(stop=True) as server:
+            clients = [Client(server) for _ in range(3)]
+            server.reloaded(server.text.replace("sessions = 0", f"sessions = 0\n{key} = 2"))
+            for _ in range(2):
+                stranger = Client(server, name=None)
+                stranger.says(None, reply)
+                stranger.at_end()
+                stranger.close()
+                same(clients[-1].retrieve("f"), b"a\nb", "a client who was there")
+                clients.pop().quit()
+                until(lambda: server.noted().count("disconnect\n") >= 3 - len(clients), "one who has left")
+            Client(server).quit()
+            for client in clients:
+                client.quit()
+            server.stop()
+            server.ended()
 
 
 def each_fixed_key_is_refused_by_name():
@@ -131,6 +151,7 @@ def a_user_is_taken_out():
         reading.says("RETR f", "150 Opening data connection")
         server.reloaded(text_of(server, users={"ann": "", "robert": ""}))
         same(data.whole(), b"a\nb", "the file")
+        want("[WARN ] users that the new configuration has no longer: 1\n" in server.all_noted(), "a note of their number")
         reading.says(None, "226 Transfer complete", "421 User is not served any more")
         idle.says(None, "421 User is not served any more")
         for client in (reading, idle):
@@ -141,6 +162,29 @@ def a_user_is_taken_out():
         stranger.says("PASS secret", "530 Login incorrect")
         stranger.close()
         Client(server, "robert").quit()
+        server.stop()
+        server.ended()
+
+
+def who_is_taken_out_keeps_their_rates():
+    """A download that runs keeps the rate of its user and that of the group, which is gone too; put back, the user is the same, whose rate is one for both sessions."""
+    limits = {"ann": 'group = "staff"', "bob": 'down_rate = 100000', "cleo": ""}
+    group = '[[group]]\nname = "staff"\ndown_rate = 200000\n'
+    with served(rate=0, users=limits, more=group, stop=True) as server:
+        pairs = {name: begun(server, 1, name) for name in ("ann", "bob")}
+        both = pairs["ann"] + pairs["bob"]
+        moved_in(both, 1.5)
+        server.reloaded(text_of(server, 0, {"cleo": ""}))
+        moved_in(both, 1)
+        for name, rate in (("ann", 200_000), ("bob", 100_000)):
+            had = moved_in(pairs[name], 3)
+            want(had < 3 * rate * 1.1 + 131_072, f"{had} octets of {name} in three seconds, out of the file, under {rate}")
+        server.reloaded(text_of(server, 0, limits, group))
+        again = begun(server, 1, "bob")
+        moved_in(both + again, 1)
+        had = moved_in(pairs["bob"] + again, 3)
+        want(had < 3 * 100_000 * 1.1 + 131_072, f"{had} octets of both sessions in three seconds, back in the file")
+        closed(both + again)
         server.stop()
         server.ended()
 
@@ -209,8 +253,10 @@ def a_reload_and_then_a_drain():
 ROWS = [
     a_rate_is_halved_and_a_user_added,
     what_is_refused_changes_nothing,
+    fewer_connections_than_there_are,
     each_fixed_key_is_refused_by_name,
     a_user_is_taken_out,
+    who_is_taken_out_keeps_their_rates,
     who_sends_ahead_is_taken_out,
     sessions_keep_the_terms_of_their_login,
     ten_reloads_under_load,

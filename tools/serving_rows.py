@@ -66,7 +66,7 @@ def an_upload_that_brings_nothing():
 
             together(first, second)
             server.ended()
-            same(server.told(), "ready\nsettled issued 4 moved 3 back 1\n", "what it told")
+            same(server.told(), "ready\nsettled issued 65539 moved 3 back 65536\n", "what it told")
 
 
 def what_is_stored_comes_back():
@@ -182,7 +182,7 @@ def a_store_that_is_full():
         client.quit()
         server.ended()
         # (all of it came, and the store refused it at its end)
-        wanted = ['the storage is full: user "ann"', 'received "/g"', 'received "/g"', 'sent "/g"']
+        wanted = ['the storage is full: user "ann"', 'not received whole "/g": the store refused it at its end', 'received "/g"', 'sent "/g"']
         same(server.notes_made()[2:6], wanted, "the notes")
 
 

@@ -383,6 +383,29 @@ def a_status_that_cannot_be_written():
         server.ended()
 
 
+def a_path_of_another_file():
+    """One path for two files, a status where something else is, and a log that goes on with something else are refused at the start; nothing is changed."""
+    for words, reason, name in (
+        (["--status", "ftpd.toml"], "ftpd.toml is stated for two files: state a path of its own for each", "OnePath"),
+        (["--transfer-log", "link"], "ftpd.toml is stated for two files: state a path of its own for each", "OnePath"),
+        (["--stop-file", "gone", "--ready-file", "gone"], "gone is stated for two files: state a path of its own for each", "OnePath"),
+        (["--status", "text"], "text is no status of a server: move it away, or state another path", "StatusFile"),
+        (["--status", "/dev/null"], "/dev/null is no status of a server: move it away, or state another path", "StatusFile"),
+        (["--transfer-log", "text"], "text is no transfer log: move it away, or state another path", "TransferLog"),
+        (["--transfer-log", "pipe"], "pipe is no transfer log: move it away, or state another path", "TransferLog"),
+    ):
+        it = Server(words=words)
+        it.configure()
+        with open(f"{it.place}/text", "w", encoding="utf-8") as text:
+            text.write("version = 1\n")
+        os.link(f"{it.place}/ftpd.toml", f"{it.place}/link")
+        os.mkfifo(f"{it.place}/pipe")
+        same(it.run(), (1, "", f"{reason}\nftpd: {name}\n"), f"the end of {words}")
+        with open(f"{it.place}/text", encoding="utf-8") as text:
+            same(text.read(), "version = 1\n", "the text")
+        it.room.cleanup()
+
+
 def a_table_of_the_status():
     """`ftpd top --once` shows a transfer, its user and what holds it back."""
     with watched("rate = 100_000\nlanes = 2") as server:
@@ -404,4 +427,4 @@ def a_table_of_the_status():
         server.ended()
 
 
-ROWS = [a_status_file, what_holds_transfers_back, the_division_is_shown, a_status_page, a_status_that_cannot_be_written, a_table_of_the_status]
+ROWS = [a_status_file, what_holds_transfers_back, the_division_is_shown, a_status_page, a_status_that_cannot_be_written, a_path_of_another_file, a_table_of_the_status]

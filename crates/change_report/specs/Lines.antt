@@ -35,8 +35,8 @@ refused_line reason = codes "a reload would be refused: " ++ reason_text reason 
 abbrev pub taken_line : Bool → List ℕ
 taken_line true = codes "a reload would change nothing" ++ 10 ∷ []
 taken_line false =
-    codes "a reload would be taken, unless more clients are connected than max_cons, "
-    ++ codes "or their sessions were guaranteed more than a rate" ++ 10 ∷ []
+    codes "a reload would be taken, unless the sessions of connected clients "
+    ++ codes "were guaranteed more than a rate" ++ 10 ∷ []
 
 abbrev pub outcome_by : Option Reason → Bool → List ℕ
 outcome_by None same = taken_line same

@@ -44,7 +44,7 @@ fn write_taken(text: &mut String, is_unchanged: bool) -> Result<(), AllocError>
     } else {
         writeln!(
             text,
-            "a reload would be taken, unless more clients are connected than max_cons, or their sessions were guaranteed more than a rate"
+            "a reload would be taken, unless the sessions of connected clients were guaranteed more than a rate"
         )
     }
 }

@@ -1,4 +1,5 @@
 pub mod Fixed
 pub mod Named
+pub mod Past
 pub mod Renumbered
 pub mod Words

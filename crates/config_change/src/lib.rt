@@ -15,9 +15,13 @@
 mod fault;
 mod fixed;
 mod groups;
+mod known;
+mod past;
 mod renumber;
 mod rows;
 
 pub use fault::RenumberFault;
 pub use fixed::{CountFault, FixedKey, FixedValues, count_fault, fixed_key};
+pub use known::{NumberedName, known_names};
+pub use past::with_past;
 pub use renumber::renumbered;

@@ -61,7 +61,7 @@ home = "/"
 "#;
 
 const LINES: &str =
-    "a reload would be taken, unless more clients are connected than max_cons, or their sessions were guaranteed more than a rate
+    "a reload would be taken, unless the sessions of connected clients were guaranteed more than a rate
 banner: Ready becomes Hello
 permit_foreign_addresses: false becomes true
 masquerade_address: none becomes 1.2.3.4

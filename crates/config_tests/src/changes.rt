@@ -1,8 +1,11 @@
 //! Changes of a configuration that is read again.
 
 use crate::expect::{holds, same};
-use config_change::{CountFault, FixedValues, RenumberFault, count_fault, fixed_key, renumbered};
-use line_rates::{Name, Way};
+use config_change::{
+    CountFault, FixedValues, RenumberFault, count_fault, fixed_key, known_names, renumbered,
+    with_past,
+};
+use line_rates::{Limits, Name, UserRate, Way};
 use server_config::{Config, ServerNumbers};
 use std::process::Abort;
 
@@ -106,6 +109,70 @@ fn users_and_groups_keep_their_numbers(rt: HostRuntime) {
     same(&rt, &names.len(), &3);
     let third = names.get(2).expect(&rt, "a group");
     same(&rt, &third.as_str(), &"ship");
+}
+
+/// The rates of a user who has a guarantee.
+const GUARANTEED: UserRate = UserRate {
+    user: 1,
+    group: None,
+    down: 80,
+    up: 60,
+    session_down: 40,
+    session_up: 30,
+    session_down_floor: 20,
+    session_up_floor: 10,
+};
+
+#[test]
+fn users_of_the_past_keep_their_rates(rt: HostRuntime) {
+    let started = read(&rt, AT_START);
+    let again = renumbered(
+        rt.alloc(),
+        read(&rt, AGAIN),
+        &started.users,
+        &started.groups,
+    );
+    let again = again.expect(&rt, "numbers");
+    let limits = with_past(rt.alloc(), &again.limits, &started.limits).expect(&rt, "limits");
+    same(&rt, &limits.rate(Name::User(Way::Down, 0)), &41);
+    same(&rt, &limits.rate(Name::User(Way::Down, 1)), &80);
+    same(&rt, &limits.group_of(1), &Some(1));
+    same(&rt, &limits.rate(Name::Group(Way::Down, 1)), &800);
+    let mut rows = Vec::new(rt.alloc());
+    rows.push(GUARANTEED).expect(&rt, "memory");
+    let earlier = Limits::of(0, 0, 0, Vec::new(rt.alloc()), rows).expect(&rt, "limits");
+    let none = Limits::of(9, 0, 0, Vec::new(rt.alloc()), Vec::new(rt.alloc()));
+    let none = none.expect(&rt, "limits");
+    let limits = with_past(rt.alloc(), &none, &earlier).expect(&rt, "limits");
+    let row = limits.user_row(1).expect(&rt, "a row");
+    holds(
+        &rt,
+        row == UserRate {
+            session_down_floor: 0,
+            session_up_floor: 0,
+            ..GUARANTEED
+        },
+    );
+    same(&rt, &limits.rate(Name::Server), &9);
+}
+
+#[test]
+fn names_of_the_past_keep_their_numbers(rt: HostRuntime) {
+    let started = read(&rt, AT_START);
+    let known = known_names(rt.alloc(), &started.users, &[]).expect(&rt, "memory");
+    same(&rt, &known.len(), &2);
+    let again = renumbered(
+        rt.alloc(),
+        read(&rt, AGAIN),
+        &started.users,
+        &started.groups,
+    );
+    let again = again.expect(&rt, "numbers");
+    let known = known_names(rt.alloc(), &again.users, &known).expect(&rt, "memory");
+    same(&rt, &known.len(), &3);
+    let last = known.get(2).expect(&rt, "a name");
+    same(&rt, &last.name.as_str(), &"bob");
+    same(&rt, &last.number, &1);
 }
 
 const NUMBERS: ServerNumbers = ServerNumbers {

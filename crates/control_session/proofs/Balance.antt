@@ -113,7 +113,7 @@ module _ {H A S R K : Type 0} (Does : H → HostCall A S R K → H → Type 0) (
         same_has base old new before after (ap (λ (x : Situation K). x.session) same) (ap (λ (x : Situation K). x.owed) same) (one old new calls _ is chain) has
     move_has base old new before after calls (Declines given came taken next line same is) chain has =
         same_has base old new before after (ap (λ (x : Situation K). x.session) same) (ap (λ (x : Situation K). x.owed) same) (one old new calls _ is chain) has
-    move_has base old new before after calls (Asks event empty same (inl is)) chain has =
+    move_has base old new before after calls (Asks event empty same (inl (live, is))) chain has =
         same_has base old new before after (ap (λ (x : Situation K). x.session) same) (ap (λ (x : Situation K). x.owed) same) (one old new calls _ is chain) has
     move_has base old new before after calls (Asks event empty same (inr (gone, is))) chain has =
         same_has base old new before after (ap (λ (x : Situation K). x.session) same) (ap (λ (x : Situation K). x.owed) same) (one old new calls _ is chain) has

@@ -140,9 +140,9 @@ pub pick : (b : Bool) (P : Type 0) → (b ≡ true) ⊎ P → b ≡ false → P
 pick b P (inl is) other = absurd (false≢true (sym other ∙ is))
 pick b P (inr holds) other = holds
 
-pub first_to : {P Q R : Type 0} → (P → Q) → P ⊎ R → Q ⊎ R
-first_to to (inl p) = inl (to p)
-first_to to (inr r) = inr r
+pub second_to : {P Q R : Type 0} → (Q → R) → P ⊎ Q → P ⊎ R
+second_to to (inl p) = inl p
+second_to to (inr q) = inr (to q)
 
 pub stays_or : (a b r : Bool) → r ≡ (a || b) → a ≡ true → r ≡ true
 stays_or a b r is same = is ∙ ap (λ (x : Bool). x || b) same
@@ -150,10 +150,6 @@ stays_or a b r is same = is ∙ ap (λ (x : Bool). x || b) same
 pub over_by : (b : Bool) (P Q : Type 0) → (b ≡ true) ⊎ P → Q → (b ≡ true) ⊎ (Q × P)
 over_by b P Q (inl is) ended = inl is
 over_by b P Q (inr all) ended = inr (ended, all)
-
-pub both_ok : {T E : Type 0} (answer : Result T E) (P Q : Type 0) → P → OnOk answer Q → OnOk answer (P × Q)
-both_ok (Ok value) P Q first second = (first, second)
-both_ok (Err fault) P Q first second = tt
 
 pub any_ok : {T E : Type 0} (answer : Result T E) (P : Type 0) → P → OnOk answer P
 any_ok (Ok value) P holds = holds

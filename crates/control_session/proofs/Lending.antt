@@ -2,7 +2,7 @@
 use Rattle.std.proofs.Common.{◌≡◌, Option, Some, None, Result, Ok, Err, sym, subst}
 use Rattle.std.specs.Option.{IfSome}
 use Rattle.std.specs.Result.{IfErr, IfOk, OnErr}
-use Rattle.session_core.specs.declared.events.DataEvent.{DataEvent}
+use Rattle.session_table.specs.declared.inputs.Input.{Input}
 use Rattle.control_session.specs.declared.no_step.NoStep.{NoStep}
 use Rattle.control_session.specs.declared.no_step.NoStep.TheVariants.{NoMemory}
 
@@ -19,13 +19,13 @@ lend_err (Some x) (Ok v) U P Q also same holds = tt
 lend_err (Some x) (Err e) U P Q also same holds = also x same holds
 
 -- a step for which memory ran out, with the event that is given back
-pub lend_refused : {X T K : Type 0} (input : Option X) (result : Result T (NoStep K)) (U : Type 0) (P : X → Type 0) (event : X → Option (DataEvent K)) (Q : X → NoStep K → Type 0)
+pub lend_refused : {A X T K : Type 0} (input : Option X) (result : Result T (NoStep A K)) (U : Type 0) (P : X → Type 0) (event : X → Option (Input A K)) (Q : X → NoStep A K → Type 0)
     → ((x : X) → U → P x → Q x (NoMemory (event x)))
     → OnErr result U → IfSome input (λ x. OnErr result (P x)) → IfSome input (λ x. IfErr result (λ why. why ≡ NoMemory (event x)))
     → IfSome input (λ x. IfErr result (λ why. Q x why))
 lend_refused None result U P event Q also same holds is = tt
 lend_refused (Some x) (Ok v) U P event Q also same holds is = tt
-lend_refused (Some x) (Err why) U P event Q also same holds is = subst (λ (w : NoStep _). Q x w) (sym is) (also x same holds)
+lend_refused (Some x) (Err why) U P event Q also same holds is = subst (λ (w : NoStep _ _). Q x w) (sym is) (also x same holds)
 
 pub lend_why : {X T E : Type 0} (input : Option X) (result : Result T E) (P Q : X → E → Type 0) → ((x : X) (e : E) → P x e → Q x e)
     → IfSome input (λ x. IfErr result (λ e. P x e)) → IfSome input (λ x. IfErr result (λ e. Q x e))

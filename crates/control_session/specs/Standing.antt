@@ -1,11 +1,10 @@
 -- The situation of a control session, from the values that it owns.
 use Rattle.std.specs.Prelude.{ℕ, ◌≡◌, List, [], ◌∷◌, true, Option, Some, None}
 use Rattle.authorizer.specs.Users.{Users}
-use Rattle.control_session.specs.Sides.{Given}
+use Rattle.control_session.specs.Sides.{Given, SideEvent, came_of}
 use Rattle.control_session.specs.Sides.SideCall.{Settles}
 use Rattle.ftp_wire.specs.Items.{Item}
 use Rattle.rate_floors.specs.Promises.{Promises}
-use Rattle.session_core.specs.declared.events.DataEvent.{DataEvent}
 use Rattle.session_events.specs.declared.closing.Leaving.{Leaving}
 use Rattle.session_events.specs.declared.closing.LoggedOut.{LoggedOut}
 use Rattle.session_table.specs.Steps.{Standing}
@@ -19,7 +18,8 @@ use Rattle.control_session.specs.declared.talk.Talk.{Talk}
 
 -- no floor is owed
 abbrev pub stand : {A K : Type 0} → Talk A K → List Item → Heard → Situation K
-stand talk taken heard = at talk.session talk.came taken heard [] talk.closed talk.lost
+stand talk taken heard =
+    at talk.session (came_of talk.came) taken heard [] talk.closed talk.lost
 
 -- all lines found in the octets heard were taken
 abbrev pub AllTaken : List Item → Heard → Type 0
@@ -52,7 +52,7 @@ pub record Closing {H A S R K : Type 0}
   pub mid' : H
   pub session : Standing
   pub owes : List ℕ
-  pub event : Option (DataEvent K)
+  pub event : Option (SideEvent K)
   pub first : Went Row Does host before mid
       (at session None before.taken before.heard owes before.closed before.lost)
   pub closed_then : is_closed session.view.stage ≡ true

@@ -1,7 +1,7 @@
 -- The moves of a control session, one after another, with the calls of the host for each.
 use Rattle.std.specs.Prelude.{ℕ, ◌≡◌, ◌≢◌, ◌⊎◌, ◌+◌, ◌<◌, ◌≤◌, ◌||◌, List, [], ◌∷◌, ◌++◌, Bool, false, true, length, map, Option, Some, None}
 use Rattle.authorizer.specs.Users.{Users}
-use Rattle.control_session.specs.Sides.{Given, is_line}
+use Rattle.control_session.specs.Sides.{Given, SideEvent, is_line}
 use Rattle.control_session.specs.Sides.Given.{Line, Held, Came, Closed}
 use Rattle.control_session.specs.Sides.SideCall.{Opens, Connects, Drops, Starts, Aborts, Looks, Settles}
 use Rattle.control_session.specs.Reported.{closes}
@@ -9,13 +9,13 @@ use Rattle.ftp_reply.specs.Replies.{reply_text}
 use Rattle.ftp_wire.specs.Items.{Item}
 use Rattle.handler_hooks.specs.Events.{event_of}
 use Rattle.rate_floors.specs.Promises.{Promises}
-use Rattle.session_core.specs.declared.events.DataEvent.{DataEvent}
 use Rattle.session_table.specs.Laws.{releases}
 use Rattle.session_table.specs.Steps.{Standing, is_due}
 use Rattle.session_table.specs.Answers.{answer_form}
 use Rattle.session_table.specs.Views.{is_closed}
 use Rattle.session_table.specs.declared.actions.Action.{Action}
 use Rattle.session_table.specs.declared.actions.Action.TheVariants.{Say, Hook, OpenPassive, ConnectTo, DropData, Start, Abort, CloseControl, ReleaseFloor}
+use Rattle.session_table.specs.declared.inputs.Input.{Input}
 use Rattle.control_session.specs.Calls.{HostCall, Chain}
 use Rattle.control_session.specs.Rows.{Outcome}
 use Rattle.control_session.specs.Rows.Outcome.{Made, Stopped}
@@ -53,14 +53,14 @@ behind Closed heard = heard
 -- if any.
 pub record Situation (K : Type 0) : Type 0 where
   pub session : Standing
-  pub came : Option (DataEvent K)
+  pub came : Option (SideEvent K)
   pub taken : List Item
   pub heard : Heard
   pub owed : List ℕ
   pub closed : Bool
   pub lost : Option TurnFault
 
-abbrev pub at : {K : Type 0} → Standing → Option (DataEvent K) → List Item → Heard → List ℕ → Bool
+abbrev pub at : {K : Type 0} → Standing → Option (SideEvent K) → List Item → Heard → List ℕ → Bool
     → Option TurnFault → Situation K
 at session came taken heard owed closed lost =
     record {
@@ -85,7 +85,7 @@ IsIdle now = (now.came ≡ None) × (now.heard.asked ≡ true) × (due now.sessi
 -- the event of the data side; a held line that is due, if the data side was asked and had no event;
 -- the next line of those heard, if nothing is left to do; Closed at any time. Once the control
 -- connection is to be closed, no line comes any more.
-abbrev pub Next : {K : Type 0} → Situation K → Given K → Option (DataEvent K) → List Item → Type 0
+abbrev pub Next : {K : Type 0} → Situation K → Given K → Option (SideEvent K) → List Item → Type 0
 Next now (Came event) came taken = (now.came ≡ Some event) × (came ≡ None) × (taken ≡ now.taken)
 Next now Held came taken =
     (now.came ≡ None) × (now.heard.asked ≡ true) × (due now.session ≡ true)
@@ -157,7 +157,7 @@ module _ {A S R K : Type 0}
   -- a step was not made: memory ran out for it and its event was given back, or the host ended the
   -- session in the place of a step for a line
   abbrev pub StepRefused : {H : Type 0} → (H → HostCall A S R K → H → Type 0) → H → Standing
-      → Given K → Option (DataEvent K) → NoStep K → H → Type 0
+      → Given K → Option (Input A K) → NoStep A K → H → Type 0
   StepRefused Does old session given event (NoMemory back) new =
       StepTried Does old session given new × (back ≡ event)
   StepRefused Does old session given event Over new =
@@ -193,23 +193,23 @@ module _ {A S R K : Type 0}
     Takes : IsTurn before calls after → Move before calls after
     -- there was no memory for the step of the next input: a session that ends well has no such move
     Tries : (given : Given K) (moment : ℕ) (users : Users) (store store' : S) (promises : Promises)
-        (came : Option (DataEvent K)) (taken : List Item) → Next before given came taken
+        (came : Option (SideEvent K)) (taken : List Item) → Next before given came taken
         → Row users before.session given moment store store' promises Stopped
         → after ≡ record before { lost = Some Memory }
         → calls ≡ Tried before.session moment users store store' promises ∷ []
         → Move before calls after
     -- in the place of a step for a line that may come next, the host ended the session: no line is
     -- taken any more
-    Declines : (given : Given K) (came : Option (DataEvent K)) (taken : List Item)
+    Declines : (given : Given K) (came : Option (SideEvent K)) (taken : List Item)
         → Next before given came taken → is_line given ≡ true
         → after ≡ record before { closed = true }
         → calls ≡ Declined ∷ []
         → Move before calls after
-    -- the data side was asked for an event; for the end of a transfer that still runs only once the
-    -- session is closed
-    Asks : (event : Option (DataEvent K)) → before.came ≡ None
+    -- the data side was asked for an event, which it is not once the control connection is to be
+    -- closed; for the end of a transfer that still runs it is asked only once the session is closed
+    Asks : (event : Option (SideEvent K)) → before.came ≡ None
         → after ≡ record before { came = event; heard = asked_as true before.heard }
-        → (calls ≡ Asked (Looks event) ∷ [])
+        → ((before.closed ≡ false) × (calls ≡ Asked (Looks event) ∷ []))
         ⊎ ((is_closed before.session.view.stage ≡ true) × (calls ≡ Asked (Settles event) ∷ []))
         → Move before calls after
     -- with nothing left to do, something was read, and these lines were found; nothing is read

@@ -1,14 +1,14 @@
 -- The results of a step that was not made.
 use Rattle.std.specs.Prelude.{ℕ, ◌≡◌, ◌+◌, Bool, true, cond, List, length, Option, Some}
-use Rattle.session_core.specs.declared.events.DataEvent.{DataEvent}
 use Rattle.control_session.specs.declared.no_step.NoStep.{NoStep}
 use Rattle.control_session.specs.declared.no_step.NoStep.TheVariants.{NoMemory, Over}
 use Rattle.control_session.specs.declared.turn_fault.TurnFault.{TurnFault}
 use Rattle.control_session.specs.declared.turn_fault.TurnFault.TheVariants.{Memory}
+use Rattle.session_table.specs.declared.inputs.Input.{Input}
 
 -- the event of the data side, whether the control connection is to be closed, and the fault
-abbrev pub LeftBy : {K : Type 0} → NoStep K → Option (DataEvent K) → Bool → Option TurnFault
-    → Option (DataEvent K) → Bool → Option TurnFault → Type 0
+abbrev pub LeftBy : {A K : Type 0} → NoStep A K → Option (Input A K) → Bool → Option TurnFault
+    → Option (Input A K) → Bool → Option TurnFault → Type 0
 LeftBy (NoMemory back) came closed lost came' closed' lost' =
     (came' ≡ back) × (closed' ≡ closed) × (lost' ≡ Some Memory)
 LeftBy Over came closed lost came' closed' lost' =

@@ -3,6 +3,7 @@
 ghost use Rattle.std.specs.Prelude.{◌≡◌, [], Bool, List, None, Option, true, ℕ};
 ghost use Rattle.control_session.specs.Calls.{Chain, HostCall};
 ghost use Rattle.control_session.specs.Rows.{IsRow};
+ghost use Rattle.control_session.specs.Sides.{came_of};
 ghost use Rattle.control_session.specs.Standing.{Closing, owed, owed_by, owed_in, stand};
 ghost use Rattle.control_session.specs.Turns.{Carries, Heard, Went, asked_as, at, release_calls};
 ghost use Rattle.control_session.specs.declared.turn_fault.TurnFault.{TurnFault};
@@ -10,10 +11,11 @@ ghost use Rattle.ftp_wire.specs.Items.{Item};
 ghost use Rattle.session_events.specs.Leaving.{abort_actions, leaving_by, logout_actions};
 ghost use Rattle.session_table.specs.Views.{is_closed};
 
+use crate::actions::only_event;
 use crate::host::Host;
 use crate::talk::Talk;
-use session_core::{DataEvent, Leaving, LoggedOut, Session};
-use session_table::{HookCall, Text};
+use session_core::{Leaving, LoggedOut, Session};
+use session_table::{HookCall, Input, Text};
 use std::alloc::Allocator;
 use std::mem;
 
@@ -67,17 +69,17 @@ fn leave<A: Allocator + Clone, H: Host<A>>(host: &mut H, leaving: Option<Leaving
 fn end<A: Allocator + Clone, H: Host<A>>(
     host: &mut H,
     session: &mut Session<A>,
-    came: Option<DataEvent<H::Sink>>,
+    came: Option<Input<A, H::Sink>>,
 )
     requires closed { is_closed session.old.view.stage ≡ true }
     ensures closed { is_closed session.new.view.stage ≡ true }
     ensures went { (taken : List Item) (heard : Heard) (owed : List ℕ) (closed : Bool)
         (lost : Option TurnFault)
         → Went (IsRow {A = A} {R = H.Source} H.Step) H.Does
-        host.old (at session.old came taken heard owed closed lost)
+        host.old (at session.old (came_of came) taken heard owed closed lost)
         host.new (at session.new None taken heard owed closed lost) }
 {
-    if let Some(event) = came {
+    if let Some(event) = only_event(came) {
         host.end(session, &mut Some(event));
     }
 }

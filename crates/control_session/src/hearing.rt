@@ -38,8 +38,8 @@ fn hear<A: Allocator + Clone, H: Host<A>>(
         × (IsErrOf result ControlFault.ReadFault → heard'.failed ≡ true)
         × IfOk result (λ ended. (heard'.ended ≡ ended)
         × HasRead heard'.octets heard'.items lines.new
-        × ((talk.new.closed ≡ true) ⊎ AllTaken last heard')
-        × ((ended ≡ true) ⊎ (heard'.asked ≡ true)))
+        × ((talk.new.closed ≡ true)
+        ⊎ (AllTaken last heard' × ((ended ≡ true) ⊎ (heard'.asked ≡ true)))))
         × OnErr result ((fed unfed : List ℕ) × (heard'.octets ≡ fed ++ unfed)
         × HasRead fed heard'.items lines.new) }
     ensures none { OnOk result (talk.new.came ≡ None) }
@@ -78,6 +78,7 @@ pub(crate) fn converse<A: Allocator + Clone, H: Host<A>>(
 ) -> Result<(), ControlFault>
     requires room { 0 < length buffer.old }
     requires none { talk.old.came ≡ None }
+    requires live { talk.old.closed ≡ false }
     requires start { HasRead [] [] lines.old }
     ensures went { (last : List Item) × (heard : Heard)
         × Went (WhileOpen (IsRow {A = A} {R = H.Source} H.Step)) H.Does

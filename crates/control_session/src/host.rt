@@ -5,8 +5,8 @@ ghost use Rattle.control_session.specs.Calls.{HostCall, read_call, reads_within,
 ghost use Rattle.control_session.specs.Calls.HostCall.{Asked, Noted, Released};
 ghost use Rattle.control_session.specs.Rows.{IsRow};
 ghost use Rattle.control_session.specs.Turns.{StepRefused, Stepped};
-ghost use Rattle.control_session.specs.Sides.{event_in, given_of};
-ghost use Rattle.control_session.specs.Sides.Given.{Came, Closed};
+ghost use Rattle.control_session.specs.Sides.{OnlyEvents, back_in, came_of, given_of};
+ghost use Rattle.control_session.specs.Sides.Given.{Closed};
 ghost use Rattle.control_session.specs.Sides.SideCall.{Aborts, Connects, Drops, Looks, Opens, Settles, Starts};
 ghost use Rattle.handler_hooks.specs.Events.{event_of};
 ghost use Rattle.session_events.specs.Leaving.{leaving_by};
@@ -14,7 +14,7 @@ ghost use Rattle.session_table.specs.Views.{is_closed};
 
 use crate::no_step::NoStep;
 use ftp_wire::HostPort;
-use session_core::{DataEvent, Leaving, Session};
+use session_core::{Leaving, Session};
 use session_table::{Action, HookCall, Input, Job, Text};
 use std::alloc::Allocator;
 use std::io;
@@ -66,14 +66,14 @@ pub trait Host<A: Allocator + Clone> {
         &mut self,
         session: &mut Session<A>,
         input: &mut Option<Input<A, Self::Sink>>,
-    ) -> Result<Vec<Action<A, Self::Source, Self::Sink>, A>, NoStep<Self::Sink>>
+    ) -> Result<Vec<Action<A, Self::Source, Self::Sink>, A>, NoStep<A, Self::Sink>>
         ensures row { IfSome input.old (λ input. IfOk result (λ actions.
             Stepped (IsRow Step) Does
             self.old session.old (given_of input) session.new actions.items self.new)) }
         ensures unchanged { OnErr result (session.new ≡ session.old) }
         ensures refused { IfSome input.old (λ input. IfErr result (λ why.
             StepRefused (IsRow Step) Does
-            self.old session.old (given_of input) (event_in input) why self.new)) };
+            self.old session.old (given_of input) (back_in input) why self.new)) };
 
     /// Lends them for the end of the control connection.
     fn close(
@@ -87,10 +87,11 @@ pub trait Host<A: Allocator + Clone> {
         ensures closed { is_closed session.new.view.stage ≡ true };
 
     /// Lends them for an event of the data side after that.
-    fn end(&mut self, session: &mut Session<A>, event: &mut Option<DataEvent<Self::Sink>>)
+    fn end(&mut self, session: &mut Session<A>, event: &mut Option<Input<A, Self::Sink>>)
         requires closed { is_closed session.old.view.stage ≡ true }
+        requires event { OnlyEvents event.old }
         ensures row { IfSome event.old (λ event. Stepped (IsRow Step) Does
-            self.old session.old (Came event) session.new [] self.new) }
+            self.old session.old (given_of event) session.new [] self.new) }
         ensures closed { is_closed session.new.view.stage ≡ true };
 
     /// Releases the guaranteed rate of the user with this number.
@@ -127,9 +128,9 @@ pub trait Host<A: Allocator + Clone> {
     fn abort(&mut self)
         ensures { Does self.old (Asked Aborts) self.new };
 
-    fn look(&mut self) -> Option<DataEvent<Self::Sink>>
-        ensures { Does self.old (Asked (Looks result)) self.new };
+    fn look(&mut self) -> Option<Input<A, Self::Sink>>
+        ensures { Does self.old (Asked (Looks (came_of result))) self.new };
 
-    fn settle(&mut self) -> Option<DataEvent<Self::Sink>>
-        ensures { Does self.old (Asked (Settles result)) self.new };
+    fn settle(&mut self) -> Option<Input<A, Self::Sink>>
+        ensures { Does self.old (Asked (Settles (came_of result))) self.new };
 }

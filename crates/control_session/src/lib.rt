@@ -30,6 +30,6 @@ pub use host::{Host, Piece};
 pub use lent_step::{close_by, end_by, step_by};
 pub use no_step::NoStep;
 pub use session::run_control;
-pub use session_core::{DataEvent, Leaving, Session};
+pub use session_core::{Leaving, Session};
 pub use side::{DataSide, Moments};
 pub use turn_fault::TurnFault;

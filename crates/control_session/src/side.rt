@@ -1,12 +1,11 @@
 //! A clock, and the side that opens data connections.
 
 ghost use Rattle.std.specs.Prelude.{ℕ, IfSome};
-ghost use Rattle.control_session.specs.Sides.{SideCall};
+ghost use Rattle.control_session.specs.Sides.{SideCall, came_of};
 ghost use Rattle.control_session.specs.Sides.SideCall.{Opens, Connects, Drops, Starts, Aborts, Looks, Settles};
 
 use ftp_wire::HostPort;
-use session_core::DataEvent;
-use session_table::Job;
+use session_table::{Input, Job};
 use std::alloc::Allocator;
 
 /// A clock.
@@ -50,11 +49,11 @@ pub trait DataSide<A: Allocator, R, K> {
     fn abort(&mut self)
         ensures { Asks self.old Aborts self.new };
 
-    /// Returns the next event: a port, the end of a transfer, or None. It does not wait.
-    fn look(&mut self) -> Option<DataEvent<K>>
-        ensures { Asks self.old (Looks result) self.new };
+    /// Returns the next event: `DataReady`, `TransferEnded`, or None. It does not wait. Any other input counts as None.
+    fn look(&mut self) -> Option<Input<A, K>>
+        ensures { Asks self.old (Looks (came_of result)) self.new };
 
     /// Waits for the end of a running transfer, and returns it; None if no transfer runs.
-    fn settle(&mut self) -> Option<DataEvent<K>>
-        ensures { Asks self.old (Settles result) self.new };
+    fn settle(&mut self) -> Option<Input<A, K>>
+        ensures { Asks self.old (Settles (came_of result)) self.new };
 }

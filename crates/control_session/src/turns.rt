@@ -1,40 +1,27 @@
 //! The turns of a control session.
 
-ghost use Rattle.std.specs.Prelude.{◌≡◌, ◌≤◌, ◌⊎◌, ◌++◌, ◌||◌, [], ◌∷◌, Bool, IfErr, List, MatchOption, None, OnOk, Option, Some, false, length, true};
+ghost use Rattle.std.specs.Prelude.{◌≡◌, ◌≤◌, ◌<◌, ◌⊎◌, ◌++◌, ◌||◌, [], ◌∷◌, Bool, IfErr, List, MatchOption, None, OnOk, Option, Some, false, length, true};
 ghost use Rattle.std.specs.Vec.Iter.{into_iter_items};
 ghost use Rattle.control_session.specs.Rows.{IsRow};
 ghost use Rattle.control_session.specs.Standing.{AllTaken, IsLost, stand};
 ghost use Rattle.control_session.specs.Turns.{Heard, HoldsFewer, Next, Went, WhileOpen, asked_as, at, behind, due};
-ghost use Rattle.control_session.specs.Unmade.{LeftBy, open_held};
-ghost use Rattle.control_session.specs.Sides.{given_of};
+ghost use Rattle.control_session.specs.Unmade.{LeftBy};
+ghost use Rattle.control_session.specs.Sides.{SideEvent, came_of, given_of};
 ghost use Rattle.ftp_wire.specs.Items.{Item};
 ghost use Rattle.ftp_wire.specs.Reading.{item_of, items_of};
-ghost use Rattle.session_core.specs.Events.{input_of};
-ghost use Rattle.session_core.specs.declared.events.DataEvent.{DataEvent};
 ghost use Rattle.control_session.specs.Sides.Given.{Closed};
 ghost use Rattle.std.specs.Prelude.{◌≢◌};
 
-use crate::actions::closes;
+use crate::actions::{closes, only_event};
 use crate::carrying::carry_out;
 use crate::host::Host;
 use crate::no_step::NoStep;
 use crate::talk::Talk;
 use crate::turn_fault::TurnFault;
 use ftp_wire::LineItem;
-use session_core::DataEvent;
 use session_table::Input;
 use std::alloc::Allocator;
 use std::vec::IntoIter;
-
-/// Converts an event of the data side into an input.
-fn as_input<A: Allocator, K>(event: DataEvent<K>) -> Input<A, K>
-    ensures input { result ≡ input_of event }
-{
-    match event {
-        DataEvent::Ready(port) => Input::DataReady(port),
-        DataEvent::Ended { end, sink } => Input::TransferEnded { end, sink },
-    }
-}
 
 fn either(first: bool, second: bool) -> bool
     ensures { result ≡ (first || second) }
@@ -54,7 +41,7 @@ fn ended(lost: Option<TurnFault>) -> Result<(), TurnFault>
 }
 
 /// Takes over what a step leaves that was not made.
-fn unmade<A: Allocator, K: Drop>(talk: &mut Talk<A, K>, why: NoStep<K>) -> Result<(), TurnFault>
+fn unmade<A: Allocator, K: Drop>(talk: &mut Talk<A, K>, why: NoStep<A, K>) -> Result<(), TurnFault>
     ensures session { talk.new.session ≡ talk.old.session }
     ensures left { LeftBy why talk.old.came talk.old.closed talk.old.lost
         talk.new.came talk.new.closed talk.new.lost }
@@ -92,10 +79,10 @@ pub(crate) fn turn<A: Allocator + Clone, H: Host<A>>(
     input: Input<A, H::Sink>,
 ) -> Result<(), TurnFault>
     requires live { given_of input ≢ Closed }
-    ensures went { (came : Option (DataEvent H.Sink)) (taken : List Item) (heard : Heard)
+    ensures went { (came : Option (SideEvent H.Sink)) (taken : List Item) (heard : Heard)
         (taken' : List Item)
         → Next (at talk.old.session came taken heard [] talk.old.closed talk.old.lost)
-        (given_of input) talk.old.came taken'
+        (given_of input) (came_of talk.old.came) taken'
         → (last : List Item) × (heard' : Heard)
         × Went (WhileOpen (IsRow {A = A} {R = H.Source} H.Step)) H.Does
         host.old (at talk.old.session came taken heard [] talk.old.closed talk.old.lost)
@@ -119,7 +106,8 @@ pub(crate) fn turn<A: Allocator + Clone, H: Host<A>>(
     ended(talk.lost)
 }
 
-/// Takes the next event of the data side, if any. It does not wait.
+/// Takes the next event of the data side, if any. It does not wait. Nothing is asked of the data side once the control
+/// connection is to be closed.
 pub(crate) fn look<A: Allocator + Clone, H: Host<A>>(
     alloc: &A,
     host: &mut H,
@@ -127,6 +115,7 @@ pub(crate) fn look<A: Allocator + Clone, H: Host<A>>(
 ) -> Result<(), TurnFault>
     requires none { talk.old.came ≡ None }
     requires whole { talk.old.lost ≡ None }
+    requires live { talk.old.closed ≡ false }
     ensures went { (taken : List Item) (heard : Heard)
         → Went (WhileOpen (IsRow {A = A} {R = H.Source} H.Step)) H.Does
         host.old (stand talk.old taken heard)
@@ -138,13 +127,42 @@ pub(crate) fn look<A: Allocator + Clone, H: Host<A>>(
         ⊎ (length talk.new.session.held ≤ length talk.old.session.held)) }
     ensures lost { IfErr result (IsLost talk.new.lost) }
 {
-    match host.look() {
+    match only_event(host.look()) {
         None => Ok(()),
-        Some(event) => turn(alloc, host, talk, as_input(event)),
+        Some(event) => turn(alloc, host, talk, event),
     }
 }
 
-/// Takes the next event of the data side and each held line that is due, with the events after it.
+/// Takes a held line that is due, and the next event of the data side after it, unless the control connection is to be
+/// closed.
+fn take_held<A: Allocator + Clone, H: Host<A>>(
+    alloc: &A,
+    host: &mut H,
+    talk: &mut Talk<A, H::Sink>,
+) -> Result<(), TurnFault>
+    requires none { talk.old.came ≡ None }
+    requires whole { talk.old.lost ≡ None }
+    requires live { talk.old.closed ≡ false }
+    requires due { due talk.old.session ≡ true }
+    ensures went { (taken : List Item) (heard : Heard) → heard.asked ≡ true
+        → (asked : Bool) × Went (WhileOpen (IsRow {A = A} {R = H.Source} H.Step)) H.Does
+        host.old (stand talk.old taken heard) host.new (stand talk.new taken (asked_as asked heard))
+        × OnOk result ((talk.new.closed ≡ true) ⊎ (asked ≡ true)) }
+    ensures none { OnOk result (talk.new.came ≡ None) }
+    ensures whole { OnOk result (talk.new.lost ≡ None) }
+    ensures held { OnOk result ((talk.new.closed ≡ true)
+        ⊎ (length talk.new.session.held < length talk.old.session.held)) }
+    ensures lost { IfErr result (IsLost talk.new.lost) }
+{
+    turn(alloc, host, talk, Input::Held)?;
+    if talk.closed {
+        return Ok(());
+    }
+    look(alloc, host, talk)
+}
+
+/// Takes the next event of the data side and each held line that is due, with the events after it. Nothing is asked of
+/// the data side once the control connection is to be closed.
 pub(crate) fn catch_up<A: Allocator + Clone, H: Host<A>>(
     alloc: &A,
     host: &mut H,
@@ -152,25 +170,24 @@ pub(crate) fn catch_up<A: Allocator + Clone, H: Host<A>>(
 ) -> Result<(), TurnFault>
     requires none { talk.old.came ≡ None }
     requires whole { talk.old.lost ≡ None }
+    requires live { talk.old.closed ≡ false }
     ensures went { (taken : List Item) (heard : Heard)
         → (asked : Bool) × Went (WhileOpen (IsRow {A = A} {R = H.Source} H.Step)) H.Does
         host.old (stand talk.old taken heard) host.new (stand talk.new taken (asked_as asked heard))
-        × OnOk result (asked ≡ true) }
+        × OnOk result ((talk.new.closed ≡ true) ⊎ (asked ≡ true)) }
     ensures none { OnOk result (talk.new.came ≡ None) }
     ensures whole { OnOk result (talk.new.lost ≡ None) }
-    ensures stays { talk.old.closed ≡ true → talk.new.closed ≡ true }
     ensures due { OnOk result ((talk.new.closed ≡ true) ⊎ (due talk.new.session ≡ false)) }
     ensures lost { IfErr result (IsLost talk.new.lost) }
 {
     look(alloc, host, talk)?;
     while takes_held(talk) {
-        turn(alloc, host, talk, Input::Held)?;
-        look(alloc, host, talk)?;
+        take_held(alloc, host, talk)?;
     }
     Ok(())
 }
 
-/// Takes a line, with the events and the held lines after it.
+/// Takes a line, with the events and the held lines after it, unless the control connection is to be closed.
 fn take_line<A: Allocator + Clone, H: Host<A>>(
     alloc: &A,
     host: &mut H,
@@ -186,14 +203,17 @@ fn take_line<A: Allocator + Clone, H: Host<A>>(
         → (last : List Item) × (asked : Bool)
         × Went (WhileOpen (IsRow {A = A} {R = H.Source} H.Step)) H.Does
         host.old (stand talk.old taken heard) host.new (stand talk.new last (asked_as asked heard))
-        × OnOk result (((talk.new.closed ≡ true) ⊎ (last ≡ taken ++ item_of item ∷ []))
-        × (asked ≡ true)) }
+        × OnOk result ((talk.new.closed ≡ true)
+        ⊎ ((last ≡ taken ++ item_of item ∷ []) × (asked ≡ true))) }
     ensures none { OnOk result (talk.new.came ≡ None) }
     ensures whole { OnOk result (talk.new.lost ≡ None) }
     ensures due { OnOk result ((talk.new.closed ≡ true) ⊎ (due talk.new.session ≡ false)) }
     ensures lost { IfErr result (IsLost talk.new.lost) }
 {
     turn(alloc, host, talk, Input::Line(item))?;
+    if talk.closed {
+        return Ok(());
+    }
     catch_up(alloc, host, talk)
 }
 
@@ -214,11 +234,12 @@ pub(crate) fn take_lines<A: Allocator + Clone, H: Host<A>>(
 ) -> Result<(), TurnFault>
     requires none { talk.old.came ≡ None }
     requires whole { talk.old.lost ≡ None }
+    requires live { talk.old.closed ≡ false }
     ensures went { (taken : List Item) (heard : Heard) → heard.items ≡ taken ++ items_of items.items
         → (last : List Item) × (asked : Bool)
         × Went (WhileOpen (IsRow {A = A} {R = H.Source} H.Step)) H.Does
         host.old (stand talk.old taken heard) host.new (stand talk.new last (asked_as asked heard))
-        × OnOk result ((asked ≡ true) × ((talk.new.closed ≡ true) ⊎ AllTaken last heard)) }
+        × OnOk result ((talk.new.closed ≡ true) ⊎ (AllTaken last heard × (asked ≡ true))) }
     ensures none { OnOk result (talk.new.came ≡ None) }
     ensures whole { OnOk result (talk.new.lost ≡ None) }
     ensures due { OnOk result ((talk.new.closed ≡ true) ⊎ (due talk.new.session ≡ false)) }

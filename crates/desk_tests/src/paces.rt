@@ -218,6 +218,7 @@ fn rounds_keep_the_rates_of_their_pace(rt: HostRuntime) {
     holds(&rt, !paced.rounds.is_open(Way::Down, 7, 61_999));
     holds(&rt, paced.rounds.is_open(Way::Down, 7, 62_000));
     holds(&rt, !paced.rounds.has_plenty(Way::Down, 7, 62_000)); // the server has a rate, and little left
+    holds(&rt, !paced.rounds.is_free(Way::Down, 7));
     holds(
         &rt,
         paced.rounds.due_for(Way::Down, 7, 4_000) == Due::At(62_000),

@@ -1,4 +1,5 @@
 pub mod Places
+pub mod RealMachine
 pub mod Rising
 pub mod Walking
 pub mod Names

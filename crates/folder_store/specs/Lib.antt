@@ -7,6 +7,7 @@ pub mod Ends
 pub mod Options
 pub mod EntryNames
 pub mod MachineCalls
+pub mod RealMachine
 pub mod Opening
 pub mod Moving
 pub mod Honest

@@ -43,7 +43,3 @@ Makes {M} Does old (call ∷ calls) new = (mid : M) × Does old call mid × Make
 abbrev pub names_read : List ℕ → Result ℕ Error → Result (List ℕ) Error
 names_read buffer (Ok count) = Ok (take count buffer)
 names_read buffer (Err error) = Err error
-
--- a machine whose files are left to it
-abbrev pub AnyMachineCall : {M F D : Type 0} → M → MachineCall F D → M → Type 0
-AnyMachineCall old call new = Unit {0}

@@ -76,6 +76,7 @@ fn names_count(count: usize, error: i32) -> io::Result<usize>
     ensures count { IfOk result (λ read. read ≡ count) }
     ensures whole { OnOk result ((error ≡ pos 0) ⊎ (error ≡ ENOENT)) }
     ensures refused { OnErr result ((error ≢ pos 0) × (error ≢ ENOENT)) }
+    ensures error { IfErr result (λ reason. raw_os_error reason ≡ Some error) }
 {
     if error == 0 || error == libc::ENOENT {
         Ok(count)
@@ -86,13 +87,13 @@ fn names_count(count: usize, error: i32) -> io::Result<usize>
 
 // (The bound names the type of files, since one alone is closed with a status.)
 impl<R: Files<File = File> + Alloc> FolderMachine for R {
-    ghost use Rattle.folder_store.specs.MachineCalls.{AnyMachineCall};
+    ghost use Rattle.folder_store.specs.RealMachine.{MachineShows};
 
     type File = File;
 
     type Directory = OpenDirectory;
 
-    ghost Does = { AnyMachineCall };
+    ghost Does = { MachineShows };
 
     fn open(&mut self, how: &OpenOptions, place: &str) -> io::Result<File> {
         how.open(self, place)

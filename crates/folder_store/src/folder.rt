@@ -14,6 +14,7 @@ ghost use Rattle.std.specs.declared.io.Error.{Error};
 ghost use Rattle.std.specs.declared.io.ErrorKind.TheVariants.{PermissionDenied};
 
 use crate::fault::MachineFault;
+use crate::leaving::LeaveSign;
 use crate::look::{fault_of, found, is_same, meta_of};
 use crate::looked::Looked;
 use crate::machine::FolderMachine;
@@ -30,6 +31,8 @@ pub(crate) struct Folder<M: FolderMachine + Drop> {
     pub path: String<M::A>,
     /// The machine has `/proc`: an open directory was found there by its number.
     pub has_proc: bool,
+    /// A sign that listings are to be left, if there is one.
+    pub leaves: Option<LeaveSign>,
 }
 
 /// The metadata of a directory or a file; anything else is not found.

@@ -139,8 +139,17 @@ impl<M: FolderMachine + Drop> Folder<M> {
         Ok(listed)
     }
 
+    /// Returns whether the listing is to be left.
+    fn is_left(&self) -> bool {
+        match &self.leaves {
+            Some(sign) => sign.is_given(),
+            None => false,
+        }
+    }
+
     /// An entry of an open directory, whose name is set in `room`. `None` if no path can name it, if it is neither a
-    /// directory nor a file, or if it is gone by now. Any other refusal by the machine is a fault of the device.
+    /// directory nor a file, or if it is gone by now. Any other refusal by the machine is a fault of the device, as is
+    /// that the listing is left.
     fn entry(
         &mut self,
         directory: &M::Directory,
@@ -154,6 +163,9 @@ impl<M: FolderMachine + Drop> Folder<M> {
         ensures shown { IfOk result (λ found. ShowsEntry M.Does self.old.machine directory.now
             (string_bytes name) (option_map entry_of found) self.new.machine) }
     {
+        if self.is_left() {
+            return Err(MachineFault::Device(io::Error::from(ErrorKind::Interrupted)));
+        }
         if !is_name(name.as_str()) {
             return Ok(None);
         }

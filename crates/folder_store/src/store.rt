@@ -7,6 +7,7 @@ ghost use Rattle.folder_store.specs.Refusals.{store_fault};
 use crate::count::FaultCount;
 use crate::fault::MachineFault;
 use crate::folder::Folder;
+use crate::leaving::LeaveSign;
 use crate::looked::LookedKind;
 use crate::machine::FolderMachine;
 use crate::open::{DirSink, DirSource, read_rest, write_new};
@@ -82,11 +83,21 @@ impl<M: FolderMachine + Drop> DirStore<M> {
                 machine,
                 path,
                 has_proc: false,
+                leaves: None,
             },
             faults: FaultCount { count: 0 },
             fault,
             syncs: false,
         })
+    }
+
+    /// The store, whose listings are left, with a fault of the device, once this sign is given.
+    pub fn left_by(self, sign: LeaveSign) -> DirStore<M>
+        ensures same { result ≡ self }
+    {
+        let mut store = self;
+        store.folder.leaves = Some(sign);
+        store
     }
 
     /// The store, and whether it has the octets of a file that was written put on the device before the file is closed. A

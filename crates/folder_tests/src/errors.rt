@@ -4,7 +4,7 @@ use crate::expect::{
     comes_out, comes_out_in, fresh_folder, holds, last_number, no_error, place_in, take_away,
 };
 use crate::racing_machine::{Act, DENIED, STALE, acting};
-use folder_store::{DirStore, FolderMachine, write_new};
+use folder_store::{DirStore, FolderMachine, LeaveSign, write_new};
 use last_fault::LastFault;
 use std::alloc::Global;
 use std::env::Env;
@@ -148,6 +148,23 @@ where
     );
 }
 
+/// A listing is left once the sign for that is given, and no other call is.
+fn check_left<R>(rt: &R, folder: &str)
+where
+    R: Abort + Files<File = File> + AllocGlobal + Copy + Drop,
+{
+    let root = VPath::root(rt.alloc());
+    let leaves = LeaveSign::new(rt.alloc()).expect(rt, "memory");
+    let sign = leaves.another().expect(rt, "memory");
+    let mut store = DirStore::new(*rt, folder, no_error(rt))
+        .expect(rt, folder)
+        .left_by(sign);
+    holds(rt, store.list(&root).is_ok() && !leaves.is_given());
+    leaves.give();
+    holds(rt, store.list(&root).err() == Some(StoreFault::Device));
+    holds(rt, store.stat(&root).is_ok());
+}
+
 /// A folder whose metadata the machine refuses: links that lead to each other.
 fn check_no_folder<R>(rt: &R, folder: &str)
 where
@@ -169,6 +186,7 @@ where
     let folder = fresh_folder(rt, "errors");
     check_refused(rt, folder.as_str());
     check_cut_in(rt, folder.as_str());
+    check_left(rt, folder.as_str());
     check_no_folder(rt, folder.as_str());
     take_away(rt, folder.as_str());
 }

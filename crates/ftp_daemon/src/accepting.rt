@@ -4,6 +4,7 @@ ghost use Rattle.std.specs.Prelude.{◌≡◌, ◌≢◌, ◌≤◌, ◌↔◌, 
 ghost use Rattle.std.specs.Thread.{IsSend, IsSync};
 ghost use Rattle.ftp_daemon.specs.Accepting.{is_reported, refusal};
 
+use client_door::{Arrival, ClientDoor, DoorBell};
 use event_word::{has_passed, micros};
 use lent_parts::PartsName;
 use passive_ports::AdmitFault;
@@ -15,7 +16,7 @@ use server_house::{
 use socket_host::serve_session;
 use std::alloc::Global;
 use std::io::{ErrorKind, Write};
-use std::net::{Shutdown, SocketAddr, TcpListener, TcpStream};
+use std::net::{Shutdown, SocketAddr, TcpStream};
 use std::sync::Wait;
 use std::thread::{Builder, Threads};
 use std::time::{Clock, Duration};
@@ -27,6 +28,9 @@ const STACK: usize = 262_144;
 
 /// The time for a client that is not admitted to read the reply, in milliseconds.
 const BRIEFLY: u64 = 50;
+
+/// The longest wait for a client, in milliseconds: the bell ends it, and a lost ring would cost no more.
+const LONGEST_WAIT: u16 = 2_000;
 
 /// The wait after a connection could not be accepted, in milliseconds.
 const PAUSE: u64 = 20;
@@ -187,11 +191,13 @@ where
     }
 }
 
-// Waits for the next connection. `None` if it is not admitted, or there is none.
+// Waits for the next connection, for a limited time, and not once the bell was rung. `None` if it is not admitted, or there
+// is none.
 fn next_client<R, S, H, B>(
     rt: &R,
     house: &House<S, H, B>,
-    listener: &TcpListener,
+    door: &ClientDoor,
+    bell: &DoorBell,
     reported: &mut Option<u64>,
 ) -> Option<ClientSession>
 where
@@ -200,14 +206,15 @@ where
     H: ServerHooks,
     B: PartsName,
 {
-    match listener.accept() {
-        Ok((stream, from)) => {
+    match door.next(bell, LONGEST_WAIT) {
+        Arrival::Bell | Arrival::Nobody => None,
+        Arrival::Client(stream, from) => {
             if house.ending.has_begun(ShutdownStage::Sessions) {
                 return None;
             }
             admit(rt, house, stream, from)
         }
-        Err(error) => {
+        Arrival::Fault(error) => {
             *reported = not_accepted(rt, house, error, *reported);
             None
         }
@@ -242,13 +249,14 @@ where
     house.registry.lock(rt).leave(session.number);
 }
 
-/// Accepts control connections until the wanted number of sessions has begun, or the sessions are to end; then stops
-/// listening. Returns once all sessions have ended.
+/// Accepts control connections until the wanted number of sessions has begun, or the bell is rung since
+/// the sessions are to end; then stops listening. Returns once all sessions have ended.
 pub(crate) fn accept_all<R, S, H, B, T>(
     rt: &R,
     house: &House<S, H, B>,
     runs: &T,
-    listener: TcpListener,
+    door: ClientDoor,
+    bell: &DoorBell,
 )
 where
     R: Threads + ServerRuntime + Copy + Send + Sync,
@@ -274,7 +282,7 @@ where
                 {
                     break;
                 }
-                match next_client(rt, house, &listener, &mut reported) {
+                match next_client(rt, house, &door, bell, &mut reported) {
                     Some(session) => {
                         let started = Builder::new()
                             .stack_size(STACK)
@@ -287,7 +295,7 @@ where
                     None => {}
                 }
             }
-            drop(listener);
+            drop(door);
         },
     );
 }

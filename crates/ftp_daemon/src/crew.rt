@@ -1,7 +1,8 @@
 //! The work of each thread of a server.
 
 use crate::server::Server;
-use crate::watching::{OwnerSigns, watch};
+use crate::watching::{OwnerSigns, watch, watch_end};
+use client_door::DoorBell;
 use lane_rounds::{RoundClock, keep_rounds, run_here, work_lane};
 use lent_parts::PartsName;
 use server_house::{House, OwnRuns, ServerHooks, ServerRuntime, ShutdownStage};
@@ -20,8 +21,9 @@ pub(crate) trait Crew {
     /// The thread of a lane.
     fn work(&self, lane: usize);
 
-    /// The thread that sees to the signs of the owner; it ends at once if there are none.
-    fn watch(&self);
+    /// The thread that sees to the signs of the owner; it ends at once if there are none. It rings the bell once the
+    /// sessions are to end.
+    fn watch(&self, bell: &DoorBell);
 
     /// Ends lanes and rounds: no session is left.
     fn end_lanes(&self);
@@ -46,16 +48,18 @@ where
     // Each lane takes a pass of its own; there is one for each.
     fn work(&self, lane: usize) {
         let pass = self.passes.lock(&self.rt).pop();
+        self.at_work.begin();
         match (self.engine.seats.seat(lane), pass) {
             (Some(seat), Some(pass)) => work_lane(&self.rt, &self.house, &self.engine, seat, pass),
             _ => {}
         }
+        self.at_work.end();
     }
 
-    fn watch(&self) {
-        match &self.signs {
-            Some(signs) => watch(&self.rt, &self.house, &self.engine, signs),
-            None => {}
+    fn watch(&self, bell: &DoorBell) {
+        if let Some(signs) = &self.signs {
+            watch(&self.rt, &self.house, &self.engine, signs, bell);
+            watch_end(&self.rt, &self.house, &self.engine, signs, &self.at_work);
         }
     }
 

@@ -4,12 +4,13 @@ ghost use Rattle.std.specs.Thread.{IsSend, IsSync};
 
 use crate::accepting::accept_all;
 use crate::crew::{Crew, HasHouse};
+use crate::listening::Entrance;
+use client_door::{ClientDoor, DoorBell};
 use ftpd_program::ServeFault;
 use lent_parts::PartsName;
 use recorded_store::Recorder;
 use server_house::{House, OwnRuns, ServerHooks, ServerRuntime};
 use std::alloc::Global;
-use std::net::TcpListener;
 use std::sync::Wait;
 use std::thread;
 use std::thread::{Builder, Threads};
@@ -27,7 +28,8 @@ fn serve_clients<R, S, H, B, T, W>(
     rt: &R,
     house: &House<S, H, B>,
     runs: &T,
-    listener: TcpListener,
+    door: ClientDoor,
+    bell: &DoorBell,
     writer: &mut W,
 ) -> Result<(), ServeFault>
 where
@@ -43,13 +45,13 @@ where
     if writer.write_text(READY).is_err() {
         return Err(ServeFault::WriteFault);
     }
-    accept_all(rt, house, runs, listener);
+    accept_all(rt, house, runs, door, bell);
     Ok(())
 }
 
 // Runs lanes and rounds, and checks for the stop sign, while clients are served. Returns once all threads have ended.
 // Nobody is served if one of these threads could not be started, or `ready` could not be written.
-fn run_threads<R, T, F>(rt: &R, crew: &T, clients: F) -> Result<(), ServeFault>
+fn run_threads<R, T, F>(rt: &R, crew: &T, bell: &DoorBell, clients: F) -> Result<(), ServeFault>
 where
     R: Threads + Wait,
     T: Crew + Sync,
@@ -76,7 +78,7 @@ where
             }
             let started = Builder::new()
                 .stack_size(STACK)
-                .spawn_scoped(scope, move || crew.watch());
+                .spawn_scoped(scope, move || crew.watch(bell));
             if started.is_err() {
                 all_work = false;
             }
@@ -91,11 +93,11 @@ where
     )
 }
 
-/// Runs lanes and rounds, and serves the clients of a listener with the parts that the crew works with.
+/// Runs lanes and rounds, and serves the clients of a door with the parts that the crew works with.
 pub(crate) fn serve_crew<R, S, H, B, T, W>(
     rt: &R,
     crew: &T,
-    listener: TcpListener,
+    entrance: Entrance,
     writer: &mut W,
 ) -> Result<(), ServeFault>
 where
@@ -109,12 +111,14 @@ where
     W: TextWriter,
 {
     let house = crew.house();
+    let Entrance { door, bell } = entrance;
     run_threads(
         rt,
         crew,
+        &bell,
         || -> Result<(), ServeFault>
             requires { IsSync R.row × IsSend R.row × IsSend S.row × IsSend S.Source.row
                 × IsSend S.Sink.row × IsSend H.row × IsSync T.row }
-        { serve_clients(rt, house, crew, listener, writer) },
+        { serve_clients(rt, house, crew, door, &bell, writer) },
     )
 }

@@ -3,24 +3,44 @@
 ghost use Rattle.std.specs.Prelude.{◌≡◌};
 ghost use Rattle.ftp_daemon.specs.Descriptors.{are_few};
 
+use client_door::{ClientDoor, DoorBell};
 use ftpd_program::ServeFault;
 use libc::types::rlimit;
 use server_config::ServerNumbers;
 use server_house::{OwnAddress, ServerEvent, ServerHooks, descriptors_for};
+use std::io;
 use std::net::{Net, TcpListener, TcpStream};
 
-/// Listens on the address and port of a server. Returns `Bind` if they cannot be bound; the handler is told the reason.
+/// The door that clients come in by, and the bell that ends the wait at it.
+#[derive(Drop)]
+pub(crate) struct Entrance {
+    pub(crate) door: ClientDoor,
+    pub(crate) bell: DoorBell,
+}
+
+// Opens the door at an address, with its bell. `Err` is the machine's reason.
+fn open<R>(rt: &R, address: OwnAddress) -> io::Result<Entrance>
+where
+    R: Net<Listener = TcpListener, Stream = TcpStream>,
+{
+    let bell = DoorBell::new()?;
+    let door = ClientDoor::open(rt, address.socket())?;
+    Ok(Entrance { door, bell })
+}
+
+/// Listens on the address and port of a server. Returns `Bind` if they cannot be bound, or the bell cannot be had; the
+/// handler is told the reason.
 pub(crate) fn listen_on<R, H>(
     rt: &R,
     numbers: &ServerNumbers,
     handler: &mut H,
-) -> Result<TcpListener, ServeFault>
+) -> Result<Entrance, ServeFault>
 where
     R: Net<Listener = TcpListener, Stream = TcpStream>,
     H: ServerHooks,
 {
-    match TcpListener::bind(rt, OwnAddress::of_server(numbers).socket()) {
-        Ok(listener) => Ok(listener),
+    match open(rt, OwnAddress::of_server(numbers)) {
+        Ok(entrance) => Ok(entrance),
         Err(error) => {
             handler.on_server(ServerEvent::NotBound(numbers.address, numbers.port, error));
             Err(ServeFault::Bind)

@@ -7,6 +7,7 @@ ghost use Rattle.lane_desk.specs.Seats.{desk_id};
 ghost use Rattle.lane_desk.specs.Posted.{AllAnswered};
 ghost use Rattle.lane_desk.specs.Traces.{back, traces, IsRoundOf};
 ghost use Rattle.lent_parts.specs.Rooms.{HasRoom};
+ghost use Rattle.passive_ports.specs.Connections.{none_admitted};
 ghost use Rattle.round_pace.specs.Earned.{tick_of};
 ghost use Rattle.round_pace.specs.Paced.{IsPacedFrom};
 ghost use Rattle.transfer_worker.specs.Boards.{AreNewPasses};
@@ -18,7 +19,7 @@ use lane_desk::{Desk, LaneSeat, RoundDesk, Worked, open_desk};
 use lane_rounds::RoundClock;
 use lent_parts::{LentPass, LentSeats, PartsName};
 use line_rates::Limits;
-use passive_ports::{PoolFault, Registry, RestingPorts};
+use passive_ports::{Admissions, ConnectionLimits, PoolFault, Registry, RestingPorts};
 use rate_floors::Floors;
 use round_cadence::Cadence;
 use round_pace::Pace;
@@ -110,13 +111,33 @@ pub(crate) fn new_cadence(alloc: Global, limits: &Limits) -> Result<Cadence, All
     Cadence::new(alloc, users.min(MOST_BEATS), groups.min(MOST_BEATS))
 }
 
+// The limits to connections that a configuration states.
+fn connection_limits(numbers: &ServerNumbers) -> ConnectionLimits
+    ensures limits { (result.max ≡ numbers.now.max_cons)
+        × (result.max_of_address ≡ numbers.now.max_cons_per_address) }
+{
+    ConnectionLimits {
+        max: usize::from(numbers.max_cons),
+        max_of_address: usize::from(numbers.max_cons_per_address),
+    }
+}
+
+// No connections, and these limits to them.
+fn admissions(alloc: Global, limits: ConnectionLimits) -> Result<Admissions, AllocError>
+    ensures none { IfOk result (λ a. (a.registry ≡ none_admitted limits.max limits.max_of_address)
+        × (a.limits ≡ limits)) }
+{
+    let registry = Registry::new(alloc, limits.max, limits.max_of_address)?;
+    Ok(Admissions { registry, limits })
+}
+
 /// The parts of a server that are allocated beside its line. They cannot be dropped.
 pub(crate) struct Allocated<S: Store<Global>, B: PartsName> {
     pub(crate) own_stores: Vec<Mutex<S>>,
     pub(crate) arrivals: Vec<Mutex<Option<TcpStream>>>,
     pub(crate) floors: Floors,
     pub(crate) ports: RestingPorts,
-    pub(crate) registry: Registry,
+    pub(crate) registry: Admissions,
     pub(crate) tickets: Vec<SessionTicket<S>>,
     pub(crate) lanes: Vec<LaneSign>,
     pub(crate) pace: Pace,
@@ -163,7 +184,7 @@ where
     let most = usize::from(numbers.max_cons);
     let floors = Floors::of(alloc, &limits)?;
     let ports = new_ports(alloc, numbers)?;
-    let registry = Registry::new(alloc, most, usize::from(numbers.max_cons_per_address))?;
+    let registry = admissions(alloc, connection_limits(numbers))?;
     let own_stores = locked(alloc, own_stores)?;
     let arrivals = new_arrivals(alloc, most)?;
     let tickets = new_tickets::<S>(alloc, most)?;

@@ -1,7 +1,6 @@
 //! New users, rates and limits of a running server.
 
 ghost use Rattle.std.specs.Prelude.{◌≡◌, true, Ok, OnErr, OnOk};
-ghost use Rattle.passive_ports.specs.Connections.{with_limits};
 ghost use Rattle.rate_floors.specs.Carried.{carried};
 ghost use Rattle.round_pace.specs.Changed.{IsChangedTo};
 
@@ -9,7 +8,7 @@ use crate::opening::new_cadence;
 use lane_rounds::Engine;
 use lent_parts::{LentRounds, PartsName};
 use line_rates::Limits;
-use passive_ports::{LimitFault, Registry};
+use passive_ports::{Admissions, ConnectionLimits};
 use rate_floors::{CarryFault, Floors};
 use server_house::{House, ServerHooks, Terms};
 use std::alloc::{AllocError, Global};
@@ -24,9 +23,11 @@ pub struct Reload {
     /// The users, and the settings of sessions.
     pub terms: Arc<Terms>,
     pub limits: Limits,
-    /// Maximum number of connections; at most that of the start.
+    /// Maximum number of connections; at most that of the start. If more are there, nobody is admitted until they are
+    /// fewer.
     pub max_cons: u16,
-    /// Maximum number of connections from an address; 0 for no limit.
+    /// Maximum number of connections from an address; 0 for no limit. If more are there, nobody is admitted from that
+    /// address until they are fewer.
     pub max_cons_per_address: u16,
 }
 
@@ -44,9 +45,6 @@ pub enum ReloadSign {
 /// The reason for which a server does not take them, and goes on as before.
 #[derive(Clone, Copy, Debug, PartialEq, Eq, Error)]
 pub enum ReloadFault {
-    /// More clients are connected than there may be.
-    #[error("{0}, which is more than `max_cons` or `max_cons_per_address` permits now; reload again when fewer are")]
-    Connections(LimitFault),
     /// The guarantees of the sessions inside do not fit.
     #[error("the guarantees of the sessions inside do not fit the new rates: {0}")]
     Guarantees(CarryFault),
@@ -55,25 +53,18 @@ pub enum ReloadFault {
     Memory,
 }
 
-// The greatest numbers of connections, in all and from one address.
-#[derive(Clone, Copy)]
-struct Counts {
-    max: usize,
-    max_of_address: usize,
-}
-
 // Puts limits in force, in all parts or in none.
 fn put_in_force<B: PartsName>(
     alloc: Global,
-    registry: &mut Registry,
+    registry: &mut Admissions,
     floors: &mut Floors,
     rounds: &mut LentRounds<B>,
-    counts: Counts,
+    counts: ConnectionLimits,
     limits: Limits,
 ) -> Result<(), ReloadFault>
     requires allowed { B.rates limits ≡ true }
-    ensures registry { OnOk result
-        (registry.new ≡ with_limits registry.old counts.max counts.max_of_address) }
+    ensures registry { OnOk result (registry.new.limits ≡ counts) }
+    ensures same_connections { registry.new.registry ≡ registry.old.registry }
     ensures floors { OnOk result (carried floors.old limits ≡ Ok floors.new) }
     ensures pace { OnOk result (IsChangedTo limits rounds.old.rounds.pace
         rounds.new.rounds.pace) }
@@ -82,13 +73,6 @@ fn put_in_force<B: PartsName>(
     ensures same_pace { OnErr result
         (rounds.new.rounds.pace ≡ rounds.old.rounds.pace) }
 {
-    let Counts {
-        max,
-        max_of_address,
-    } = counts;
-    if let Some(fault) = registry.exceeded(max, max_of_address) {
-        return Err(ReloadFault::Connections(fault));
-    }
     let carried = match floors.carried(alloc, &limits) {
         Ok(carried) => carried,
         Err(CarryFault::Memory) => return Err(ReloadFault::Memory),
@@ -99,7 +83,7 @@ fn put_in_force<B: PartsName>(
     };
     match rounds.change(alloc, limits, cadence) {
         Ok(()) => {
-            registry.set_limits(max, max_of_address);
+            registry.limits = counts;
             *floors = carried;
             Ok(())
         }
@@ -129,7 +113,7 @@ where
         max_cons,
         max_cons_per_address,
     } = reload;
-    let counts = Counts {
+    let counts = ConnectionLimits {
         max: usize::from(max_cons),
         max_of_address: usize::from(max_cons_per_address),
     };

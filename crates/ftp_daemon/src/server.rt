@@ -13,6 +13,8 @@ ghost use Rattle.transfer_worker.specs.Boards.{AreNewPasses};
 ghost use Rattle.ftp_daemon.specs.SameRates.{Permits};
 
 use crate::lanes::serve_crew;
+use crate::last_waits::{LanesAtWork, ToldHandler};
+use crate::listening::Entrance;
 use crate::opening::{Allocated, Line, Service, allocate};
 use crate::settling::settle_unlent;
 use crate::watching::{OwnerSigns, wants_looks};
@@ -28,9 +30,9 @@ use round_cadence::Cadence;
 use round_pace::{Pace, histories_keep_rates};
 use server_house::{House, ServerHooks, ServerRuntime, ServerShutdown, SharedTerms};
 use std::alloc::Global;
-use std::net::TcpListener;
 use std::sync::{Mutex, Wait};
 use std::thread::Threads;
+use std::time::Clock;
 use text_io::TextWriter;
 use transfer_worker::{BoardPass, JobBoard};
 use virtual_tree::Store;
@@ -44,6 +46,8 @@ pub(crate) struct Server<R: RoundClock, S: Store<Global>, H: Drop, B: PartsName,
     pub(crate) passes: Mutex<Vec<LentPass<B, u32>>>,
     /// The signs of the owner, if there are any.
     pub(crate) signs: Option<P>,
+    /// The lanes that have not ended.
+    pub(crate) at_work: LanesAtWork,
     ghost clock: { IsTestOf R.when B.when },
     ghost owner: { Permits P.allows B.rates },
 }
@@ -167,6 +171,7 @@ where
                     engine,
                     passes: Mutex::new(passes),
                     signs,
+                    at_work: LanesAtWork::new(),
                 })
             }
         }
@@ -183,36 +188,39 @@ where
     B: PartsName + Send + Sync,
     P: OwnerSigns + Send + Sync + Drop,
 {
-    /// Serves the clients of a listener in threads, until all have ended.
+    /// Serves the clients of a door in threads, until all have ended.
     pub(crate) fn run<W: TextWriter>(
         &self,
-        listener: TcpListener,
+        entrance: Entrance,
         writer: &mut W,
     ) -> Result<(), ServeFault> {
-        serve_crew(&self.rt, self, listener, writer)
+        serve_crew(&self.rt, self, entrance, writer)
     }
 }
 
 impl<R, S, H, B, P> Server<R, S, H, B, P>
 where
-    R: RoundClock + Wait + Drop,
+    R: RoundClock + Wait + Clock + Copy + Drop,
     S: Store<Global> + Drop,
-    H: Drop,
+    H: ServerHooks,
     B: PartsName,
     P: OwnerSigns + Drop,
 {
-    /// Settles the desk, once no thread has any part of it.
+    /// Settles the desk, once no thread has any part of it. A part that is not in its place is told to the handler, for
+    /// ever.
     pub(crate) fn settle(self) -> Settled
         ensures sum { result.issued ≡ result.moved + result.back }
         ensures kept { HasKept B.rates B.when B.carried result.issued }
     {
         let Server {
             rt,
-            house: _,
+            house,
             engine,
             passes: _,
             signs: _,
+            at_work: _,
         } = self;
-        engine.settle(&rt)
+        let mut told = ToldHandler { rt, house };
+        engine.settle(&rt, &mut told)
     }
 }

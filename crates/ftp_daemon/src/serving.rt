@@ -8,7 +8,7 @@ ghost use Rattle.paced_rounds.specs.Seconds.{AreInSeconds, HasKept};
 ghost use Rattle.transfer_worker.specs.Boards.{AreNewPasses};
 ghost use Rattle.ftp_daemon.specs.SameRates.{Permits, may_hold};
 
-use crate::listening::{listen_on, warn_of_descriptors};
+use crate::listening::{Entrance, listen_on, warn_of_descriptors};
 use crate::opening::{Line, Service, open_line};
 use crate::server::Server;
 use crate::watching::{OwnerSigns, is_up};
@@ -21,7 +21,6 @@ use recorded_store::Recorder;
 use server_house::{ServerHooks, ServerRuntime};
 use std::alloc::Global;
 use std::marker::Brand;
-use std::net::TcpListener;
 use std::thread::Threads;
 use text_io::TextWriter;
 use transfer_worker::{BoardPass, JobBoard, open_board};
@@ -34,7 +33,7 @@ fn serve_named<R, S, H, B, P, W>(
     board: JobBoard<u32>,
     passes: Vec<BoardPass<u32>>,
     line: Line,
-    listener: TcpListener,
+    entrance: Entrance,
     writer: &mut W,
 ) -> (Settled, Result<(), ServeFault>)
 where
@@ -59,7 +58,7 @@ where
     match Server::<R, S, H, B, P>::open(rt, service, board, passes, line) {
         Err((settled, fault)) => (settled, Err(fault)),
         Ok(server) => {
-            let served = server.run(listener, writer);
+            let served = server.run(entrance, writer);
             (server.settle(), served)
         }
     }
@@ -120,7 +119,7 @@ where
     }
     let numbers = service.numbers;
     let mut service = service;
-    let listener = listen_on(rt, &numbers, &mut service.handler)?;
+    let entrance = listen_on(rt, &numbers, &mut service.handler)?;
     warn_of_descriptors(&numbers, &mut service.handler);
     let lanes = usize::from(numbers.lanes);
     let Ok((board, passes)) = open_board(rt.alloc(), usize::from(numbers.max_cons), lanes + 1)
@@ -129,7 +128,7 @@ where
     };
     let line = open_line(rt.alloc(), lanes)?;
     let (settled, served) = serve_named::<R, S, H, Brand, P, W>(
-        rt, service, board, passes, line, listener, writer,
+        rt, service, board, passes, line, entrance, writer,
     );
     served?;
     report_settled(rt.alloc(), &settled, writer)?;

@@ -1,23 +1,23 @@
 //! The signs of a server's owner while it serves.
 
-ghost use Rattle.std.specs.Prelude.{◌≡◌, Bool, true};
+ghost use Rattle.std.specs.Prelude.{◌≡◌, Bool, true, false};
 ghost use Rattle.ftp_daemon.specs.Reloading.{IsAllowed};
 ghost use Rattle.ftp_daemon.specs.SameRates.{Permits};
 ghost use Rattle.line_rates.specs.Rates.{Rates};
 
 use crate::draining::{Due, next_due};
+use crate::last_waits::{LanesAtWork, TELLS, is_told, waited_for};
 use crate::reloading::{ReloadFault, ReloadSign, take};
+use client_door::DoorBell;
 use event_word::{has_passed, micros};
 use grant_ledger::MAX_LANES;
 use lane_rounds::{Engine, look};
 use lent_parts::PartsName;
 use round_tally::Tallies;
 use server_house::{
-    House, LaneLook, LaneSign, OwnAddress, ServerEvent, ServerHooks, ServerLook, ServerRuntime,
-    ShutdownStage,
+    House, LaneLook, LaneSign, ServerEvent, ServerHooks, ServerLook, ServerRuntime, ShutdownStage,
 };
 use std::alloc::Global;
-use std::net::{Net, TcpListener, TcpStream};
 use std::sync::Wait;
 use std::thread;
 use std::time::{Clock, Duration};
@@ -26,9 +26,6 @@ use virtual_tree::Store;
 /// The interval between two checks of the signs, in milliseconds.
 const LOOK: u64 = 100;
 
-/// The time-out for waking the thread that accepts, in milliseconds.
-const WAKING: u64 = 500;
-
 /// The reason that a configuration was not taken, without memory for another.
 const NO_MEMORY: &str = "out of memory";
 
@@ -36,36 +33,53 @@ const NO_MEMORY: &str = "out of memory";
 const SECOND: u64 = 1_000_000;
 
 /// The signs of a server's owner: that the server is to end, such as a file that appears, or to drain, and that looks at
-/// what goes on are wanted. A thread of the server sees to them.
+/// what goes on are wanted. A thread of the server sees to them. Without methods of its own an owner gives no sign.
 pub trait OwnerSigns {
     /// Returns whether the server is to end. It is checked before the server begins, and ten times a second while it
     /// serves.
-    fn is_up(&self) -> bool;
+    fn is_up(&self) -> bool {
+        false
+    }
 
     /// Returns whether the server is to drain: it admits no more clients, each session ends once no transfer of it runs,
     /// and then the server ends. It is checked as often.
-    fn is_to_drain(&self) -> bool;
+    fn is_to_drain(&self) -> bool {
+        false
+    }
 
-    /// A test that the rates pass which the owner may put in force.
-    ghost allows: { Rates → Bool };
+    /// A test that the rates pass which the owner may put in force: no rates pass.
+    ghost allows: { Rates → Bool } = { λ _. false };
 
     /// The configuration that the server is to take now, or the reason for which it takes none, if one was asked for. It
     /// is asked for as often.
     fn reload(&self) -> ReloadSign
-        ensures allowed { IsAllowed allows result };
+        ensures allowed { IsAllowed allows result }
+    {
+        ReloadSign::Nothing
+    }
 
     /// The server has taken the configuration.
-    fn taken(&self);
+    fn taken(&self) {}
 
     /// The server has refused the configuration. Returns the reason in words; none if memory runs out.
-    fn refused(&self, fault: ReloadFault) -> Option<String>;
+    fn refused(&self, _fault: ReloadFault) -> Option<String> {
+        None
+    }
 
     /// Returns whether the handler is to be shown what goes on, once a second.
-    fn wants_looks(&self) -> bool;
+    fn wants_looks(&self) -> bool {
+        false
+    }
 
     /// The handler was shown what goes on. Nobody waits for this call.
-    fn looked(&self);
+    fn looked(&self) {}
 }
+
+/// An owner who gives no sign: the server ends after its number of sessions, or never.
+#[derive(Drop)]
+pub struct NoSigns;
+
+impl OwnerSigns for NoSigns {}
 
 /// Returns whether the server is to end by its owner's signs, if there are any.
 pub(crate) fn is_up<P: OwnerSigns>(signs: &Option<P>) -> bool {
@@ -125,22 +139,17 @@ where
     house.handler.lock(rt).on_look(&shown);
 }
 
-// Ends the sessions, and wakes the thread that accepts.
-fn end<R, S, H, B>(rt: &R, house: &House<S, H, B>)
+// Begins what is due, with this number of clients: if the sessions are to end, rings the bell for the thread that accepts.
+// Returns whether they are.
+fn begin<R, S, H, B>(
+    rt: &R,
+    house: &House<S, H, B>,
+    bell: &DoorBell,
+    due: Due,
+    clients: usize,
+) -> bool
 where
-    R: Wait + Clock + Net<Listener = TcpListener, Stream = TcpStream>,
-    S: Store<Global>,
-    H: Drop,
-    B: PartsName,
-{
-    house.ending.begin(ShutdownStage::Sessions);
-    wake(rt, house);
-}
-
-// Begins what is due, with this number of clients. Returns whether the sessions are to end.
-fn begin<R, S, H, B>(rt: &R, house: &House<S, H, B>, due: Due, clients: usize) -> bool
-where
-    R: Wait + Clock + Net<Listener = TcpListener, Stream = TcpStream>,
+    R: Wait,
     S: Store<Global>,
     H: ServerHooks,
     B: PartsName,
@@ -162,7 +171,8 @@ where
             .lock(rt)
             .on_server(ServerEvent::DrainTimedOut(clients)),
     }
-    end(rt, house);
+    house.ending.begin(ShutdownStage::Sessions);
+    bell.ring();
     true
 }
 
@@ -195,9 +205,40 @@ where
     }
 }
 
+// Shows the handler what goes on, if that is wanted and a second has passed since it was due last. Returns the moment at
+// which it was.
+fn look_if_due<R, S, H, B, P>(
+    rt: &R,
+    house: &House<S, H, B>,
+    engine: &Engine<B>,
+    signs: &P,
+    shown: u64,
+    now: u64,
+) -> u64
+where
+    R: Wait + Clock,
+    S: Store<Global>,
+    H: ServerHooks,
+    B: PartsName,
+    P: OwnerSigns,
+{
+    if !signs.wants_looks() || !has_passed(shown, now, SECOND) {
+        return shown;
+    }
+    show(rt, house, engine);
+    signs.looked();
+    shown.saturating_add(SECOND)
+}
+
 /// Checks the signs until the sessions are to end, and shows the handler what goes on, if that is wanted. Drains the
 /// server, or ends its sessions, as is due.
-pub(crate) fn watch<R, S, H, B, P>(rt: &R, house: &House<S, H, B>, engine: &Engine<B>, signs: &P)
+pub(crate) fn watch<R, S, H, B, P>(
+    rt: &R,
+    house: &House<S, H, B>,
+    engine: &Engine<B>,
+    signs: &P,
+    bell: &DoorBell,
+)
 where
     R: ServerRuntime,
     S: Store<Global>,
@@ -226,38 +267,63 @@ where
         if next == Due::Drain {
             drained = Some(now);
         }
-        if begin(rt, house, next, clients) {
+        if begin(rt, house, bell, next, clients) {
             return;
         }
         reload(rt, house, engine, signs);
-        if signs.wants_looks() && has_passed(shown, now, SECOND) {
-            shown = shown.saturating_add(SECOND);
-            show(rt, house, engine);
-            signs.looked();
-        }
+        shown = look_if_due(rt, house, engine, signs, shown, now);
         thread::sleep(rt, Duration::from_millis(LOOK));
     }
     unreachable!()
 }
 
-// Wakes the thread that accepts, by a connection to its own port. If the machine lends no file, port or memory for it at
-// the moment, tries again: sessions that end give theirs back.
-fn wake<R, S, H, B>(rt: &R, house: &House<S, H, B>)
+// The number of calls of the machine that the end waits for; none once all sessions and lanes have ended.
+fn calls_left<R, S, H, B>(rt: &R, house: &House<S, H, B>, at_work: &LanesAtWork) -> Option<u64>
 where
-    R: Wait + Clock + Net<Listener = TcpListener, Stream = TcpStream>,
+    R: Wait,
     S: Store<Global>,
     H: Drop,
     B: PartsName,
 {
-    let own = OwnAddress::of_server(&house.numbers).socket();
+    let have_sessions_ended = house.ending.has_begun(ShutdownStage::Lanes);
+    let lanes = at_work.count();
+    if have_sessions_ended && lanes == 0 {
+        return None;
+    }
+    let sessions = house.registry.lock(rt).count() as u64;
+    Some(waited_for(have_sessions_ended, sessions, lanes))
+}
+
+/// Watches the end of a server until all sessions and lanes have ended. After ten seconds, and each ten seconds from then
+/// on, the handler is told the number of calls of the machine that the end waits for; it is shown what goes on as before.
+pub(crate) fn watch_end<R, S, H, B, P>(
+    rt: &R,
+    house: &House<S, H, B>,
+    engine: &Engine<B>,
+    signs: &P,
+    at_work: &LanesAtWork,
+)
+where
+    R: ServerRuntime,
+    S: Store<Global>,
+    H: ServerHooks,
+    B: PartsName,
+    P: OwnerSigns,
+{
+    let mut told = micros(rt);
+    let mut shown = told;
     for _ in rt.forever() {
-        if house.ending.has_begun(ShutdownStage::Lanes) {
+        let seen = at_work.seen();
+        let Some(calls) = calls_left(rt, house, at_work) else {
             return;
+        };
+        let now = micros(rt);
+        if is_told(calls, told, now) {
+            told = told.saturating_add(TELLS);
+            house.handler.lock(rt).on_server(ServerEvent::Waits(calls));
         }
-        match TcpStream::connect_timeout(rt, &own, Duration::from_millis(WAKING)) {
-            Ok(_) => return,
-            Err(_) => thread::sleep(rt, Duration::from_millis(LOOK)),
-        }
+        shown = look_if_due(rt, house, engine, signs, shown, now);
+        at_work.wait(rt, seen);
     }
     unreachable!()
 }

@@ -29,7 +29,7 @@ pub(crate) fn start_of(machine: &HostRuntime) -> Start {
 }
 
 /// A copy of limits. `None` if memory runs out.
-fn copied_limits(alloc: Global, limits: &Limits) -> Option<Limits> {
+pub(crate) fn copied_limits(alloc: Global, limits: &Limits) -> Option<Limits> {
     let mut groups = Vec::with_capacity(alloc, limits.groups().len()).ok()?;
     for group in limits.groups() {
         groups.push(*group).ok()?;
@@ -44,8 +44,14 @@ fn copied_limits(alloc: Global, limits: &Limits) -> Option<Limits> {
     Limits::of(both, down, up, groups, users).ok()
 }
 
-/// The facts for a status of a configuration, and of a start. `None` if memory runs out.
-pub(crate) fn facts_of(alloc: Global, start: Start, config: &Config) -> Option<StatusFacts> {
+/// The facts for a status of a configuration, of the limits in force, with rows of the past, and of a start. `None` if
+/// memory runs out.
+pub(crate) fn facts_of(
+    alloc: Global,
+    start: Start,
+    config: &Config,
+    limits: &Limits,
+) -> Option<StatusFacts> {
     let mut groups = Vec::with_capacity(alloc, config.groups.len()).ok()?;
     for name in &config.groups {
         groups
@@ -53,7 +59,7 @@ pub(crate) fn facts_of(alloc: Global, start: Start, config: &Config) -> Option<S
             .ok()?;
     }
     Some(StatusFacts {
-        limits: copied_limits(alloc, &config.limits)?,
+        limits: copied_limits(alloc, limits)?,
         groups,
         users: config.limits.users().len() as u64,
         lanes: u64::from(config.numbers.lanes),

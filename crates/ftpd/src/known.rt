@@ -1,19 +1,14 @@
 //! The names of users and groups that a server knows by numbers.
 
 use authorizer::{Authorizer, AuthorizerFault};
+use config_change::{NumberedName, known_names};
+use line_rates::Limits;
 use std::alloc::{AllocError, Global};
 
 /// A name that no user has: a configuration states names of one line.
 const NOBODY: &str = "\n";
 
-/// A user's number and name.
-#[derive(Drop)]
-struct NumberedName {
-    number: u32,
-    name: String,
-}
-
-/// The names of users and groups, by their numbers.
+/// The names of users and groups, by their numbers; those of the past among them, which keep theirs.
 ///
 /// It has no passwords and no homes: a type with an [`Authorizer`] in it cannot be among the signs of a server, since the
 /// borrow checker does not cover a call of `serve` with them.
@@ -23,8 +18,12 @@ pub(crate) struct Known {
     users: Vec<NumberedName>,
     // the least number that no user has had, nor any below it
     next: u64,
+    // the numbers of those who are users now, ascending
+    present: Vec<u32>,
     /// The names of groups, by their numbers.
     pub groups: Vec<String>,
+    /// The limits in force, with the rows of the past.
+    pub limits: Limits,
 }
 
 /// Has an authorizer use the numbers from one up to another for nobody.
@@ -36,35 +35,56 @@ fn skip(users: &mut Authorizer, from: u64, to: u64) -> Result<(), AuthorizerFaul
     Ok(())
 }
 
+/// The numbers of users, ascending.
+fn present_of(alloc: Global, users: &Authorizer) -> Result<Vec<u32>, AllocError> {
+    let mut present = Vec::new(alloc);
+    for name in users.names(alloc)? {
+        if let Some(number) = users.number(name.as_str()) {
+            present.push(number)?;
+        }
+    }
+    present.sort_unstable();
+    Ok(present)
+}
+
 impl Known {
-    /// The names of these users. Numbers below `next` have been used before.
+    /// The names of these users, and of those who were known earlier.
     pub fn of(
         alloc: Global,
         users: &Authorizer,
-        next: u64,
+        earlier: &[NumberedName],
         groups: Vec<String>,
+        limits: Limits,
     ) -> Result<Known, AllocError> {
-        let mut numbered = Vec::new(alloc);
-        let mut next = next;
-        for name in users.names(alloc)? {
-            if let Some(number) = users.number(name.as_str()) {
-                next = next.max(u64::from(number) + 1);
-                if numbered.push(NumberedName { number, name }).is_err() {
-                    return Err(AllocError);
-                }
-            }
+        let mut numbered = known_names(alloc, users, earlier)?;
+        let mut next = 0;
+        for user in &numbered {
+            next = next.max(u64::from(user.number) + 1);
         }
         numbered.sort_unstable_by_key(|user| user.number);
         Ok(Known {
             users: numbered,
             next,
+            present: present_of(alloc, users)?,
             groups,
+            limits,
         })
     }
 
-    /// The least number that no user has had, nor any below it.
-    pub fn next(&self) -> u64 {
-        self.next
+    /// Number of those who are users here, and no longer there.
+    pub fn gone(&self, next: &Known) -> u64 {
+        let mut count: u64 = 0;
+        for number in &self.present {
+            if next.present.binary_search(number).is_err() {
+                count = count.saturating_add(1);
+            }
+        }
+        count
+    }
+
+    /// The names of all who are or were users, with their numbers.
+    pub fn users(&self) -> &[NumberedName] {
+        self.users.as_slice()
     }
 
     /// The name of the user with a number.

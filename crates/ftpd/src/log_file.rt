@@ -1,5 +1,7 @@
 //! The file of the transfer log.
 
+ghost use Rattle.std.specs.Prelude.{◌≡◌, ◌/◌, ◌%◌, ◌^◌, ◌||◌, nat_eq};
+
 use line_queue::{LineOutlet, Readiness};
 use std::fs::{File, OpenOptions};
 use std::io::Write;
@@ -19,9 +21,8 @@ struct OpenLog {
 #[derive(Drop)]
 pub(crate) struct LogFile {
     machine: HostRuntime,
-    // none: there is no transfer log
-    path: Option<String>,
-    open: Option<OpenLog>,
+    path: String,
+    open: OpenLog,
 }
 
 fn numbers_of(found: io::Result<fs::Metadata>) -> Option<FileNumbers> {
@@ -37,73 +38,77 @@ fn numbers_of(found: io::Result<fs::Metadata>) -> Option<FileNumbers> {
 /// The permissions of a new log: its group may read it.
 const MODE: u32 = 0o640;
 
+/// Number of the machine's error "Operation not supported".
+const NO_LOG: i32 = 95;
+
+/// Returns whether a file of this mode (inode(7)) can be a log: a regular one, or a character device, such as a terminal.
+fn is_log(mode: u32) -> bool
+    ensures log { result ≡ (nat_eq ((mode / 2 ^ 12) % 16) 8 || nat_eq ((mode / 2 ^ 12) % 16) 2) }
+{
+    let kind = mode / 4_096 % 16;
+    kind == 8 || kind == 2
+}
+
+// Opens a log for reading and appending, which waits for nobody at the other end of a pipe (fifo(7)), and looks at it by
+// its descriptor. What can be no log is refused.
 fn opened(machine: &HostRuntime, path: &str) -> io::Result<OpenLog> {
     let file = OpenOptions::new()
+        .read(true)
         .append(true)
         .create(true)
         .mode(MODE)
         .open(machine, path)?;
-    let numbers = numbers_of(file.metadata());
+    let found = file.metadata()?;
+    if !is_log(found.mode()) {
+        return Err(io::Error::from_raw_os_error(NO_LOG));
+    }
+    let numbers = numbers_of(Ok(found));
     Ok(OpenLog { file, numbers })
 }
 
 impl LogFile {
-    /// No transfer log.
-    pub fn none(machine: HostRuntime) -> LogFile {
-        LogFile {
-            machine,
-            path: None,
-            open: None,
-        }
-    }
-
     /// The transfer log at a path. `Err` is the machine's reason if its file cannot be opened, with the path.
     pub fn at(machine: HostRuntime, path: String) -> Result<LogFile, (String, io::Error)> {
         match opened(&machine, path.as_str()) {
             Ok(open) => Ok(LogFile {
                 machine,
-                path: Some(path),
-                open: Some(open),
+                path,
+                open,
             }),
             Err(reason) => Err((path, reason)),
         }
     }
 
-    // Opens the file anew if it was moved away. The one that is open stays if that fails.
-    fn follow(&mut self) {
-        if let Some(path) = &self.path {
-            let there = numbers_of(fs::metadata(&self.machine, path.as_str()));
-            let held = match &self.open {
-                Some(open) => open.numbers,
-                None => None,
-            };
-            if must_open(held, there) {
-                if let Ok(open) = opened(&self.machine, path.as_str()) {
-                    self.open = Some(open);
-                }
+    // Opens the file anew if it was moved away. The one that is open stays if that fails. Returns whether another one is
+    // open now.
+    fn reopen(&mut self) -> bool {
+        let there = numbers_of(fs::metadata(&self.machine, self.path.as_str()));
+        if !must_open(self.open.numbers, there) {
+            return false;
+        }
+        match opened(&self.machine, self.path.as_str()) {
+            Ok(open) => {
+                self.open = open;
+                true
             }
+            Err(_) => false,
         }
     }
 }
 
 impl LineOutlet for LogFile {
     fn readiness(&mut self, _millis: u16) -> Readiness {
-        match &self.path {
-            Some(_) => Readiness::Ready,
-            None => Readiness::Gone,
-        }
+        Readiness::Ready
     }
 
     fn write(&mut self, octets: &[u8], goes_on: bool) -> usize {
         if !goes_on {
-            self.follow();
+            self.reopen();
         }
-        match &mut self.open {
-            Some(open) => match open.file.write(octets) {
-                Ok(count) => count,
-                Err(_) => 0,
-            },
-            None => 0,
-        }
+        self.open.file.write(octets).unwrap_or(0)
+    }
+
+    fn follow(&mut self) -> bool {
+        self.reopen()
     }
 }

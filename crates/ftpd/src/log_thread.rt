@@ -1,21 +1,20 @@
-//! The thread that writes notes and the transfer log.
-
-ghost use Rattle.std.specs.Thread.{IsSync};
+//! The threads that write notes and the transfer log.
 
 use crate::log_file::LogFile;
-use ftpd_program::ServeFault;
-use line_queue::{LogForm, SharedLines, StandardError, write_lines};
+use crate::own_thread::{STACK, ThreadSigns, shared};
+use ftp_daemon::ServeFault;
+use line_queue::{
+    LineOutlet, LogForm, Readiness, SharedLines, StandardError, transfers_dropped, write_lines,
+};
 use session_notes::TransferLog;
+use std::alloc::{AllocError, Global};
+use std::io;
 use std::sync::{Arc, Wait};
-use std::thread;
 use std::thread::{Builder, Threads};
 use std::time::Clock;
 use transfer_log::{FileTransfer, transfer_line};
 
-/// The stack of the thread, in octets.
-const STACK: usize = 262_144;
-
-/// The transfer log of a server, whose lines the thread writes; none if no file is stated.
+/// The transfer log of a server, whose lines a thread writes; none if no file is stated.
 #[derive(Drop)]
 pub(crate) struct QueuedTransfers<R: Wait + AllocGlobal> {
     rt: R,
@@ -45,41 +44,215 @@ fn count_head(form: LogForm) -> &'static str {
     }
 }
 
-/// Writes the lines that are offered, in a thread of its own, while a server serves. Returns once both have ended: the
-/// thread, at most a second after the server. Nobody is served if the thread could not be started.
-pub(crate) fn serve_with_log<R, F>(
-    rt: &R,
-    lines: &Arc<SharedLines>,
+/// Notes without a time, under the head of a warning.
+#[derive(Drop)]
+pub(crate) struct PlainNotes {
     form: LogForm,
+    lines: Arc<SharedLines>,
+}
+
+impl PlainNotes {
+    /// Notes the number of users that a new configuration has no longer.
+    pub fn note_gone<R: Wait + AllocGlobal>(&self, rt: &R, count: u64) {
+        let head = count_head(self.form);
+        let line = format!(in rt.alloc();
+            "{head}users that the new configuration has no longer: {count}\n"
+        );
+        self.lines.note(rt, line);
+    }
+
+    /// Notes that the file of a sign cannot be examined.
+    pub fn note_unseen<R: Wait + AllocGlobal>(&self, rt: &R, path: &str, reason: io::Error) {
+        let head = count_head(self.form);
+        let line = format!(in rt.alloc(); "{head}the file {path:?} cannot be examined: {reason}\n");
+        self.lines.note(rt, line);
+    }
+}
+
+/// The notes as an outlet of another queue's counts.
+#[derive(Drop)]
+struct NoteOutlet<R: Wait + AllocGlobal> {
+    rt: R,
+    notes: Arc<SharedLines>,
+}
+
+// A copy of a line.
+fn copied(alloc: Global, octets: &[u8]) -> Result<String, AllocError> {
+    match str::from_utf8(octets) {
+        Ok(text) => String::from_str(alloc, text),
+        Err(_) => Err(AllocError),
+    }
+}
+
+impl<R: Wait + AllocGlobal> LineOutlet for NoteOutlet<R> {
+    fn readiness(&mut self, _millis: u16) -> Readiness {
+        Readiness::Ready
+    }
+
+    // A count is far below the greatest write, so these are a whole line.
+    fn write(&mut self, octets: &[u8], _goes_on: bool) -> usize {
+        let line = copied(self.rt.alloc(), octets);
+        self.notes.note(&self.rt, line);
+        octets.len()
+    }
+}
+
+/// The end of a queue that nothing is written to.
+#[derive(Clone, Copy)]
+struct NoOutlet;
+
+impl LineOutlet for NoOutlet {
+    fn readiness(&mut self, _millis: u16) -> Readiness {
+        Readiness::Gone
+    }
+
+    fn write(&mut self, _octets: &[u8], _goes_on: bool) -> usize {
+        0
+    }
+}
+
+/// Lines that a thread writes, which nobody waits for.
+#[derive(Drop)]
+struct LineThread {
+    lines: Arc<SharedLines>,
+    signs: ThreadSigns,
+}
+
+impl LineThread {
+    fn new(alloc: Global) -> Result<Arc<LineThread>, AllocError> {
+        let lines = shared(alloc, SharedLines::new(alloc)?)?;
+        shared(
+            alloc,
+            LineThread {
+                lines,
+                signs: ThreadSigns::new(),
+            },
+        )
+    }
+
+    // Writes the lines until no more come and the last are written, or a second has passed since.
+    fn write<R, N, T>(&self, rt: &R, head: &str, notes: &mut N, transfers: &mut T)
+    where
+        R: Wait + Clock + AllocGlobal,
+        N: LineOutlet,
+        T: LineOutlet,
+    {
+        write_lines(rt, &self.lines, head, notes, transfers);
+        self.signs.end();
+    }
+
+    // No more lines come: waits for the end of the thread, at most a second.
+    fn leave<R: Wait + Clock>(&self, rt: &R) {
+        self.lines.close();
+        self.signs.leave(rt);
+    }
+}
+
+/// The notes and the transfer log of a server, each written by a thread of its own: a log that hangs holds no note.
+#[derive(Drop)]
+pub(crate) struct LogThreads {
+    // that of the notes
+    form: LogForm,
+    notes: Arc<LineThread>,
+    transfers: Arc<LineThread>,
+}
+
+// Starts the thread of notes.
+fn start_notes<R>(rt: &R, head: &'static str, thread: Arc<LineThread>) -> Result<(), ServeFault>
+where
+    R: Threads + Wait + Clock + AllocGlobal + Copy + Send + Sync + 'static,
+{
+    let runtime = *rt;
+    let started = Builder::new().stack_size(STACK).spawn(rt, move || {
+        thread.write(&runtime, head, &mut StandardError, &mut NoOutlet);
+    });
+    match started {
+        Ok(_) => Ok(()),
+        Err(_) => Err(ServeFault::NoThread),
+    }
+}
+
+// Starts the thread of the transfer log, whose counts are among the notes.
+fn start_transfers<R>(
+    rt: &R,
+    head: &'static str,
     file: LogFile,
-    serve: F,
+    thread: Arc<LineThread>,
+    notes: Arc<SharedLines>,
 ) -> Result<(), ServeFault>
 where
-    R: Threads + Wait + Clock + AllocGlobal + Sync,
-    F: FnOnce() -> Result<(), ServeFault>,
-    requires serve { F.pre serve }
+    R: Threads + Wait + Clock + AllocGlobal + Copy + Send + Sync + 'static,
 {
-    let shared: &SharedLines = lines;
-    let head = count_head(form);
-    thread::scope(
-        thread::scope_env(),
-        rt,
-        |scope| -> Result<(), ServeFault>
-            requires { IsSync R.row × F.pre serve }
-        {
-            let mut transfers = file;
-            let started = Builder::new()
-                .stack_size(STACK)
-                .spawn_scoped(scope, move || {
-                    write_lines(rt, shared, head, &mut StandardError, &mut transfers);
-                });
-            let served = if started.is_ok() {
-                serve()
-            } else {
-                Err(ServeFault::NoThread)
-            };
-            shared.close();
-            served
-        },
-    )
+    let runtime = *rt;
+    let started = Builder::new().stack_size(STACK).spawn(rt, move || {
+        let mut counts = NoteOutlet { rt: runtime, notes };
+        let mut file = file;
+        thread.write(&runtime, head, &mut counts, &mut file);
+    });
+    match started {
+        Ok(_) => Ok(()),
+        Err(_) => Err(ServeFault::NoThread),
+    }
+}
+
+impl LogThreads {
+    /// Starts the thread of notes, and that of the transfer log if there is a file. Fails without a thread, or memory.
+    pub fn start<R>(
+        rt: &R,
+        alloc: Global,
+        form: LogForm,
+        file: Option<LogFile>,
+    ) -> Result<LogThreads, ServeFault>
+    where
+        R: Threads + Wait + Clock + AllocGlobal + Copy + Send + Sync + 'static,
+    {
+        let head = count_head(form);
+        let notes = LineThread::new(alloc)?;
+        let transfers = LineThread::new(alloc)?;
+        start_notes(rt, head, Arc::try_clone(&notes)?)?;
+        match file {
+            Some(file) => {
+                let own = Arc::try_clone(&transfers)?;
+                let counts = Arc::try_clone(&notes.lines)?;
+                start_transfers(rt, head, file, own, counts)?;
+            }
+            None => transfers.signs.end(),
+        }
+        Ok(LogThreads {
+            form,
+            notes,
+            transfers,
+        })
+    }
+
+    /// Notes without a time.
+    pub fn plain_notes(&self) -> Result<PlainNotes, AllocError> {
+        Ok(PlainNotes {
+            form: self.form,
+            lines: self.notes()?,
+        })
+    }
+
+    /// The lines of notes.
+    pub fn notes(&self) -> Result<Arc<SharedLines>, AllocError> {
+        Arc::try_clone(&self.notes.lines)
+    }
+
+    /// The lines of the transfer log.
+    pub fn transfers(&self) -> Result<Arc<SharedLines>, AllocError> {
+        Arc::try_clone(&self.transfers.lines)
+    }
+
+    /// No more lines come: waits until those of the transfer log are written, and then the notes, at most a second each.
+    /// Lines of the transfer log that are left then are lost: their number is the last note, and is returned.
+    pub fn leave<R: Wait + Clock + AllocGlobal>(&self, rt: &R) -> u64 {
+        self.transfers.leave(rt);
+        let lost = self.transfers.lines.give_up(rt);
+        if lost > 0 {
+            let line = transfers_dropped(rt.alloc(), count_head(self.form), lost);
+            self.notes.lines.note(rt, line);
+        }
+        self.notes.leave(rt);
+        lost
+    }
 }

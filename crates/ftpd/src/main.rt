@@ -3,18 +3,22 @@
 #![tactic(auto)]
 
 mod asked;
+mod config_thread;
 mod facts;
 mod known;
 mod log_file;
 mod log_thread;
 mod machine_files;
+mod own_thread;
 mod page_thread;
 mod ready_file;
 mod reload_file;
 mod serving;
 mod sign_file;
 mod starting;
+mod stated_files;
 mod status_file;
+mod status_thread;
 mod watched_file;
 
 use asked::Asked;
@@ -43,7 +47,7 @@ fn run<'w, R, W>(
     output: &mut FallibleIo<W>,
 ) -> (FtpdExit<'w>, Option<StartFault>)
 where
-    R: Threads + ServerRuntime + RoundClock + Copy + Send + Sync,
+    R: Threads + ServerRuntime + RoundClock + Copy + Send + Sync + 'static,
     W: Write,
 {
     let mut asked = Asked::new();
@@ -108,7 +112,8 @@ where
         + AllocGlobal
         + Copy
         + Send
-        + Sync,
+        + Sync
+        + 'static,
 {
     let mut output = FallibleIo(Noted::new(io::writer(machine)));
     let texts = match line_words(machine) {

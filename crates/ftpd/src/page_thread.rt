@@ -1,23 +1,19 @@
 //! The thread that serves the status page.
 
-ghost use Rattle.std.specs.Thread.{IsSync};
-
-use ftp_daemon::ServerRuntime;
-use ftpd_program::ServeFault;
+use crate::own_thread::{STACK, ThreadSigns, shared};
+use client_door::{Arrival, ClientDoor, DoorBell, WaitingRoom};
+use ftp_daemon::{ServeFault, ServerRuntime};
+use httpdate::HttpDate;
 use server_status::Status;
 use status_keeper::StatusCell;
 use status_page::{MachineClock, MicrosClock, Timed, serve_request};
 use std::collections::hash_map::RandomState;
 use std::net::{Ipv4Addr, Net, SocketAddr, SocketAddrV4, TcpListener, TcpStream};
 use std::random::RandomSource;
-use std::sync::atomic::{AtomicU64, Ordering};
 use std::sync::{Arc, Wait};
 use std::thread::{Builder, Threads};
 use std::time::{Clock, Duration};
 use std::{io, thread};
-
-/// The stack of the thread, in octets.
-const STACK: usize = 262_144;
 
 /// The time that a request and its answer may take together, in microseconds.
 const WHOLE: u64 = 2_000_000;
@@ -25,16 +21,17 @@ const WHOLE: u64 = 2_000_000;
 /// The time-out of each call on a connection, in milliseconds.
 const CALL: u64 = 500;
 
-/// The time between two tries to accept, if one failed, in milliseconds.
+/// The longest wait for a request, in milliseconds.
+const LONGEST_WAIT: u16 = 2_000;
+
+/// The time between two tries to wait, if one failed, in milliseconds.
 const PAUSE: u64 = 100;
 
-/// The socket of a status page, at an address of this machine alone.
+/// The socket of a status page, at an address of this machine alone, and the bell that ends the wait at it.
 #[derive(Drop)]
 pub(crate) struct PageSocket {
-    listener: TcpListener,
-    port: u16,
-    // 1 once the server has ended
-    has_ended: AtomicU64,
+    door: ClientDoor,
+    bell: DoorBell,
 }
 
 fn page_address(port: u16) -> SocketAddr {
@@ -47,21 +44,21 @@ impl PageSocket {
     where
         R: Net<Listener = TcpListener, Stream = TcpStream>,
     {
-        Ok(PageSocket {
-            listener: TcpListener::bind(rt, page_address(port))?,
-            port,
-            has_ended: AtomicU64::new(0),
-        })
+        let bell = DoorBell::new()?;
+        let door = ClientDoor::open(rt, page_address(port))?;
+        Ok(PageSocket { door, bell })
     }
+}
 
-    // Ends the thread: a connection wakes it.
-    fn end<R>(&self, rt: &R)
-    where
-        R: Wait + Clock + Net<Listener = TcpListener, Stream = TcpStream>,
-    {
-        self.has_ended.store(1, Ordering::SeqCst);
-        let own = page_address(self.port);
-        let _ = TcpStream::connect_timeout(rt, &own, Duration::from_millis(CALL));
+// This moment, for an answer.
+fn date(machine: &HostRuntime) -> io::Result<HttpDate> {
+    let seconds = match machine.since_1970() {
+        Ok(time) => time.as_secs(),
+        Err(_) => 0,
+    };
+    match HttpDate::from_unix_secs(seconds) {
+        Ok(date) => Ok(date),
+        Err(_) => Err(io::Error::from(io::ErrorKind::InvalidData)),
     }
 }
 
@@ -77,64 +74,96 @@ where
     let keys = RandomState::new(machine)?;
     let mut reader = Timed::new(&stream, MachineClock(rt), until);
     let mut writer = Timed::new(&stream, MachineClock(rt), until);
-    serve_request(rt.alloc(), keys, status, &mut reader, &mut writer)
+    serve_request(
+        rt.alloc(),
+        keys,
+        status,
+        date(machine)?,
+        &mut reader,
+        &mut writer,
+    )
 }
 
-// Serves the page until the server has ended.
-fn serve_pages<R>(rt: &R, machine: &HostRuntime, socket: &PageSocket, cell: &StatusCell)
-where
-    R: Wait + Clock + AllocGlobal,
-{
-    for _ in rt.forever() {
-        let came = socket.listener.accept();
-        if socket.has_ended.load(Ordering::SeqCst) == 1 {
-            return;
-        }
-        match came {
-            Ok((stream, _)) => {
-                if let Ok(Some(status)) = cell.last(rt) {
-                    let _ = answer(rt, machine, &status, stream);
-                }
-            }
-            Err(_) => thread::sleep(rt, Duration::from_millis(PAUSE)),
+/// A status page that a thread serves, which nobody waits for.
+#[derive(Drop)]
+pub(crate) struct PageThread {
+    socket: PageSocket,
+    cell: Arc<StatusCell>,
+    signs: ThreadSigns,
+}
+
+impl PageThread {
+    /// Starts the thread. Fails without a thread, or memory.
+    pub fn start<R>(
+        rt: &R,
+        machine: &HostRuntime,
+        socket: PageSocket,
+        cell: Arc<StatusCell>,
+    ) -> Result<Arc<PageThread>, ServeFault>
+    where
+        R: Threads + ServerRuntime + Copy + Send + Sync + 'static,
+    {
+        let room = WaitingRoom::new(rt.alloc())?;
+        let page = shared(
+            rt.alloc(),
+            PageThread {
+                socket,
+                cell,
+                signs: ThreadSigns::new(),
+            },
+        )?;
+        let own = Arc::try_clone(&page)?;
+        let runtime = *rt;
+        let machine = *machine;
+        let started = Builder::new()
+            .stack_size(STACK)
+            .spawn(rt, move || own.work(&runtime, &machine, room));
+        match started {
+            Ok(_) => Ok(page),
+            Err(_) => Err(ServeFault::NoThread),
         }
     }
-    unreachable!()
-}
 
-/// Serves the status page, if there is a socket for it, in a thread of its own, while a server serves. Nobody is served if
-/// the thread could not be started.
-pub(crate) fn serve_with_page<R, F>(
-    rt: &R,
-    machine: &HostRuntime,
-    socket: Option<&PageSocket>,
-    cell: &StatusCell,
-    serve: F,
-) -> Result<(), ServeFault>
-where
-    R: Threads + ServerRuntime + Sync,
-    F: FnOnce() -> Result<(), ServeFault>,
-    requires serve { F.pre serve }
-{
-    let Some(socket) = socket else {
-        return serve();
-    };
-    thread::scope(
-        thread::scope_env(),
-        rt,
-        |scope| -> Result<(), ServeFault>
-            requires { IsSync R.row × F.pre serve }
-        {
-            let started = Builder::new()
-                .stack_size(STACK)
-                .spawn_scoped(scope, move || serve_pages(rt, machine, socket, cell));
-            let served = if started.is_ok() {
-                serve()
-            } else {
-                Err(ServeFault::NoThread)
-            };
-            socket.end(rt);
-            served
-        },
-    )
+    // Answers a request, once there is a status.
+    fn serve<R>(&self, rt: &R, machine: &HostRuntime, stream: TcpStream)
+    where
+        R: Wait + Clock + AllocGlobal,
+    {
+        if let Ok(Some(status)) = self.cell.last(rt) {
+            let _ = answer(rt, machine, &status, stream);
+        }
+    }
+
+    // Serves the page until the bell is rung. A client that is silent waits in the room, and delays nobody.
+    fn work<R>(&self, rt: &R, machine: &HostRuntime, room: WaitingRoom)
+    where
+        R: Wait + Clock + AllocGlobal,
+    {
+        let mut room = room;
+        for _ in rt.forever() {
+            let now = MachineClock(rt).micros();
+            match room.next(&self.socket.door, &self.socket.bell, now, LONGEST_WAIT) {
+                Arrival::Bell => {
+                    self.signs.end();
+                    return;
+                }
+                Arrival::Nobody => {}
+                Arrival::Client(stream, _) => self.serve(rt, machine, stream),
+                Arrival::Fault(_) => {
+                    if self.signs.is_closed() {
+                        self.signs.end();
+                        return;
+                    }
+                    thread::sleep(rt, Duration::from_millis(PAUSE));
+                }
+            }
+        }
+        unreachable!()
+    }
+
+    /// Waits for the end of the thread, at most a second.
+    pub fn leave<R: Wait + Clock>(&self, rt: &R) {
+        self.socket.bell.ring();
+        self.signs.leave(rt);
+    }
 }

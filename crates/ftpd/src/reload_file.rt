@@ -1,9 +1,10 @@
 //! The reload file of a server: once it appears, the configuration is read again.
 
-use crate::facts::{Start, facts_of};
+use crate::config_thread::{ConfigReader, ReadOctets};
+use crate::facts::{Start, copied_limits, facts_of};
 use crate::known::Known;
 use crate::sign_file::SignFile;
-use config_change::{FixedValues, count_fault, fixed_key, renumbered};
+use config_change::{FixedValues, count_fault, fixed_key, renumbered, with_past};
 use ftp_daemon::{Config, Reload, ReloadFault, ReloadSign, Terms};
 use line_rates::{Name, Way};
 use rate_floors::CarryFault;
@@ -11,9 +12,8 @@ use server_config::{ServedStore, ServerNumbers};
 use status_keeper::StatusFacts;
 use std::alloc::Global;
 use std::fmt::Display;
+use std::fs;
 use std::sync::{Arc, Mutex, Wait};
-use std::{fs, io};
-use text_io::{FallibleIo, read_whole};
 
 /// A configuration that a server is about to take.
 #[derive(Drop)]
@@ -28,8 +28,8 @@ pub(crate) struct NextConfig {
 pub(crate) struct ReloadFile {
     pub machine: HostRuntime,
     pub sign: SignFile,
-    /// The path of the configuration.
-    pub config: String,
+    /// The thread that reads the configuration.
+    pub reader: Arc<ConfigReader>,
     /// The numbers of the start.
     pub numbers: ServerNumbers,
     /// `memory`, or the path of the folder that is served.
@@ -95,22 +95,20 @@ pub(crate) fn capacity_of(store: &ServedStore) -> u64 {
     }
 }
 
-/// Reads a configuration. `Err` is the reason for which it cannot be had.
-fn read_config(machine: &HostRuntime, path: &str) -> Result<Config, Option<String>> {
-    let alloc = machine.alloc();
-    let file = match fs::open(machine, path) {
-        Ok(file) => file,
-        Err(reason) => return Err(format!(in alloc; "{path}: {reason}").ok()),
-    };
-    let octets = match read_whole(alloc, &mut FallibleIo(file)) {
+/// The configuration of octets. `Err` is the reason for which they are none.
+fn config_of(alloc: Global, octets: ReadOctets) -> Result<Config, Option<String>> {
+    let octets = match octets {
         Ok(octets) => octets,
-        Err(fault) => return Err(format!(in alloc; "{path}: {fault}").ok()),
+        Err(reason) => return Err(reason),
     };
     match Config::read(alloc, octets.as_slice()) {
         Ok(config) => Ok(config),
         Err(fault) => Err(words(alloc, &fault)),
     }
 }
+
+/// The reason for which a configuration is not read again.
+const STILL_READS: &str = "the file has not been read since the last time that it was asked for";
 
 impl ReloadFile {
     // Returns whether the file has appeared, and removes it. One that cannot be removed counts once.
@@ -121,7 +119,7 @@ impl ReloadFile {
             return false;
         }
         let was_stuck = *is_stuck;
-        *is_stuck = fs::remove_file(&self.machine, self.sign.path.as_str()).is_err();
+        *is_stuck = fs::remove_file(&self.machine, self.sign.path()).is_err();
         !was_stuck
     }
 
@@ -147,10 +145,10 @@ impl ReloadFile {
         }
     }
 
-    // Reads the configuration, and keeps what it names until the server has taken it.
-    fn read<R: Wait>(&self, rt: &R) -> Result<Reload, Option<String>> {
+    // Takes the configuration of what was read, and keeps what it names until the server has taken it.
+    fn read<R: Wait>(&self, rt: &R, octets: ReadOctets) -> Result<Reload, Option<String>> {
         let alloc = self.machine.alloc();
-        let config = read_config(&self.machine, self.config.as_str())?;
+        let config = config_of(alloc, octets)?;
         if let Some(reason) = self.hindrance(&config) {
             return Err(reason);
         }
@@ -162,16 +160,23 @@ impl ReloadFile {
             Ok(config) => config,
             Err(fault) => return Err(words(alloc, &fault)),
         };
-        let facts = facts_of(alloc, self.start, &config);
+        let limits = match with_past(alloc, &config.limits, &known.limits) {
+            Ok(limits) => limits,
+            Err(fault) => return Err(words(alloc, &fault)),
+        };
+        let facts = facts_of(alloc, self.start, &config, &limits);
+        let Some(copy) = copied_limits(alloc, &limits) else {
+            return Err(None);
+        };
         let Config {
             settings,
             numbers,
             users,
             store: _,
-            limits,
+            limits: _,
             groups,
         } = config;
-        let Ok(known) = Known::of(alloc, &users, known.next(), groups) else {
+        let Ok(known) = Known::of(alloc, &users, known.users(), groups, copy) else {
             return Err(None);
         };
         let Ok(terms) = Arc::new(alloc, Terms { users, settings }) else {
@@ -186,22 +191,28 @@ impl ReloadFile {
         })
     }
 
-    /// The configuration that the server is to take now, if it is to be read again.
+    /// The configuration that the server is to take now, if it was to be read again and has been read.
     pub fn asked<R: Wait>(&self, rt: &R) -> ReloadSign {
-        if !self.is_asked(rt) {
-            return ReloadSign::Nothing;
+        if self.is_asked(rt) && !self.reader.ask(rt) {
+            return ReloadSign::Refused(words(self.machine.alloc(), &STILL_READS));
         }
-        match self.read(rt) {
+        let Some(octets) = self.reader.take(rt) else {
+            return ReloadSign::Nothing;
+        };
+        match self.read(rt, octets) {
             Ok(reload) => ReloadSign::Asked(reload),
             Err(reason) => ReloadSign::Refused(reason),
         }
     }
 
-    /// The server has taken the configuration. Returns the facts that its status shows from now on.
-    pub fn taken<R: Wait>(&self, rt: &R) -> Option<StatusFacts> {
+    /// The server has taken the configuration. Returns the number of users that it has no longer, and the facts that its
+    /// status shows from now on.
+    pub fn taken<R: Wait>(&self, rt: &R) -> Option<(u64, Option<StatusFacts>)> {
         let NextConfig { known, facts } = self.next.lock(rt).take()?;
-        *self.known.lock(rt) = known;
-        facts
+        let mut earlier = self.known.lock(rt);
+        let gone = earlier.gone(&known);
+        *earlier = known;
+        Some((gone, facts))
     }
 
     /// The reason in words for which the server has refused the configuration.

@@ -1,16 +1,21 @@
 //! The server of the machine that the program runs on.
 
+ghost use Rattle.std.specs.Prelude.{◌≡◌, ◌<◌, Err, IfErr, IfOk};
+ghost use Rattle.ftpd_program.specs.declared.server.ServeFault.TheVariants.{TransferLog};
+
 use crate::asked::AskedService;
-use crate::facts::{Start, facts_of, start_of};
+use crate::config_thread::ConfigReader;
+use crate::facts::{Start, copied_limits, facts_of, start_of};
 use crate::known::Known;
-use crate::log_thread::{QueuedTransfers, serve_with_log};
-use crate::page_thread::serve_with_page;
+use crate::log_thread::{LogThreads, QueuedTransfers};
+use crate::page_thread::{PageSocket, PageThread};
 use crate::ready_file::MachineReadyFile;
 use crate::reload_file::{ReloadFile, capacity_of, root_of};
 use crate::sign_file::SignFile;
 use crate::starting::{Means, Prepared, Unprepared, prepare};
 use crate::status_file::{MachineSigns, StatusFile};
-use folder_store::DirStore;
+use crate::status_thread::StatusWriter;
+use folder_store::{DirStore, LeaveSign};
 use ftp_daemon::{Patience, RoundClock, ServeFault, ServerRuntime, Service, Terms, serve};
 use ftpd_program::{FtpdExit, ReadyOutput, StartFault};
 use last_fault::LastFault;
@@ -32,10 +37,15 @@ use virtual_tree::StoreFault;
 /// A folder of the machine, whose calls are recorded.
 type FolderStore = RecordedStore<DirStore<HostRuntime>>;
 
-fn open_folder(machine: &HostRuntime, folder: &str) -> Result<FolderStore, ServeFault> {
+fn open_folder(
+    machine: &HostRuntime,
+    folder: &str,
+    leaves: &LeaveSign,
+) -> Result<FolderStore, ServeFault> {
     let error = LastFault::new(machine.alloc())?;
+    let sign = leaves.another()?;
     match DirStore::new(*machine, folder, error.another()?) {
-        Ok(store) => Ok(RecordedStore::with_fault(machine.alloc(), store, error)),
+        Ok(store) => Ok(RecordedStore::with_fault(machine.alloc(), store.left_by(sign), error)),
         Err(StoreFault::Memory) => Err(ServeFault::Memory),
         Err(_) => Err(ServeFault::Store),
     }
@@ -45,11 +55,12 @@ fn open_folder(machine: &HostRuntime, folder: &str) -> Result<FolderStore, Serve
 fn open_folders(
     machine: &HostRuntime,
     folder: &str,
+    leaves: &LeaveSign,
     connections: u16,
 ) -> Result<Vec<FolderStore>, ServeFault> {
     let mut stores = Vec::new(machine.alloc());
     for _ in 0..connections {
-        let store = open_folder(machine, folder)?;
+        let store = open_folder(machine, folder, leaves)?;
         if stores.push(store).is_err() {
             return Err(ServeFault::Memory);
         }
@@ -62,6 +73,13 @@ type MachineNotes<R> = StatusKeeper<
     R,
     Notes<Logged<HostRuntime, QueuedLog<R>>, QueuedTransfers<R>>,
 >;
+
+// The signs of a server whose listings are left once it is to end.
+fn leaving<R>(signs: MachineSigns<R>, leaves: LeaveSign) -> MachineSigns<R> {
+    let mut signs = signs;
+    signs.leaves = Some(leaves);
+    signs
+}
 
 /// The parts of a configuration that a server takes at its start.
 #[derive(Drop)]
@@ -107,8 +125,10 @@ where
             serve(rt, service, output)?;
         }
         ServedStore::Folder(folder) => {
-            let store = open_folder(machine, folder.as_str())?;
-            let own_stores = open_folders(machine, folder.as_str(), numbers.max_cons)?;
+            let leaves = LeaveSign::new(machine.alloc())?;
+            let store = open_folder(machine, folder.as_str(), &leaves)?;
+            let own_stores = open_folders(machine, folder.as_str(), &leaves, numbers.max_cons)?;
+            let signs = leaving(signs, leaves);
             let service = Service {
                 terms,
                 numbers,
@@ -123,26 +143,6 @@ where
         }
     }
     Ok(())
-}
-
-/// The lines of notes and of the transfer log, for the thread that writes them and for those who offer them.
-#[derive(Drop)]
-struct LineHandles {
-    lines: Arc<SharedLines>,
-    notes: Arc<SharedLines>,
-    transfers: Arc<SharedLines>,
-}
-
-/// The lines of notes and of the transfer log, for those that offer them and for the thread that writes them.
-fn shared_lines(alloc: Global) -> Result<LineHandles, AllocError> {
-    let lines = Arc::new(alloc, SharedLines::new(alloc)?)?;
-    let notes = Arc::try_clone(&lines)?;
-    let transfers = Arc::try_clone(&lines)?;
-    Ok(LineHandles {
-        lines,
-        notes,
-        transfers,
-    })
 }
 
 /// Returns the ending of a server with a fault, and the reason for which it did not start, if it is known.
@@ -185,21 +185,6 @@ fn cells(
     Ok((cell, Some(kept), Some(watched)))
 }
 
-/// Two handles of the status file, if there is one: for the thread that writes it, and for its removal.
-fn file_handles(
-    alloc: Global,
-    file: Option<StatusFile>,
-) -> Result<(Option<Arc<StatusFile>>, Option<Arc<StatusFile>>), AllocError> {
-    match file {
-        Some(file) => {
-            let own = Arc::new(alloc, file)?;
-            let another = Arc::try_clone(&own)?;
-            Ok((Some(own), Some(another)))
-        }
-        None => Ok((None, None)),
-    }
-}
-
 /// The parts of a configuration that a server takes, and the names that it knows by numbers.
 fn known_of(alloc: Global, config: Config) -> Result<(ServedConfig, Known), AllocError> {
     let Config {
@@ -210,7 +195,10 @@ fn known_of(alloc: Global, config: Config) -> Result<(ServedConfig, Known), Allo
         limits,
         groups,
     } = config;
-    let known = Known::of(alloc, &users, 0, groups)?;
+    let Some(copy) = copied_limits(alloc, &limits) else {
+        return Err(AllocError);
+    };
+    let known = Known::of(alloc, &users, &[], groups, copy)?;
     let terms = Arc::new(alloc, Terms { users, settings })?;
     let served = ServedConfig {
         terms,
@@ -221,22 +209,22 @@ fn known_of(alloc: Global, config: Config) -> Result<(ServedConfig, Known), Allo
     Ok((served, known))
 }
 
-/// The reload file of a configuration at a path, if there is to be one.
+/// The reload file of a configuration, if there is to be one and a thread that reads it.
 fn reload_file(
     machine: &HostRuntime,
     sign: Option<SignFile>,
-    config: String,
+    reader: Option<Arc<ConfigReader>>,
     known: Known,
     served: &ServedConfig,
     start: Start,
 ) -> Result<Option<ReloadFile>, AllocError> {
-    let Some(sign) = sign else {
+    let (Some(sign), Some(reader)) = (sign, reader) else {
         return Ok(None);
     };
     Ok(Some(ReloadFile {
         machine: *machine,
         sign,
-        config,
+        reader,
         numbers: served.numbers,
         root: String::from_str(machine.alloc(), root_of(&served.store))?,
         capacity: capacity_of(&served.store),
@@ -247,15 +235,103 @@ fn reload_file(
     }))
 }
 
-/// Serves with what was prepared.
-fn serve_with<R, W>(
+/// The threads that own paths and sockets of the machine, as far as they are wanted.
+#[derive(Drop)]
+struct OwnThreads {
+    /// It reads the configuration again.
+    reader: Option<Arc<ConfigReader>>,
+    /// It writes the status file.
+    status: Option<Arc<StatusWriter>>,
+    /// It serves the status page.
+    page: Option<Arc<PageThread>>,
+}
+
+/// The paths and sockets of these threads.
+#[derive(Drop)]
+struct OwnMeans {
+    /// The path of the configuration, if it may be read again.
+    config: Option<String>,
+    status: Option<StatusFile>,
+    page: Option<PageSocket>,
+    cell: Arc<StatusCell>,
+}
+
+/// Another handle of a thread, if there is one.
+fn another<T>(thread: &Option<Arc<T>>) -> Result<Option<Arc<T>>, AllocError> {
+    match thread {
+        Some(thread) => Ok(Some(Arc::try_clone(thread)?)),
+        None => Ok(None),
+    }
+}
+
+impl OwnThreads {
+    /// Starts those that are wanted.
+    fn start<R>(rt: &R, machine: &HostRuntime, means: OwnMeans) -> Result<OwnThreads, ServeFault>
+    where
+        R: Threads + ServerRuntime + Copy + Send + Sync + 'static,
+    {
+        let OwnMeans {
+            config,
+            status,
+            page,
+            cell,
+        } = means;
+        let reader = match config {
+            Some(path) => Some(ConfigReader::start(rt, machine, path)?),
+            None => None,
+        };
+        let status = match status {
+            Some(file) => Some(StatusWriter::start(rt, machine.alloc(), file)?),
+            None => None,
+        };
+        let page = match page {
+            Some(socket) => Some(PageThread::start(rt, machine, socket, cell)?),
+            None => None,
+        };
+        Ok(OwnThreads {
+            reader,
+            status,
+            page,
+        })
+    }
+
+    /// Waits for the end of each, at most a second.
+    fn leave<R: ServerRuntime>(&self, rt: &R) {
+        if let Some(page) = &self.page {
+            page.leave(rt);
+        }
+        if let Some(status) = &self.status {
+            status.leave(rt);
+        }
+        if let Some(reader) = &self.reader {
+            reader.leave(rt);
+        }
+    }
+}
+
+/// The lines of a server, for those that offer them.
+fn offered_lines(
+    log: &LogThreads,
+    is_logged: bool,
+) -> Result<(Arc<SharedLines>, Option<Arc<SharedLines>>), AllocError> {
+    let notes = log.notes()?;
+    if !is_logged {
+        return Ok((notes, None));
+    }
+    let transfers = log.transfers()?;
+    Ok((notes, Some(transfers)))
+}
+
+/// Serves with what was prepared, and with the threads that write its lines.
+fn serve_logged<R, W>(
     rt: &R,
     machine: &HostRuntime,
     means: Means,
+    log: &LogThreads,
     output: &mut W,
 ) -> Result<(), ServeFault>
 where
-    R: Threads + ServerRuntime + RoundClock + Copy + Send + Sync,
+    R: Threads + ServerRuntime + RoundClock + Copy + Send + Sync + 'static,
     W: TextWriter,
 {
     let Means {
@@ -267,47 +343,73 @@ where
         drain,
         reload,
         is_logged,
-        log,
+        log: _,
         status,
         page,
         patience,
     } = means;
-    let LineHandles {
-        lines,
-        notes,
-        transfers,
-    } = shared_lines(rt.alloc())?;
+    let (lines, transfers) = offered_lines(log, is_logged)?;
     let start = start_of(machine);
-    let Some(facts) = facts_of(rt.alloc(), start, &config) else {
+    let Some(facts) = facts_of(rt.alloc(), start, &config, &config.limits) else {
         return Err(ServeFault::Memory);
     };
     let (cell, kept, watched) = cells(rt.alloc(), status.is_some() || page.is_some())?;
-    let (status, written) = file_handles(rt.alloc(), status)?;
-    let queued = QueuedLog::new(*rt, notes, form);
-    let logged = if is_logged { Some(transfers) } else { None };
-    let transfers = QueuedTransfers::new(*rt, logged);
+    let queued = QueuedLog::new(*rt, lines, form);
+    let transfers = QueuedTransfers::new(*rt, transfers);
     let notes = Notes::new(Logged::new(*machine, Level::Info, queued), form, transfers);
     notes.note_warnings(warnings.as_str());
     let handler = StatusKeeper::new(*rt, notes, facts, kept);
     let (config, known) = known_of(rt.alloc(), config)?;
-    let reload = reload_file(machine, reload, path, known, &config, start)?;
+    let own = OwnMeans {
+        config: if reload.is_some() { Some(path) } else { None },
+        status,
+        page,
+        cell,
+    };
+    let threads = OwnThreads::start(rt, machine, own)?;
+    let reader = another(&threads.reader)?;
     let signs = MachineSigns {
         rt: *rt,
         stop,
+        leaves: None,
         drain,
-        reload,
-        file: written,
+        reload: reload_file(machine, reload, reader, known, &config, start)?,
+        notes: log.plain_notes()?,
+        status: another(&threads.status)?,
         cell: watched,
     };
-    let served = serve_with_log(rt, &lines, form, log, || {
-        serve_with_page(rt, machine, page.as_ref(), &cell, || {
-            serve_config(rt, config, handler, machine, signs, patience, output)
-        })
-    });
-    if let Some(file) = &status {
-        file.remove();
-    }
+    let served = serve_config(rt, config, handler, machine, signs, patience, output);
+    threads.leave(rt);
     served
+}
+
+/// The outcome of a server that lost this number of lines of its transfer log at the end.
+fn with_lost(served: Result<(), ServeFault>, lost: u64) -> Result<(), ServeFault>
+    ensures whole { lost ≡ 0 → result ≡ served }
+    ensures lost { IfOk served (λ _. 0 < lost → result ≡ Err TransferLog) }
+    ensures faulty { IfErr served (λ fault. result ≡ Err fault) }
+{
+    match served {
+        Ok(()) if lost > 0 => Err(ServeFault::TransferLog),
+        served => served,
+    }
+}
+
+/// Serves with what was prepared.
+fn serve_with<R, W>(
+    rt: &R,
+    machine: &HostRuntime,
+    means: Means,
+    output: &mut W,
+) -> Result<(), ServeFault>
+where
+    R: Threads + ServerRuntime + RoundClock + Copy + Send + Sync + 'static,
+    W: TextWriter,
+{
+    let mut means = means;
+    let log = LogThreads::start(rt, machine.alloc(), means.form, means.log.take())?;
+    let served = serve_logged(rt, machine, means, &log, output);
+    with_lost(served, log.leave(rt))
 }
 
 /// Serves as asked. The ready file, if any, is made before `ready` is written, and removed at the end. Returns the ending
@@ -319,7 +421,7 @@ pub(crate) fn serve_asked<'w, R, W>(
     output: &mut FallibleIo<W>,
 ) -> (FtpdExit<'w>, Option<StartFault>)
 where
-    R: Threads + ServerRuntime + RoundClock + Copy + Send + Sync,
+    R: Threads + ServerRuntime + RoundClock + Copy + Send + Sync + 'static,
     W: Write,
 {
     let Prepared { means, ready } = match prepare(rt, machine, service) {

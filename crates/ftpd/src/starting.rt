@@ -5,9 +5,10 @@ use crate::log_file::LogFile;
 use crate::page_thread::PageSocket;
 use crate::ready_file::MachineReadyFile;
 use crate::sign_file::SignFile;
+use crate::stated_files::{FRONT, found_at, twin_of};
 use crate::status_file::StatusFile;
 use ftp_daemon::{Patience, ServeFault};
-use ftpd_program::StartFault;
+use ftpd_program::{StartFault, is_free_for_log, is_free_for_status};
 use line_queue::LogForm;
 use server_config::{Config, ServedStore};
 use std::net::{Net, TcpListener, TcpStream};
@@ -26,7 +27,8 @@ pub(crate) struct Means {
     /// The sign that the configuration is to be read again, if there is to be one.
     pub reload: Option<SignFile>,
     pub is_logged: bool,
-    pub log: LogFile,
+    /// The transfer log, if there is to be one, until its thread takes it.
+    pub log: Option<LogFile>,
     pub status: Option<StatusFile>,
     pub page: Option<PageSocket>,
     pub patience: Patience,
@@ -130,10 +132,7 @@ fn sign_if_any(
     };
     match hindrance_at(machine, path.as_str()) {
         Some(hindrance) => Err(sign_fault(sign, path, hindrance)),
-        None => Ok(Some(SignFile {
-            machine: *machine,
-            path,
-        })),
+        None => Ok(Some(SignFile::new(*machine, path))),
     }
 }
 
@@ -175,12 +174,12 @@ fn form_named(name: Option<String>) -> Result<LogForm, StartFault> {
     }
 }
 
-/// Returns the transfer log at a path, if there is one. `Err` if its file cannot be opened.
-fn log_at(machine: &HostRuntime, path: Option<String>) -> Result<LogFile, StartFault> {
+/// Returns the transfer log at a path, if there is to be one. `Err` if its file cannot be opened.
+fn log_at(machine: &HostRuntime, path: Option<String>) -> Result<Option<LogFile>, StartFault> {
     match path {
-        None => Ok(LogFile::none(*machine)),
-        Some(path) => match LogFile::at(*machine, path) {
-            Ok(file) => Ok(file),
+        None => Ok(None),
+        Some(path) => match LogFile::at(*machine, log_path(machine, path)?) {
+            Ok(file) => Ok(Some(file)),
             Err((path, reason)) => Err(StartFault::TransferLogUnopened { path, reason }),
         },
     }
@@ -198,6 +197,38 @@ fn folder_fault(machine: &HostRuntime, store: &ServedStore) -> Option<StartFault
     }
 }
 
+/// Returns the path of a status, at which nothing else is. `Err` if there is.
+fn status_path(machine: &HostRuntime, path: String) -> Result<String, StartFault> {
+    let mut octets = [0; FRONT];
+    match found_at(machine, path.as_str(), &mut octets) {
+        Ok(found) if is_free_for_status(found) => Ok(path),
+        Ok(_) => Err(StartFault::NoStatus { path }),
+        Err(reason) => Err(StartFault::StatusUnwritten { path, reason }),
+    }
+}
+
+/// Returns the path of a transfer log, at which nothing else is. `Err` if there is.
+fn log_path(machine: &HostRuntime, path: String) -> Result<String, StartFault> {
+    let mut octets = [0; FRONT];
+    match found_at(machine, path.as_str(), &mut octets) {
+        Ok(found) if is_free_for_log(found) => Ok(path),
+        Ok(_) => Err(StartFault::NoTransferLog { path }),
+        Err(reason) => Err(StartFault::TransferLogUnopened { path, reason }),
+    }
+}
+
+/// Fails if two paths of a service are those of one file.
+fn check_twins(machine: &HostRuntime, service: &AskedService) -> Result<(), Unprepared> {
+    match twin_of(machine, machine.alloc(), service) {
+        Ok(None) => Ok(()),
+        Ok(Some(path)) => Err(not_prepared(ServeFault::OnePath, StartFault::OnePath { path })),
+        Err(_) => Err(Unprepared {
+            fault: ServeFault::Memory,
+            start: None,
+        }),
+    }
+}
+
 /// Returns the status file at these paths, if there is to be one. `Err` if none can be written there.
 fn status_at(
     machine: &HostRuntime,
@@ -206,6 +237,7 @@ fn status_at(
     let Some((path, beside)) = paths else {
         return Ok(None);
     };
+    let path = status_path(machine, path)?;
     let file = StatusFile::new(*machine, path, beside);
     match file.try_out() {
         Ok(()) => Ok(Some(file)),
@@ -247,6 +279,7 @@ pub(crate) fn prepare<R>(
 where
     R: Net<Listener = TcpListener, Stream = TcpStream>,
 {
+    check_twins(machine, &service)?;
     let AskedService {
         path,
         config,

@@ -2,8 +2,11 @@
 
 ghost use Rattle.std.specs.Prelude.{true};
 
+use crate::log_thread::PlainNotes;
 use crate::reload_file::ReloadFile;
-use crate::sign_file::{SignFile, is_given};
+use crate::sign_file::{SignFile, SignLook};
+use crate::status_thread::StatusWriter;
+use folder_store::LeaveSign;
 use ftp_daemon::{OwnerSigns, ReloadFault, ReloadSign};
 use server_status::status_text;
 use status_keeper::StatusCell;
@@ -46,8 +49,14 @@ impl StatusFile {
         }
     }
 
-    /// Writes a text. `Err` is the machine's reason: then what was at the path is still there.
+    /// Writes a text. `Err` is the machine's reason: then what was at the path is still there. What is no regular file
+    /// stays.
     pub fn write(&self, text: &[u8]) -> io::Result<()> {
+        if let Ok(found) = fs::metadata(&self.machine, self.path.as_str()) {
+            if !found.is_file() {
+                return Err(io::Error::from(io::ErrorKind::AlreadyExists));
+            }
+        }
         write_new(&self.machine, self.beside.as_str(), text)?;
         fs::rename(&self.machine, self.beside.as_str(), self.path.as_str())
     }
@@ -75,20 +84,43 @@ impl StatusFile {
 pub(crate) struct MachineSigns<R> {
     pub rt: R,
     pub stop: Option<SignFile>,
+    /// Given once the server is to end: listings under way are left.
+    pub leaves: Option<LeaveSign>,
     pub drain: Option<SignFile>,
     pub reload: Option<ReloadFile>,
-    pub file: Option<Arc<StatusFile>>,
+    /// The notes, for a file that cannot be examined.
+    pub notes: PlainNotes,
+    /// The thread that writes the status file, if there is one.
+    pub status: Option<Arc<StatusWriter>>,
     /// The status, if it is shown at all.
     pub cell: Option<Arc<StatusCell>>,
 }
 
+impl<R: Wait + AllocGlobal> MachineSigns<R> {
+    // Returns whether a sign is there; not if there is no such file to be. One that cannot be examined is noted once.
+    fn is_given(&self, sign: &Option<SignFile>) -> bool {
+        let Some(sign) = sign else {
+            return false;
+        };
+        let look = sign.look();
+        if let Some(reason) = sign.new_reason(look) {
+            self.notes.note_unseen(&self.rt, sign.path(), reason);
+        }
+        matches!(look, SignLook::There)
+    }
+}
+
 impl<R: Wait + AllocGlobal> OwnerSigns for MachineSigns<R> {
     fn is_up(&self) -> bool {
-        is_given(&self.stop)
+        let is_up = self.is_given(&self.stop);
+        if let (true, Some(sign)) = (is_up, &self.leaves) {
+            sign.give();
+        }
+        is_up
     }
 
     fn is_to_drain(&self) -> bool {
-        is_given(&self.drain)
+        self.is_given(&self.drain)
     }
 
     ghost allows = { λ _. true };
@@ -101,10 +133,17 @@ impl<R: Wait + AllocGlobal> OwnerSigns for MachineSigns<R> {
     }
 
     fn taken(&self) {
-        if let Some(file) = &self.reload {
-            if let (Some(facts), Some(cell)) = (file.taken(&self.rt), &self.cell) {
-                cell.put_facts(&self.rt, facts);
-            }
+        let Some(file) = &self.reload else {
+            return;
+        };
+        let Some((gone, facts)) = file.taken(&self.rt) else {
+            return;
+        };
+        if gone > 0 {
+            self.notes.note_gone(&self.rt, gone);
+        }
+        if let (Some(facts), Some(cell)) = (facts, &self.cell) {
+            cell.put_facts(&self.rt, facts);
         }
     }
 
@@ -119,12 +158,12 @@ impl<R: Wait + AllocGlobal> OwnerSigns for MachineSigns<R> {
         self.cell.is_some()
     }
 
-    // If the file cannot be written, or memory runs out, the next look is written.
+    // If memory runs out, the next look is written.
     fn looked(&self) {
-        if let (Some(file), Some(cell)) = (&self.file, &self.cell) {
+        if let (Some(writer), Some(cell)) = (&self.status, &self.cell) {
             if let Ok(Some(status)) = cell.last(&self.rt) {
                 if let Ok(text) = status_text(self.rt.alloc(), &status) {
-                    let _ = file.write(text.as_bytes());
+                    writer.put(&self.rt, text);
                 }
             }
         }

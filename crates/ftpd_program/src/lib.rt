@@ -14,6 +14,7 @@
 
 mod against;
 mod ending;
+mod paths;
 mod printing;
 mod ready;
 mod run;
@@ -26,6 +27,9 @@ mod watching;
 pub use command_line::{Patience, ServeFiles};
 pub use config_report::{Lookout, Sight};
 pub use ending::{FtpdErrorText, FtpdExit};
+pub use paths::{
+    FileIdentity, FoundFile, StatedPath, first_twin, is_free_for_log, is_free_for_status,
+};
 pub use printing::{Print, PrintFault, run_print};
 pub use ready::{ReadyFile, ReadyOutput};
 pub use run::run_words;

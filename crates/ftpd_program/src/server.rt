@@ -37,13 +37,16 @@ pub enum ServeFault {
     /// cannot be read again.
     #[error("ReloadFile")]
     ReloadFile,
-    /// The file of the transfer log cannot be opened.
+    /// Two of the paths that are stated are those of one file.
+    #[error("OnePath")]
+    OnePath,
+    /// The file of the transfer log cannot be opened, or is none; or lines of it were lost at the end.
     #[error("TransferLog")]
     TransferLog,
     /// No form of notes has the name that is stated.
     #[error("LogForm")]
     LogForm,
-    /// The status file cannot be written.
+    /// The status file cannot be written, or what is at its path is no status.
     #[error("StatusFile")]
     StatusFile,
     /// The port of the status page cannot be listened on.

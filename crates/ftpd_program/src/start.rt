@@ -26,6 +26,12 @@ pub enum StartFault {
     ReadyFileThere { path: String },
     /// The ready file of this path could not be made (`ReadyFile`).
     ReadyFileUnmade { path: String, reason: io::Error },
+    /// This path is that of another file too, which is stated (`OnePath`).
+    OnePath { path: String },
+    /// There is something at this path that is no transfer log (`TransferLog`).
+    NoTransferLog { path: String },
+    /// There is something at the path of the status file that is no status (`StatusFile`).
+    NoStatus { path: String },
     /// The transfer log of this path cannot be opened (`TransferLog`).
     TransferLogUnopened { path: String, reason: io::Error },
     /// The status file of this path cannot be written (`StatusFile`).
@@ -63,6 +69,24 @@ impl fmt::Display for StartFault {
             }
             StartFault::ReadyFileUnmade { path, reason } => {
                 write!(f, "the ready file {path} could not be made: {reason}")
+            }
+            StartFault::OnePath { path } => {
+                write!(
+                    f,
+                    "{path} is stated for two files: state a path of its own for each"
+                )
+            }
+            StartFault::NoTransferLog { path } => {
+                write!(
+                    f,
+                    "{path} is no transfer log: move it away, or state another path"
+                )
+            }
+            StartFault::NoStatus { path } => {
+                write!(
+                    f,
+                    "{path} is no status of a server: move it away, or state another path"
+                )
             }
             StartFault::TransferLogUnopened { path, reason } => {
                 write!(f, "the transfer log {path} could not be opened: {reason}")

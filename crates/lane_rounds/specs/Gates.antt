@@ -27,13 +27,19 @@ dribbles_after dribbles is_free octets =
     else if nat_lt octets WORTH_UP then min (dribbles + 1) 255
     else dribbles
 
--- The octets of an upload that are known to be there, after a read of this many. While the rates
--- have plenty left, they are not counted after a read of as many as one can return.
-abbrev pub left_after : Option ℕ → Bool → ℕ → Option ℕ
-left_after None has_plenty octets =
-    if has_plenty && nat_le MAX_READ octets then None else Some 0
-left_after (Some come) has_plenty octets =
-    if has_plenty && nat_le MAX_READ octets then None else Some (come - octets)
+-- The octets of an upload that are known to be there before its first read: if no rate is a limit,
+-- they are not counted.
+abbrev pub come_at_first : Bool → Option ℕ
+come_at_first is_free = if is_free then None else Some 0
+
+-- The octets that are known to be there after a read of this many. They are not counted while no
+-- rate is a limit, nor after a read of as many as one can return, while the rates have plenty
+-- left.
+abbrev pub left_after : Option ℕ → Bool → Bool → ℕ → Option ℕ
+left_after None is_free has_plenty octets =
+    if is_free || (has_plenty && nat_le MAX_READ octets) then None else Some 0
+left_after (Some come) is_free has_plenty octets =
+    if is_free || (has_plenty && nat_le MAX_READ octets) then None else Some (come - octets)
 
 -- it looks before it asks, if they are few
 abbrev pub is_to_look : Option ℕ → Bool

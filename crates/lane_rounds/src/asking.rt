@@ -3,13 +3,14 @@
 //! A transfer that is granted octets and does not move them takes them from the others under its rates, until these have
 //! earned them again. So an upload looks how much has come before it asks, and asks for that. While the rates have
 //! plenty left, one whose last read was of all that a read can return does not look: a look costs a copy of the octets.
+//! Nor does one that no rate limits, since it takes nothing from anybody: it asks for as many as one read can return.
 
-ghost use Rattle.std.specs.Prelude.{◌≡◌, Some};
-ghost use Rattle.lane_rounds.specs.Gates.{is_to_look, left_after, want_of};
+ghost use Rattle.std.specs.Prelude.{◌≡◌, Some, IfSome};
+ghost use Rattle.lane_rounds.specs.Gates.{come_at_first, is_to_look, left_after, want_of};
 ghost use Rattle.transfer_worker.specs.Transfers.{IsUploadWant};
 
 use data_pump::MAX_READ;
-use server_house::DataConnection;
+use server_house::{DataConnection, LaneSign};
 use std::alloc::Global;
 
 /// An upload looks before an ask if fewer octets than this are known to be there: half of a read.
@@ -21,14 +22,25 @@ pub(crate) struct UploadLooks {
     connection: DataConnection,
     // room for what a look finds; none before the first
     room: Vec<u8, Global>,
-    // the octets known to be there; `None` after a read of as many as one can return, while the rates have plenty left
+    // the octets known to be there; `None` after a read of as many as one can return, while the rates have plenty left,
+    // and if no rate is a limit
     come: Option<u64>,
 }
 
-// The octets known to be there after a read of this many, while the rates have plenty left or not.
-fn left_after(come: Option<u64>, has_plenty: bool, octets: u64) -> Option<u64>
-    ensures left { result ≡ left_after come has_plenty octets }
+// The octets known to be there before the first read.
+fn come_at_first(is_free: bool) -> Option<u64>
+    ensures come { result ≡ come_at_first is_free }
 {
+    if is_free { None } else { Some(0) }
+}
+
+// The octets known to be there after a read of this many, while no rate is a limit, or the rates have plenty left or not.
+fn left_after(come: Option<u64>, is_free: bool, has_plenty: bool, octets: u64) -> Option<u64>
+    ensures left { result ≡ left_after come is_free has_plenty octets }
+{
+    if is_free {
+        return None;
+    }
     if has_plenty && octets >= MAX_READ as u64 {
         return None;
     }
@@ -61,24 +73,30 @@ pub(crate) fn want_of(come: Option<u64>) -> u64
 }
 
 impl UploadLooks {
-    /// The looks of an upload over this connection, of which nothing is known yet. `None` if there is no memory for
-    /// another handle.
-    pub(crate) fn new(alloc: Global, connection: &DataConnection) -> Option<UploadLooks> {
+    /// The looks of an upload over this connection, of which nothing is known yet, and which no rate limits, or one does.
+    /// `None` if there is no memory for another handle.
+    pub(crate) fn new(
+        alloc: Global,
+        connection: &DataConnection,
+        is_free: bool,
+    ) -> Option<UploadLooks>
+        ensures come { IfSome result (λ looks. looks.come ≡ come_at_first is_free) }
+    {
         match connection.another() {
             Ok(connection) => Some(UploadLooks {
                 connection,
                 room: Vec::new(alloc),
-                come: Some(0),
+                come: come_at_first(is_free),
             }),
             Err(_) => None,
         }
     }
 
-    /// Takes account of a read of this many octets, while the rates have plenty left or not.
-    pub(crate) fn account(&mut self, has_plenty: bool, octets: u64)
-        ensures come { self.new.come ≡ left_after self.old.come has_plenty octets }
+    /// Takes account of a read of this many octets, while no rate is a limit, or the rates have plenty left or not.
+    pub(crate) fn account(&mut self, is_free: bool, has_plenty: bool, octets: u64)
+        ensures come { self.new.come ≡ left_after self.old.come is_free has_plenty octets }
     {
-        self.come = left_after(self.come, has_plenty, octets);
+        self.come = left_after(self.come, is_free, has_plenty, octets);
     }
 
     // Returns whether there is room for what a look finds.
@@ -111,9 +129,9 @@ impl UploadLooks {
 }
 
 /// Takes account of a read, if the transfer is an upload that looks.
-pub(crate) fn account(looks: &mut Option<UploadLooks>, has_plenty: bool, octets: u64) {
+pub(crate) fn account(looks: &mut Option<UploadLooks>, sign: &LaneSign, octets: u64) {
     if let Some(looks) = looks {
-        looks.account(has_plenty, octets);
+        looks.account(sign.is_free(), sign.has_plenty(), octets);
     }
 }
 

@@ -178,7 +178,7 @@ where
     {
         let is_free = self.is_upload && sign.is_whole();
         self.dribbles = dribbles_after(self.dribbles, is_free, octets);
-        account(&mut self.upload, sign.has_plenty(), octets);
+        account(&mut self.upload, sign, octets);
     }
 
     // Before an ask. If the last one was granted nothing, the rates have nothing left, and this waits a moment; and so

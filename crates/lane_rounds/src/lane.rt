@@ -34,14 +34,32 @@ fn is_upload<R: Source, K: Sink, C: Read + Write + Drop>(job: &LaneJob<R, K, C>)
     matches!(job, LaneJob::Take { .. })
 }
 
-// The looks of an upload, if there is memory for them.
-fn looks_of<R: Source, K: Sink>(
+// Returns whether no rate is a limit of a user's uploads, and nobody holds a round now.
+fn is_free<B: PartsName>(engine: &Engine<B>, user: u32) -> bool {
+    match engine.rounds.try_lock() {
+        Some(rounds) => rounds.is_free(Way::Up, user),
+        None => false,
+    }
+}
+
+// The looks of an upload, if there is memory for them. Its lane's sign has from then on whether a rate limits it.
+fn looks_of<R: Source, K: Sink, B: PartsName>(
     alloc: Global,
+    engine: &Engine<B>,
+    sign: &LaneSign,
     job: &LaneJob<R, K, DataConnection>,
 ) -> Option<UploadLooks> {
     match job {
         LaneJob::Send { .. } => None,
-        LaneJob::Take { connection, .. } => UploadLooks::new(alloc, connection),
+        LaneJob::Take {
+            connection,
+            user,
+            ..
+        } => {
+            let is_free = is_free(engine, *user);
+            sign.set_free(is_free);
+            UploadLooks::new(alloc, connection, is_free)
+        }
     }
 }
 
@@ -87,7 +105,10 @@ where
         None => {}
     }
     let mut gate = LaneGate::new(rt, house, engine, lane, run, is_upload(&job));
-    gate.set_looks(looks_of(rt.alloc(), &job));
+    match house.lanes.get(lane) {
+        Some(own) => gate.set_looks(looks_of(rt.alloc(), engine, own, &job)),
+        None => {}
+    }
     let before = worker.moved();
     worker.work(rt, rt.alloc(), &engine.desk, job, &mut gate);
     gate.report(worker.moved().saturating_sub(before));

@@ -67,7 +67,7 @@ fn transfers_of(lanes: &[LaneSign]) -> [u64; MAX_LANES] {
 }
 
 // Tells each lane that a round has answered whether it was granted all that it asked for, and one that receives whether
-// its rates have plenty left.
+// its rates have plenty left, and whether none is a limit.
 fn report_grants<B: PartsName>(
     lanes: &[LaneSign],
     rounds: &LentRounds<B>,
@@ -80,6 +80,7 @@ fn report_grants<B: PartsName>(
             sign.set_whole(*grant >= ask.want);
             if matches!(ask.way, Way::Up) {
                 sign.set_plenty(rounds.has_plenty(Way::Up, ask.user, now));
+                sign.set_free(rounds.is_free(Way::Up, ask.user));
             }
         }
     }

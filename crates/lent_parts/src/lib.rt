@@ -23,5 +23,5 @@ pub use look::RoundLook;
 pub use name::PartsName;
 pub use rounds::LentRounds;
 pub use seats::LentSeats;
-pub use settlement::settle_lent;
+pub use settlement::{MisplacedParts, settle_lent};
 pub use worker::LentWorker;

@@ -11,6 +11,7 @@ ghost use Rattle.round_pace.specs.Changed.{IsChangedTo};
 ghost use Rattle.round_pace.specs.Earned.{tick_of};
 ghost use Rattle.round_pace.specs.Histories.{rates_of, after};
 ghost use Rattle.round_pace.specs.Offered.{offer_round};
+ghost use Rattle.round_pace.specs.Rows.{are_free, rows_of};
 ghost use Rattle.round_tally.specs.Counts.{tallied};
 ghost use Rattle.paced_rounds.specs.History.{round_at, history, ended_in, stretch_under, stretches};
 ghost use Rattle.paced_rounds.specs.HeldLeaves.{AreHeld};
@@ -89,6 +90,13 @@ impl<B: PartsName> LentRounds<B> {
             ≡ has_plenty way user self.now.rounds.pace self.now.rounds.cadence now }
     {
         self.rounds.has_plenty(way, user, now)
+    }
+
+    /// Returns whether no rate is a limit of a user's transfers.
+    pub fn is_free(&self, way: Way, user: u32) -> bool
+        ensures free { result ≡ are_free (rows_of way user self.now.rounds.pace) }
+    {
+        self.rounds.is_free(way, user)
     }
 
     /// The earliest moment of the next round for a transfer of a user.

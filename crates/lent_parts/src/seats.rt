@@ -7,7 +7,7 @@ ghost use Rattle.paced_rounds.specs.Seconds.{HasKept};
 use crate::desk::LentDesk;
 use crate::name::PartsName;
 use crate::rounds::LentRounds;
-use crate::settlement::settle_lent;
+use crate::settlement::{MisplacedParts, settle_lent, tell_misplaced};
 use crate::worker::LentWorker;
 use grant_ledger::{SettledNumbers as Settled, Tally};
 use lane_desk::{LaneSeat, Worked};
@@ -136,9 +136,15 @@ impl<B: PartsName> LentSeats<B> {
         self.seats.get(lane)
     }
 
-    /// Gathers the seats, once no thread has one any more, and settles the book of their desk, as `settle_lent`. Waits
-    /// for ever if there are more seats than room was made for, which `lend` is not called with.
-    pub fn settle<R: Wait>(self, rt: &R, desk: LentDesk<B>, rounds: LentRounds<B>) -> Settled
+    /// Gathers the seats, once no thread has one any more, and settles the book of their desk, as `settle_lent`. If there
+    /// are more seats than room was made for, which `lend` is not called with, the first of those is reported for ever.
+    pub fn settle<R: Wait, M: MisplacedParts>(
+        self,
+        rt: &R,
+        told: &mut M,
+        desk: LentDesk<B>,
+        rounds: LentRounds<B>,
+    ) -> Settled
         ensures issued { result.issued ≡ rounds.rounds.rounds.book.issued }
         ensures sum { result.issued ≡ result.moved + result.back }
         ensures kept { HasKept B.rates B.when B.carried result.issued }
@@ -150,10 +156,9 @@ impl<B: PartsName> LentSeats<B> {
             worked,
         } = room.into_inner();
         if seats.len() <= lanes {
-            settle_lent(rt, desk, rounds, unlocked(seats, gathered), worked)
+            settle_lent(rt, told, desk, rounds, unlocked(seats, gathered), worked)
         } else {
-            for _ in rt.forever() {}
-            unreachable!()
+            tell_misplaced(rt, told, lanes)
         }
     }
 }

@@ -14,10 +14,26 @@ use lane_desk::{Worked, settle_all};
 use std::alloc::Allocator;
 use std::sync::Wait;
 
-// Gathers workers in the order of their lanes. The type of a worker does not contain its lane: this waits for ever if
-// one is not in its lane's place.
-fn gather<R: Wait, B: PartsName, A: Allocator>(
+/// Is told of a fault of the program: parts that were lent are not back in their places, so nothing can be settled. Parts
+/// cannot be dropped, so the call that settles them does not return then, and reports this again and again.
+pub trait MisplacedParts {
+    /// The part of a lane is missing, or in the place of another. Waits a while.
+    fn misplaced(&mut self, lane: usize);
+}
+
+/// Reports for ever that the part of a lane is not in its place.
+pub(crate) fn tell_misplaced<R: Wait, M: MisplacedParts>(rt: &R, told: &mut M, lane: usize) -> ! {
+    for _ in rt.forever() {
+        told.misplaced(lane);
+    }
+    unreachable!()
+}
+
+// Gathers workers in the order of their lanes. The type of a worker does not contain its lane: one that is not in its
+// lane's place is reported for ever.
+fn gather<R: Wait, B: PartsName, M: MisplacedParts, A: Allocator>(
     rt: &R,
+    told: &mut M,
     mut workers: Vec<LentWorker<B>, A>,
     gathered: &mut Vec<Worked<()>, A>,
 )
@@ -31,8 +47,7 @@ fn gather<R: Wait, B: PartsName, A: Allocator>(
         if worker.lane() == gathered.len() {
             gathered.push_reserved(worker.into_worked());
         } else {
-            for _ in rt.forever() {}
-            unreachable!()
+            tell_misplaced(rt, told, gathered.len());
         }
     }
     workers.destroy_empty();
@@ -45,9 +60,11 @@ fn gather<R: Wait, B: PartsName, A: Allocator>(
 /// and which granted the octets issued beyond those carried.
 ///
 /// The types of the workers say that they are of this desk. That each lane's worker is there, and in its place, is checked:
-/// otherwise this would wait for ever, as a caller would have to that got all parts back, which cannot be dropped.
-pub fn settle_lent<R: Wait, B: PartsName, A: Allocator, D: Allocator>(
+/// otherwise this waits for ever, as a caller would have to that got all parts back, which cannot be dropped, and reports
+/// it to `told`.
+pub fn settle_lent<R: Wait, B: PartsName, M: MisplacedParts, A: Allocator, D: Allocator>(
     rt: &R,
+    told: &mut M,
     desk: LentDesk<B, D>,
     rounds: LentRounds<B>,
     workers: Vec<LentWorker<B>, A>,
@@ -62,13 +79,12 @@ pub fn settle_lent<R: Wait, B: PartsName, A: Allocator, D: Allocator>(
     ensures kept { HasKept B.rates B.when B.carried result.issued }
 {
     let mut gathered = room;
-    gather(rt, workers, &mut gathered);
+    gather(rt, told, workers, &mut gathered);
     let desk = desk.into_desk();
     if gathered.len() == desk.lanes() {
         let (rounds, account) = rounds.into_rounds();
         account.settle(settle_all(desk, rounds, gathered)).numbers()
     } else {
-        for _ in rt.forever() {}
-        unreachable!()
+        tell_misplaced(rt, told, gathered.len())
     }
 }

@@ -81,6 +81,18 @@ settled queue =
     then record { lines = queue.lines; begun = queue.begun; dropped = 0 }
     else queue
 
+-- the first line is begun anew
+abbrev pub begun_again : Queue → Queue
+begun_again queue = queue_of queue.lines 0 queue.dropped
+
+-- lines that are not written, and those whose count is not reported
+abbrev pub lines_lost : Queue → ℕ
+lines_lost queue = queue.dropped + length queue.lines
+
+-- all lines that are not written are dropped
+abbrev pub given_up : Queue → Queue
+given_up queue = queue_of [] 0 (lines_lost queue)
+
 -- the octets of the next write: those of the first line that are not written, at most MAX_WRITE
 abbrev pub next_of : List (List ℕ) → ℕ → List ℕ
 next_of [] begun = []

@@ -27,6 +27,6 @@ pub use laws::lines_are_accounted;
 pub use outlet::{LineOutlet, StandardError};
 pub use queue::{LineQueue, MAX_LINES, MAX_OCTETS, MAX_WRITE, REPORT_LINES, REPORT_OCTETS};
 pub use rounds::{LAST_WAIT, Readiness, Round, Step, next_step, readiness_of};
-pub use shared::SharedLines;
+pub use shared::{SharedLines, transfers_dropped};
 pub use sink::{LogForm, QueuedLog, note_line, priority};
 pub use writing::write_lines;

@@ -11,6 +11,12 @@ pub trait LineOutlet {
 
     /// Writes some of these octets. Returns their number; 0 if none could be written. They begin a line unless `goes_on`.
     fn write(&mut self, octets: &[u8], goes_on: bool) -> usize;
+
+    /// Follows its file, if it has one and that was moved away. Returns whether what is written from now on goes to
+    /// another file. It is asked if a line that has begun cannot go on.
+    fn follow(&mut self) -> bool {
+        false
+    }
 }
 
 /// Standard error of the process.

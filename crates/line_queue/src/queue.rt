@@ -1,7 +1,7 @@
 //! The lines that are to be written, in order and within bounds.
 
 ghost use Rattle.std.specs.Prelude.{◌≡◌, ◌<◌, ◌+◌, ◌^◌, IfOk, OnErr, OnOk, string_bytes, length, take, drop, true, IsTrue, ◌↔◌, []};
-ghost use Rattle.line_queue.specs.Queues.{count_text, empty, has_report_room, has_room, next_octets, offered, one_dropped, queue_of, reported, with_line, written};
+ghost use Rattle.line_queue.specs.Queues.{begun_again, count_text, empty, given_up, lines_lost, has_report_room, has_room, next_octets, offered, one_dropped, queue_of, reported, with_line, written};
 
 use std::alloc::{AllocError, Allocator, Global};
 use std::collections::VecDeque;
@@ -193,6 +193,30 @@ impl<A: Allocator> LineQueue<A> {
 }
 
 impl LineQueue {
+    /// Begins the first line anew: what was written of it is in a file that was moved away.
+    pub fn begin_again(&mut self)
+        ensures begun { self.new ≡ begun_again self.old }
+    {
+        self.begun = 0; // the next file has none of its octets
+    }
+
+    /// Number of the lines that are not written yet, a begun one among them, and of those whose count is not yet reported.
+    pub fn lost(&self) -> u64
+        ensures lost { lines_lost self.now < 2 ^ 64 → result ≡ lines_lost self.now }
+    {
+        self.dropped.saturating_add(self.lines.len() as u64)
+    }
+
+    /// Drops the lines that are not written yet, and counts them with those whose count is not yet reported.
+    pub fn give_up(&mut self)
+        ensures given_up { lines_lost self.old < 2 ^ 64 → self.new ≡ given_up self.old }
+    {
+        self.dropped = self.lost();
+        self.lines.clear();
+        self.octets = 0;
+        self.begin_again();
+    }
+
     /// Takes the count of dropped lines, which is reported elsewhere. It is 0 then.
     pub fn take_dropped(&mut self) -> u64
         ensures dropped { result ≡ self.old.dropped }

@@ -1,7 +1,7 @@
 //! The decisions of the thread that writes.
 
 ghost use Rattle.std.specs.Prelude.{◌≡◌};
-ghost use Rattle.line_queue.specs.Rounds.{last_step, next_step, open_step, readiness_of};
+ghost use Rattle.line_queue.specs.Rounds.{held_step, last_step, next_step, open_step, readiness_of};
 
 /// The readiness of an outlet for octets.
 #[derive(Clone, Copy, Debug, PartialEq, Eq)]
@@ -19,10 +19,12 @@ pub enum Readiness {
 pub enum Round {
     /// Nothing was to be written.
     Idle,
-    /// Octets were written.
+    /// Octets were written, or a line is begun anew.
     Wrote,
-    /// Octets are to be written, and the outlet took none.
+    /// Octets are to be written, and their reader has not made room yet.
     Held,
+    /// Octets are to be written, and none could be, though nothing had to be waited for: a disk is full, or memory ran out.
+    Refused,
     /// Octets are to be written, and the outlet has no reader any more.
     Lost,
 }
@@ -34,7 +36,9 @@ pub enum Step {
     Again,
     /// It sleeps until a line is offered.
     Sleep,
-    /// It gives the outlets a while.
+    /// It waits for a while, or until the reader of the first queue has made room.
+    Poll,
+    /// It waits for a while.
     Pause,
     /// It ends.
     End,
@@ -66,6 +70,17 @@ pub fn next_step(first: Round, second: Round, closed: Option<u64>) -> Step
     }
 }
 
+// With octets that are to be written. Only a reader that is to make room can end the wait: an outlet that refused is
+// ready, and would be asked again at once.
+fn held_step(first: Round) -> Step
+    ensures step { result ≡ held_step first }
+{
+    match first {
+        Round::Held => Step::Poll,
+        _ => Step::Pause,
+    }
+}
+
 // While more lines may come.
 fn open_step(first: Round, second: Round) -> Step
     ensures step { result ≡ open_step first second }
@@ -73,7 +88,7 @@ fn open_step(first: Round, second: Round) -> Step
     match (first, second) {
         (Round::Wrote, _) | (_, Round::Wrote) => Step::Again,
         (Round::Idle, Round::Idle) => Step::Sleep,
-        _ => Step::Pause,
+        _ => held_step(first),
     }
 }
 
@@ -86,7 +101,7 @@ fn last_step(first: Round, second: Round, since: u64) -> Step
     }
     match (first, second) {
         (Round::Wrote, _) | (_, Round::Wrote) => Step::Again,
-        (Round::Held, _) | (_, Round::Held) => Step::Pause,
+        (Round::Held | Round::Refused, _) | (_, Round::Held | Round::Refused) => held_step(first),
         _ => Step::End,
     }
 }

@@ -1,7 +1,7 @@
 //! Queues among threads.
 
 ghost use Rattle.std.specs.Prelude.{◌≡◌, ◌+◌, ◌<◌, ◌^◌, IfOk, MatchResult, string_bytes};
-ghost use Rattle.line_queue.specs.Queues.{offered, one_dropped, settled, settled_count, transfers_text};
+ghost use Rattle.line_queue.specs.Queues.{empty, lines_lost, offered, one_dropped, settled, settled_count, transfers_text};
 
 use crate::queue::LineQueue;
 use event_word::EventCount;
@@ -45,8 +45,19 @@ fn settled(queue: &mut LineQueue) -> u64
     }
 }
 
-// The note with the count of dropped lines of the transfer log.
-fn transfers_dropped(alloc: Global, head: &str, count: u64) -> Result<String, AllocError>
+// Drops the lines that are left. Returns the number of these and of those whose count is not reported.
+fn given_up(queue: &mut LineQueue) -> u64
+    ensures count { lines_lost queue.old < 2 ^ 64 → result ≡ lines_lost queue.old }
+    ensures rest { lines_lost queue.old < 2 ^ 64 → queue.new ≡ empty }
+{
+    let count = queue.lost();
+    queue.give_up();
+    let _ = queue.take_dropped();
+    count
+}
+
+/// The note with the count of dropped lines of the transfer log, under this head.
+pub fn transfers_dropped(alloc: Global, head: &str, count: u64) -> Result<String, AllocError>
     ensures line { IfOk result (λ line. string_bytes line ≡ transfers_text head.now count) }
 {
     let mut line = String::from_str(alloc, head)?;
@@ -95,11 +106,10 @@ impl SharedLines {
         }
     }
 
-    // The lines of both kinds that are not written yet.
-    pub(crate) fn left<R: Wait>(&self, rt: &R) -> u64 {
-        let notes = self.notes.lock(rt).len() as u64;
-        let transfers = self.transfers.lock(rt).len() as u64;
-        notes.saturating_add(transfers)
+    /// Drops the lines of the transfer log that are not written, and returns their number, with that of the lines whose
+    /// count is not noted yet.
+    pub fn give_up<R: Wait>(&self, rt: &R) -> u64 {
+        given_up(&mut self.transfers.lock(rt))
     }
 
     pub(crate) fn is_closed(&self) -> bool {

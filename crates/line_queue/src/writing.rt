@@ -44,7 +44,7 @@ fn round<R: Wait, O: LineOutlet>(
     let copied = copy_next(&queue.lock(rt), buffer);
     let goes_on = match copied {
         Ok(goes_on) => goes_on,
-        Err(_) => return Round::Held,
+        Err(_) => return Round::Refused,
     };
     if buffer.is_empty() {
         return Round::Idle;
@@ -54,12 +54,15 @@ fn round<R: Wait, O: LineOutlet>(
         Readiness::Gone => Round::Lost,
         Readiness::Ready => {
             let count = outlet.write(buffer.as_slice(), goes_on);
-            queue.lock(rt).written(count);
-            if count == 0 {
-                Round::Held
-            } else {
-                Round::Wrote
+            if count > 0 {
+                queue.lock(rt).written(count);
+                return Round::Wrote;
             }
+            if goes_on && outlet.follow() {
+                queue.lock(rt).begin_again();
+                return Round::Wrote;
+            }
+            Round::Refused
         }
     }
 }
@@ -71,15 +74,16 @@ fn report<R: Wait>(rt: &R, alloc: Global, lines: &SharedLines, head: &str) {
 }
 
 /// Writes the lines that are offered, until no more come and the last are written, or [`LAST_WAIT`](crate::LAST_WAIT)
-/// has passed since. The counts of dropped lines are among the notes, under this head. Returns the number of lines that
-/// are not written at the end.
+/// has passed since. The counts of dropped lines are among the notes, under this head. A line that has begun in a file
+/// that was moved away, and cannot go on there, is begun anew in the file that the outlet follows. Lines that are left at
+/// the end are those of [`SharedLines::give_up`].
 pub fn write_lines<R, N, T>(
     rt: &R,
     lines: &SharedLines,
     head: &str,
     notes: &mut N,
     transfers: &mut T,
-) -> u64
+)
 where
     R: Wait + Clock + AllocGlobal,
     N: LineOutlet,
@@ -98,8 +102,11 @@ where
         match next_step(first, second, time_since(rt, last)) {
             Step::Again => {}
             Step::Sleep => gather(rt, lines, seen),
-            Step::Pause => pause(rt, first, notes),
-            Step::End => return lines.left(rt),
+            Step::Poll => {
+                notes.readiness(PAUSE);
+            }
+            Step::Pause => thread::sleep(rt, Duration::from_millis(u64::from(PAUSE))),
+            Step::End => return,
         }
     }
     unreachable!()
@@ -120,15 +127,5 @@ fn gather<R: Wait + Clock>(rt: &R, lines: &SharedLines, seen: u64) {
         .wait(rt, seen, 0, Duration::from_secs(LONGEST_SLEEP));
     if lines.waker.seen() != seen && !lines.is_closed() {
         thread::sleep(rt, Duration::from_millis(GATHER));
-    }
-}
-
-// Gives outlets a while; no longer than the notes' reader takes to make room.
-fn pause<R: Clock, N: LineOutlet>(rt: &R, first: Round, notes: &mut N) {
-    match first {
-        Round::Held => {
-            notes.readiness(PAUSE);
-        }
-        _ => thread::sleep(rt, Duration::from_millis(u64::from(PAUSE))),
     }
 }

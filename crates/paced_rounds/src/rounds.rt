@@ -18,7 +18,7 @@ ghost use Rattle.paced_rounds.specs.Spans.{AllBetween};
 ghost use Rattle.paced_rounds.specs.HeldLeaves.{AreHeld};
 ghost use Rattle.paced_rounds.specs.Beating.{beats_after, closed_in, has_plenty, is_open, due_open, opens_in};
 ghost use Rattle.paced_rounds.specs.Turning.{had_at, had_after};
-ghost use Rattle.round_pace.specs.Rows.{rows_of};
+ghost use Rattle.round_pace.specs.Rows.{are_free, rows_of};
 
 use crate::account::RoundsAccount;
 use crate::beats::beat;
@@ -113,6 +113,13 @@ impl<N, A: Allocator> PacedRounds<N, A> {
     {
         let rows = self.pace.rows_of(way, user);
         self.cadence.opens(way, user, &rows) <= now / TICK_MICROS && rows.have_left(MOST_ASKED)
+    }
+
+    /// Returns whether no rate is a limit of a user's transfers.
+    pub fn is_free(&self, way: Way, user: u32) -> bool
+        ensures free { result ≡ are_free (rows_of way user self.now.pace) }
+    {
+        self.pace.rows_of(way, user).are_free()
     }
 
     /// The first tick in which all rows that a transfer of a user is within are open, and whether its session has a

@@ -4,7 +4,8 @@
 //! last connections, listening on it again is slow. So [`RestingPorts`] lets each port that is given back rest: it is
 //! leased again once others, half as many as the range has, were given back after it, or if no other port is free.
 //! [`open_passive`] tries one port after another until one can be listened on. A [`Registry`] counts connections, in
-//! all and by the address that they come from, and admits no more than its two limits.
+//! all and by the address that they come from, and admits no more than its two limits; [`Admissions`] are by limits that may
+//! be below what is connected.
 //!
 //! ```text
 //! let mut pool = PortPool::new(rt.alloc(), 40000, 40001)?;
@@ -19,6 +20,7 @@
 //! ```
 #![tactic(auto)]
 
+mod admissions;
 mod bitmap;
 mod counts;
 mod fault;
@@ -27,6 +29,7 @@ mod pool;
 mod ports;
 mod registry;
 
+pub use admissions::{Admissions, ConnectionLimits};
 pub use fault::{AdmitFault, LimitFault, PoolFault};
 pub use open::{MOST_TRIES, PortHost, open_passive};
 pub use pool::PortPool;

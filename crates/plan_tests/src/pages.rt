@@ -3,6 +3,7 @@
 ghost use Rattle.std.specs.Prelude.{◌≡◌};
 
 use crate::examples::holds;
+use httpdate::HttpDate;
 use server_status::{Direction, GroupStatus, HeldRounds, LineRates, Status, TransferStatus};
 use status_page::{MachineClock, MicrosClock, PAGE, Timed, metrics_text, serve_request};
 use std::alloc::AllocError;
@@ -76,7 +77,7 @@ ftpd_limit_bytes_per_second{kind="group",name="a\"b\\c\né",direction="up"} 5
 
 /// The fields of each answer but its type and its length, up to the policy.
 const FIELDS: &str =
-    "connection: close\r\ncache-control: no-store\r\nx-content-type-options: nosniff\r\ncontent-security-policy: default-src 'none'; connect-src 'self'; script-src 'sha256-";
+    "connection: close\r\ndate: Tue, 29 Feb 2000 12:34:56 GMT\r\ncache-control: no-store\r\nx-content-type-options: nosniff\r\ncontent-security-policy: default-src 'none'; connect-src 'self'; script-src 'sha256-";
 
 const HELD: HeldRounds = HeldRounds {
     server: 1,
@@ -178,7 +179,8 @@ fn status_page(
     let mut reader = b"GET /status.json HTTP/1.1\r\nHost: localhost\r\n\r\n".as_slice();
     let mut writer = Vec::new(rt.alloc());
     let keys = RandomState::new(rt)?;
-    serve_request(rt.alloc(), keys, status, &mut reader, &mut writer)?; // one request of a browser
+    let date = HttpDate::from_unix_secs(951_827_696).expect(rt, "a date"); // seconds since 1970
+    serve_request(rt.alloc(), keys, status, date, &mut reader, &mut writer)?; // of a browser
     holds(rt, writer.as_slice().starts_with(b"HTTP/1.1 200 OK\r\n"));
     Ok(())
 }
@@ -191,19 +193,26 @@ fn a_status_for_browsers_and_prometheus(rt: HostRuntime) -> Result<(), Fail> {
 
 /// The answer to these octets.
 fn answered(
-    rt: &(impl AllocGlobal + RandomSource),
+    rt: &(impl Abort + AllocGlobal + RandomSource),
     status: &Status,
     octets: &str,
 ) -> Result<String, Fail> {
     let mut reader = octets.as_bytes();
     let mut writer = Vec::new(rt.alloc());
     let keys = RandomState::new(rt)?;
-    serve_request(rt.alloc(), keys, status, &mut reader, &mut writer)?;
+    let date = HttpDate::from_unix_secs(951_827_696).expect(rt, "a date");
+    serve_request(rt.alloc(), keys, status, date, &mut reader, &mut writer)?;
     Ok(String::from_str(rt.alloc(), str::from_utf8(&writer)?)?)
 }
 
 /// A request, and the beginning, a part and the end of its answer.
-const ANSWERS: [(&str, &str, &str, &str); 15] = [
+const ANSWERS: [(&str, &str, &str, &str); 16] = [
+    (
+        "GET / HTTP/1.1\r\nHost: localhost\r\n\r\n",
+        "HTTP/1.1 200 OK\r\n",
+        "date: Tue, 29 Feb 2000 12:34:56 GMT\r\n",
+        "</html>\n",
+    ),
     (
         "GET / HTTP/1.1\r\nHost: localhost\r\n\r\n",
         "HTTP/1.1 200 OK\r\n",
@@ -335,7 +344,7 @@ impl<'a> io::Read for Dripping<'a> {
 /// The error of a request that comes an octet at a time, if any, if each look at the clock takes a microsecond and there
 /// are these numbers of them for reading and for writing.
 fn dripped(
-    rt: &(impl AllocGlobal + RandomSource),
+    rt: &(impl Abort + AllocGlobal + RandomSource),
     status: &Status,
     reads: u64,
     writes: u64,
@@ -347,7 +356,8 @@ fn dripped(
     );
     let mut writer = Timed::new(Vec::new(rt.alloc()), Steps(0), writes);
     let keys = RandomState::new(rt)?;
-    match serve_request(rt.alloc(), keys, status, &mut reader, &mut writer) {
+    let date = HttpDate::from_unix_secs(951_827_696).expect(rt, "a date");
+    match serve_request(rt.alloc(), keys, status, date, &mut reader, &mut writer) {
         Ok(()) => Ok(None),
         Err(error) => Ok(Some(error.kind())),
     }

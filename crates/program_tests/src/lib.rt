@@ -21,6 +21,8 @@ mod servers;
 #[cfg(test)]
 mod shortages;
 #[cfg(test)]
+mod stated_paths;
+#[cfg(test)]
 mod texts;
 #[cfg(test)]
 mod whole;

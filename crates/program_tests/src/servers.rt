@@ -197,7 +197,7 @@ fn a_server_is_given_its_log(rt: HostRuntime) {
 }
 
 /// Faults of a server, and their names.
-static FAULTS: [(ServeFault, &str); 11] = [
+static FAULTS: [(ServeFault, &str); 12] = [
     (ServeFault::Bind, "ftpd: Bind\n"),
     (ServeFault::NoThread, "ftpd: NoThread\n"),
     (ServeFault::WriteFault, "ftpd: WriteFault\n"),
@@ -205,6 +205,7 @@ static FAULTS: [(ServeFault, &str); 11] = [
     (ServeFault::Memory, "ftpd: Memory\n"),
     (ServeFault::Stopped, "ftpd: Stopped\n"),
     (ServeFault::ReadyFile, "ftpd: ReadyFile\n"),
+    (ServeFault::OnePath, "ftpd: OnePath\n"),
     (ServeFault::TransferLog, "ftpd: TransferLog\n"),
     (ServeFault::LogForm, "ftpd: LogForm\n"),
     (ServeFault::StatusFile, "ftpd: StatusFile\n"),

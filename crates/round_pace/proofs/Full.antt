@@ -108,14 +108,14 @@ users_stay offered begun tick old new us paces of quiet k d lt m =
     let q = quiet k d lt s.0 in
     full_user begun tick (get_or us k d) (paces k d lt) s.1 q.0
 
--- the limits have the same row for each number of ticks
+-- the limits have the same row for each number of parts of ticks
 floor_none : (floor owed ticks : ℕ) → floor ≡ 0 → floor_rate floor owed ticks ≡ 0
 floor_none floor owed ticks zero = ap (λ (f : ℕ). floor_rate f owed ticks) zero ∙ none (0 * ticks) (no ticks)
   where
     no : (k : ℕ) → 0 * k ≡ 0
     no k = omega arith
 
-    none : (x : ℕ) → x ≡ 0 → 10 * (min owed x / 500) ≡ 0
+    none : (x : ℕ) → x ≡ 0 → 10 * (min owed (x / 1000) / 500) ≡ 0
     none x e = omega (arith, e)
 
 with_floors : UserPace → ℕ → ℕ → UserRate

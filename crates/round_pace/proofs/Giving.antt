@@ -1,5 +1,5 @@
 -- A round gives what is handed in for the guarantees of its asks.
-use Rattle.std.proofs.Common.{◌≡◌, ℕ, ◌*◌, ◌/◌, ◌<◌, ◌≤◌, List, [], length, map, get_or, inl, inr, sym, ap, ◌∙◌, subst, arith}
+use Rattle.std.proofs.Common.{◌≡◌, ℕ, ◌*◌, ◌/◌, ◌≤◌, List, length, map, get_or, inl, inr, sym, ap, ◌∙◌, arith}
 use Rattle.std.specs.FinMap as finite
 use Rattle.std.specs.List.{All}
 use Rattle.std.specs.Prelude.{min, slice_index}
@@ -11,8 +11,8 @@ use Rattle.line_rates.specs.Rates.{Rates, floor_rate as stated_floor}
 use Rattle.round_pace.specs.Earned.{tick_of}
 use Rattle.round_pace.specs.FloorsFit.{floor_in}
 use Rattle.round_pace.specs.Given.{IsGiven, RoundsGive}
-use Rattle.round_pace.specs.Guaranteed.{IsGuaranteed, owed_to, ticks_for}
-use Rattle.round_pace.specs.Histories.{Held, AreBest}
+use Rattle.round_pace.specs.Guaranteed.{IsGuaranteed, owed_to, parts_for}
+use Rattle.round_pace.specs.Histories.{AreBest}
 use Rattle.round_pace.specs.Offered.{offer_round}
 use Rattle.round_pace.specs.Paced.{Paced}
 
@@ -20,10 +20,10 @@ tenth : (x : ℕ) → 10 * x / 10 ≡ x
 tenth x = omega arith
 
 module _ (rates : Rates) (p : Paced) (tick : ℕ) (is : IsGuaranteed rates tick p) where
-  floor_is : (a : Ask) → floor_of (offer_round tick p).offered a ≡ min a.want (floor_in (stated_floor (finite.get rates.users a.user) a.way) (owed_to a.way a.user (offer_round tick p)) (ticks_for a.way a.user (offer_round tick p)))
+  floor_is : (a : Ask) → floor_of (offer_round tick p).offered a ≡ min a.want (floor_in (stated_floor (finite.get rates.users a.user) a.way) (owed_to a.way a.user (offer_round tick p)) (parts_for a.way a.user (offer_round tick p)))
   floor_is a =
       ap (λ (x : ℕ). min a.want (x / 10)) (is.floors a.way a.user)
-      ∙ ap (min a.want) (tenth (floor_in (stated_floor (finite.get rates.users a.user) a.way) (owed_to a.way a.user (offer_round tick p)) (ticks_for a.way a.user (offer_round tick p))))
+      ∙ ap (min a.want) (tenth (floor_in (stated_floor (finite.get rates.users a.user) a.way) (owed_to a.way a.user (offer_round tick p)) (parts_for a.way a.user (offer_round tick p))))
 
   given : (at : ℕ) (leaves : List Granted) → AreBest (offer_round tick p).offered at leaves → All (IsGiven rates (offer_round tick p)) leaves
   given at leaves (inl none) k d lt = absurd (omega (arith, ap length none, lt))

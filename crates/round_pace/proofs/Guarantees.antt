@@ -24,32 +24,32 @@ use Rattle.rate_floors.specs.Promises.{Promises, PromisesFit, user_key, user_row
 use Rattle.rate_floors.proofs.PlaceLemmas.{all_mapped, rising_mapped}
 use Rattle.round_pace.specs.declared.credit.Credit.{Credit}
 use Rattle.round_pace.specs.declared.paced.UserPace.{UserPace}
-use Rattle.round_pace.specs.Earned.{share, as_rate}
-use Rattle.round_pace.specs.FloorsFit.{ticks_left, floor_in}
-use Rattle.round_pace.specs.Guaranteed.{AreCounted, IsGuaranteed, owed_in_row, owed_to, ticks_in_row, ticks_for}
+use Rattle.round_pace.specs.Earned.{as_rate}
+use Rattle.round_pace.specs.FloorsFit.{parts_left, part_share, floor_in}
+use Rattle.round_pace.specs.Guaranteed.{AreCounted, IsGuaranteed, owed_in_row, owed_to, parts_in_row, parts_for}
 use Rattle.round_pace.specs.Histories.{rates_of, stated_user}
-use Rattle.round_pace.specs.Offered.{credit_rate, floor_rate, offer_round, owed_of, line_ticks, user_ticks, refill_all}
+use Rattle.round_pace.specs.Offered.{credit_rate, floor_rate, offer_round, owed_of, line_parts, user_parts, refill_all}
 use Rattle.round_pace.specs.Paced.{Paced, group_key, pace_number}
 use Rattle.round_pace.specs.Rows.{floor_of, group_credit as group_now, group_row_credit}
 use Rattle.round_pace.specs.Spent.{credit_of}
-use Rattle.round_pace.specs.PromisesOffered.{Lefts, Owed, HasTicks, IsOwed, IsOffered, offered_row, offered_entry}
+use Rattle.round_pace.specs.PromisesOffered.{Lefts, Owed, HasParts, IsOwed, IsOffered, offered_row, offered_entry}
 use Rattle.round_pace.proofs.Credited.{over, first_over, the_group, the_user, user_credit, session_credit, credit_under, row_handed, user_handed}
 use Rattle.round_pace.proofs.Holding.{handed, good_offered, rate_offered, same_groups}
-use Rattle.round_pace.proofs.Promised.{owed_fits, left_ticks_fit}
+use Rattle.round_pace.proofs.Promised.{owed_fits, left_parts_fit}
 use Rattle.round_pace.proofs.RowValues.{values_of_rows, found_at}
 use Rattle.round_pace.proofs.Starting.{Good, group_same}
 use Rattle.round_pace.proofs.StatedRates.{rates_offered}
 
--- at least the earnings of some ticks: what is left, if it is as much
-as_topped : (rate left ticks : ℕ) → (rate ≢ 0 → share rate ticks ≤ left) → as_rate rate left ≡ as_rate rate (max left (share rate ticks))
-as_topped rate left ticks earns = go (nat_eq rate 0) refl
+-- at least the earnings of some parts of ticks: what is left, if it is as much
+as_topped : (rate left parts : ℕ) → (rate ≢ 0 → part_share rate parts ≤ left) → as_rate rate left ≡ as_rate rate (max left (part_share rate parts))
+as_topped rate left parts earns = go (nat_eq rate 0) refl
   where
     same : (x y : ℕ) → y ≤ x → x ≡ max x y
     same x y h = omega arith
 
-    go : (b : Bool) → nat_eq rate 0 ≡ b → cond b 0 (10 * left + 1) ≡ cond b 0 (10 * max left (share rate ticks) + 1)
+    go : (b : Bool) → nat_eq rate 0 ≡ b → cond b 0 (10 * left + 1) ≡ cond b 0 (10 * max left (part_share rate parts) + 1)
     go true e = refl
-    go false e = ap (λ (x : ℕ). 10 * x + 1) (same left (share rate ticks) (earns (eqb-false rate 0 e)))
+    go false e = ap (λ (x : ℕ). 10 * x + 1) (same left (part_share rate parts) (earns (eqb-false rate 0 e)))
 
 stays_limit : (rate left : ℕ) → rate ≢ 0 → as_rate rate left ≢ 0
 stays_limit rate left some = go (nat_eq rate 0) refl
@@ -61,7 +61,7 @@ stays_limit rate left some = go (nat_eq rate 0) refl
 -- the octets that are handed in for the guarantee of each session of a user
 abbrev handed_octets : Way → Paced → Option UserPace → ℕ
 handed_octets w p None = 0
-handed_octets w p (Some x) = floor_in (floor_of w x.row) (owed_of w x) (user_ticks w (line_ticks w p) p.groups x)
+handed_octets w p (Some x) = floor_in (floor_of w x.row) (owed_of w x) (user_parts w (line_parts w p) p.groups x)
 
 min-first : (a b : ℕ) → min a b ≤ a
 min-first a b = omega arith
@@ -72,8 +72,8 @@ min-second a b = omega arith
 through : (a b c : ℕ) → a ≤ b → b ≤ c → a ≤ c
 through a b c h k = omega (arith, h, k)
 
--- a guarantee is handed in for no more ticks than some number that is not below
-within_share : (floor owed k l : ℕ) → k ≤ l → floor_in floor owed k ≤ share floor l
+-- a guarantee is handed in for no more parts of ticks than some number that is not below
+within_share : (floor owed k l : ℕ) → k ≤ l → floor_in floor owed k ≤ part_share floor l
 within_share floor owed k l less =
     let m : floor * k ≤ floor * l = mul-le-mul_left floor less in
     let e : floor * l ≡ l * floor = turned floor l in
@@ -82,7 +82,7 @@ within_share floor owed k l less =
     turned : (x y : ℕ) → x * y ≡ y * x
     turned x y = omega arith
 
-    plain : (o a b c : ℕ) → a ≤ b → b ≡ c → min o a / 500 ≤ c / 500
+    plain : (o a b c : ℕ) → a ≤ b → b ≡ c → min o (a / 1000) / 500 ≤ c / 500000
     plain o a b c h e = omega (arith, h, e)
 
 some_same : (x y : UserRate) → Some x ≡ Some y → x ≡ y
@@ -112,17 +112,17 @@ module _ (rates : Rates) (q : Paced) (t : ℕ) (good : Good rates q) (are : rate
   abbrev left_under : Name → ℕ
   left_under n = (credit_under (offer_round t q) n).left
 
-  -- the ticks that each rate has left, for which what is offered of it is enough
-  abbrev ticks_under : Name → ℕ
-  ticks_under n = ticks_left (credit_under (offer_round t q) n)
+  -- the parts of ticks that each rate has left, for which what is offered of it is enough
+  abbrev parts_under : Name → ℕ
+  parts_under n = parts_left (credit_under (offer_round t q) n)
 
-  earns : (n : Name) → rate_of rates n ≢ 0 → share (rate_of rates n) (ticks_under n) ≤ left_under n
+  earns : (n : Name) → rate_of rates n ≢ 0 → part_share (rate_of rates n) (parts_under n) ≤ left_under n
   earns n some =
       let rated : (credit_under (offer_round t q) n).rate ≡ rate_of rates n = (good_offered rates q t good).rated n in
-      subst (λ (x : ℕ). share x (ticks_under n) ≤ left_under n) rated (left_ticks_fit (credit_under (offer_round t q) n) (λ none. some (sym rated ∙ none)))
+      subst (λ (x : ℕ). part_share x (parts_under n) ≤ left_under n) rated (left_parts_fit (credit_under (offer_round t q) n) (λ none. some (sym rated ∙ none)))
 
   abbrev topped : ℕ → Name → ℕ
-  topped rate n = max (left_under n) (share rate (ticks_under n))
+  topped rate n = max (left_under n) (part_share rate (parts_under n))
 
   abbrev lefts : Lefts
   lefts = record {
@@ -135,18 +135,18 @@ module _ (rates : Rates) (q : Paced) (t : ℕ) (good : Good rates q) (are : rate
 
   abbrev tops : Lefts
   tops = record {
-    server = ticks_under Server;
-    way = λ w. ticks_under (Direction w);
-    group = λ w g. ticks_under (Group w g);
-    user = λ row w. ticks_under (User w row.user);
-    session = λ row w. ticks_under (Session w row.user 0);
+    server = parts_under Server;
+    way = λ w. parts_under (Direction w);
+    group = λ w g. parts_under (Group w g);
+    user = λ row w. parts_under (User w row.user);
+    session = λ row w. parts_under (Session w row.user 0);
   }
 
   abbrev owed : Owed
   owed row w = handed_octets w (offer_round t q) (the_user (offer_round t q) row.user)
 
   offers : (n : Name) → rate_of (offer_round t q).offered n ≡ as_rate (rate_of rates n) (topped (rate_of rates n) n)
-  offers n = rate_offered rates q t good n ∙ as_topped (rate_of rates n) (left_under n) (ticks_under n) (earns n)
+  offers n = rate_offered rates q t good n ∙ as_topped (rate_of rates n) (left_under n) (parts_under n) (earns n)
 
   -- users' rows, as stated and as handed in
   stated_at : (u : ℕ) → finite.get rates.users u ≡ over stated_user (the_user (offer_round t q) u)
@@ -157,15 +157,15 @@ module _ (rates : Rates) (q : Paced) (t : ℕ) (good : Good rates q) (are : rate
   handed_at : (u : ℕ) → finite.get (offer_round t q).offered.users u ≡ over (row_handed (offer_round t q)) (the_user (offer_round t q) u)
   handed_at u = ap (λ (r : Rates). finite.get r.users u) (handed rates q t good) ∙ user_handed u (refill_all t q)
 
-  floors_are : (w : Way) (u : ℕ) → stated_floor (finite.get (offer_round t q).offered.users u) w ≡ floor_rate (stated_floor (finite.get rates.users u) w) (owed_to w u (offer_round t q)) (ticks_for w u (offer_round t q))
+  floors_are : (w : Way) (u : ℕ) → stated_floor (finite.get (offer_round t q).offered.users u) w ≡ floor_rate (stated_floor (finite.get rates.users u) w) (owed_to w u (offer_round t q)) (parts_for w u (offer_round t q))
   floors_are w u =
       ap (λ (o : Option UserRate). stated_floor o w) (handed_at u) ∙ go w (the_user (offer_round t q) u)
-      ∙ (λ i. floor_rate (stated_floor (sym (stated_at u) i) w) (owed_in_row w (sym (get-by_number pace_number u (offer_round t q).users) i)) (ticks_in_row w (offer_round t q) (sym (get-by_number pace_number u (offer_round t q).users) i)))
+      ∙ (λ i. floor_rate (stated_floor (sym (stated_at u) i) w) (owed_in_row w (sym (get-by_number pace_number u (offer_round t q).users) i)) (parts_in_row w (offer_round t q) (sym (get-by_number pace_number u (offer_round t q).users) i)))
     where
-      none : (x y z : ℕ) → x ≡ 0 → y ≡ z * x → 0 ≡ 10 * (min 0 y / 500)
+      none : (x y z : ℕ) → x ≡ 0 → y ≡ z * x → 0 ≡ 10 * (min 0 (y / 1000) / 500)
       none x y z e f = omega arith
 
-      go : (w : Way) (o : Option UserPace) → stated_floor (over (row_handed (offer_round t q)) o) w ≡ floor_rate (stated_floor (over stated_user o) w) (owed_in_row w o) (ticks_in_row w (offer_round t q) o)
+      go : (w : Way) (o : Option UserPace) → stated_floor (over (row_handed (offer_round t q)) o) w ≡ floor_rate (stated_floor (over stated_user o) w) (owed_in_row w o) (parts_in_row w (offer_round t q) o)
       go w None = none 0 (0 * 0) 0 refl refl
       go Down (Some x) = refl
       go Up (Some x) = refl
@@ -181,7 +181,7 @@ module _ (rates : Rates) (q : Paced) (t : ℕ) (good : Good rates q) (are : rate
     cell : (n m : Name) (rate : ℕ) (c : Credit) → credit_under (offer_round t q) n ≡ c → rate_of rates n ≡ rate → n ≡ m → credit_rate c ≡ as_rate rate (topped rate m)
     cell n m rate c is rated same =
         ap credit_rate (sym is) ∙ ap (λ (r : ℕ). as_rate r (left_under n)) ((good_offered rates q t good).rated n)
-        ∙ as_topped (rate_of rates n) (left_under n) (ticks_under n) (earns n) ∙ (λ i. as_rate (rated i) (topped (rated i) (same i)))
+        ∙ as_topped (rate_of rates n) (left_under n) (parts_under n) (earns n) ∙ (λ i. as_rate (rated i) (topped (rated i) (same i)))
 
     user_cell : (w : Way) (rate : ℕ) (c : Credit) → credit_under (offer_round t q) (User w u) ≡ c → user_rate (Some x.row) w ≡ rate → credit_rate c ≡ as_rate rate (topped rate (User w x.row.user))
     user_cell w rate c is rated = cell (User w u) (User w x.row.user) rate c is (ap (λ (o : Option UserRate). user_rate o w) row_at ∙ rated) (ap (User w) number)
@@ -207,43 +207,43 @@ module _ (rates : Rates) (q : Paced) (t : ℕ) (good : Good rates q) (are : rate
         (floor_cell Down i) (floor_cell Up i)
 
     -- what is handed in is within the ticks of each of the user's rates
-    ticks_are : (w : Way) → user_ticks w (line_ticks w (offer_round t q)) (offer_round t q).groups x ≡ user_ticks w (min (ticks_under Server) (ticks_under (Direction w))) (offer_round t q).groups x
-    ticks_are w = refl
+    parts_are : (w : Way) → user_parts w (line_parts w (offer_round t q)) (offer_round t q).groups x ≡ user_parts w (min (parts_under Server) (parts_under (Direction w))) (offer_round t q).groups x
+    parts_are w = refl
 
-    handed_within : (w : Way) (k : ℕ) → user_ticks w (line_ticks w (offer_round t q)) (offer_round t q).groups x ≤ k → owed x.row w ≤ share (floor_of w x.row) k
+    handed_within : (w : Way) (k : ℕ) → user_parts w (line_parts w (offer_round t q)) (offer_round t q).groups x ≤ k → owed x.row w ≤ part_share (floor_of w x.row) k
     handed_within w k less =
-        subst (λ (y : ℕ). y ≤ share (floor_of w x.row) k) (ap (handed_octets w (offer_round t q)) (sym at ∙ ap (the_user (offer_round t q)) number))
-        (within_share (floor_of w x.row) (owed_of w x) (user_ticks w (line_ticks w (offer_round t q)) (offer_round t q).groups x) k less)
+        subst (λ (y : ℕ). y ≤ part_share (floor_of w x.row) k) (ap (handed_octets w (offer_round t q)) (sym at ∙ ap (the_user (offer_round t q)) number))
+        (within_share (floor_of w x.row) (owed_of w x) (user_parts w (line_parts w (offer_round t q)) (offer_round t q).groups x) k less)
 
-    group_under : (w : Way) (g : ℕ) → x.row.group ≡ Some g → ticks_left (group_now w (offer_round t q).groups x.row.group) ≡ ticks_under (Group w g)
+    group_under : (w : Way) (g : ℕ) → x.row.group ≡ Some g → parts_left (group_now w (offer_round t q).groups x.row.group) ≡ parts_under (Group w g)
     group_under w g is =
-        ap (λ (o : Option ℕ). ticks_left (group_now w (offer_round t q).groups o)) is
-        ∙ ap (λ o. ticks_left (group_row_credit w o)) (get-by_number group_key g (offer_round t q).groups)
-        ∙ ap ticks_left (group_same w (the_group (offer_round t q) g))
+        ap (λ (o : Option ℕ). parts_left (group_now w (offer_round t q).groups o)) is
+        ∙ ap (λ o. parts_left (group_row_credit w o)) (get-by_number group_key g (offer_round t q).groups)
+        ∙ ap parts_left (group_same w (the_group (offer_round t q) g))
 
-    user_is : (w : Way) → ticks_left (credit_of w x.down x.up) ≡ tops.user x.row w
-    user_is w = ap (λ o. ticks_left (user_credit w o)) (sym at ∙ ap (the_user (offer_round t q)) number)
+    user_is : (w : Way) → parts_left (credit_of w x.down x.up) ≡ tops.user x.row w
+    user_is w = ap (λ o. parts_left (user_credit w o)) (sym at ∙ ap (the_user (offer_round t q)) number)
 
-    session_is : (w : Way) → ticks_left (credit_of w x.session_down x.session_up) ≡ tops.session x.row w
-    session_is w = ap (λ o. ticks_left (session_credit w o)) (sym at ∙ ap (the_user (offer_round t q)) number)
+    session_is : (w : Way) → parts_left (credit_of w x.session_down x.session_up) ≡ tops.session x.row w
+    session_is w = ap (λ o. parts_left (session_credit w o)) (sym at ∙ ap (the_user (offer_round t q)) number)
 
     parts : (s w g u k : ℕ) → (min (min (min s w) g) (min u k) ≤ s) × (min (min (min s w) g) (min u k) ≤ w) × (min (min (min s w) g) (min u k) ≤ g) × (min (min (min s w) g) (min u k) ≤ u) × (min (min (min s w) g) (min u k) ≤ k)
     parts s w g u k = (omega arith, omega arith, omega arith, omega arith, omega arith)
 
-    abbrev own_ticks : Way → ℕ
-    own_ticks w = user_ticks w (line_ticks w (offer_round t q)) (offer_round t q).groups x
+    abbrev own_parts : Way → ℕ
+    own_parts w = user_parts w (line_parts w (offer_round t q)) (offer_round t q).groups x
 
-    parts_of : (w : Way) → (own_ticks w ≤ ticks_under Server) × (own_ticks w ≤ ticks_under (Direction w)) × (own_ticks w ≤ ticks_left (group_now w (offer_round t q).groups x.row.group))
-        × (own_ticks w ≤ ticks_left (credit_of w x.down x.up)) × (own_ticks w ≤ ticks_left (credit_of w x.session_down x.session_up))
-    parts_of w = parts (ticks_under Server) (ticks_under (Direction w)) (ticks_left (group_now w (offer_round t q).groups x.row.group)) (ticks_left (credit_of w x.down x.up)) (ticks_left (credit_of w x.session_down x.session_up))
+    parts_of : (w : Way) → (own_parts w ≤ parts_under Server) × (own_parts w ≤ parts_under (Direction w)) × (own_parts w ≤ parts_left (group_now w (offer_round t q).groups x.row.group))
+        × (own_parts w ≤ parts_left (credit_of w x.down x.up)) × (own_parts w ≤ parts_left (credit_of w x.session_down x.session_up))
+    parts_of w = parts (parts_under Server) (parts_under (Direction w)) (parts_left (group_now w (offer_round t q).groups x.row.group)) (parts_left (credit_of w x.down x.up)) (parts_left (credit_of w x.session_down x.session_up))
 
     is_owed : (sessions : ℕ) → IsOwed tops owed (record { row = x.row; sessions = sessions })
     is_owed n = record {
       server = λ w. handed_within w (tops.server) (parts_of w).0;
       way = λ w. handed_within w (tops.way w) (parts_of w).1;
-      group = λ w g is. handed_within w (tops.group w g) (subst (λ (k : ℕ). own_ticks w ≤ k) (group_under w g (in_group_is x.row.group g is)) (parts_of w).2);
-      user = λ w. handed_within w (tops.user x.row w) (subst (λ (k : ℕ). own_ticks w ≤ k) (user_is w) (parts_of w).3);
-      session = λ w. handed_within w (tops.session x.row w) (subst (λ (k : ℕ). own_ticks w ≤ k) (session_is w) (parts_of w).4);
+      group = λ w g is. handed_within w (tops.group w g) (subst (λ (k : ℕ). own_parts w ≤ k) (group_under w g (in_group_is x.row.group g is)) (parts_of w).2);
+      user = λ w. handed_within w (tops.user x.row w) (subst (λ (k : ℕ). own_parts w ≤ k) (user_is w) (parts_of w).3);
+      session = λ w. handed_within w (tops.session x.row w) (subst (λ (k : ℕ). own_parts w ≤ k) (session_is w) (parts_of w).4);
     }
 
   -- all users' rows, for rows that are those stated
@@ -302,24 +302,24 @@ module _ (p : Promises) (q : Paced) (t : ℕ) (good : Good p.rates q) (are : rat
   at_least : (x y : ℕ) → y ≤ max x y
   at_least x y = omega arith
 
-  has_ticks : HasTicks p (tops p.rates q t good are) (lefts p.rates q t good are)
-  has_ticks = record {
-    server = at_least (left_under p.rates q t good are Server) (share p.rates.server (ticks_under p.rates q t good are Server));
-    way = λ w. at_least (left_under p.rates q t good are (Direction w)) (share (way_of p.rates.down p.rates.up w) (ticks_under p.rates q t good are (Direction w)));
-    group = λ w g. at_least (left_under p.rates q t good are (Group w g)) (share (group_rate (finite.get p.rates.groups g) w) (ticks_under p.rates q t good are (Group w g)));
-    user = λ row w. at_least (left_under p.rates q t good are (User w row.user)) (share (way_of row.down row.up w) (ticks_under p.rates q t good are (User w row.user)));
-    session = λ row w. at_least (left_under p.rates q t good are (Session w row.user 0)) (share (way_of row.session_down row.session_up w) (ticks_under p.rates q t good are (Session w row.user 0)));
+  has_parts : HasParts p (tops p.rates q t good are) (lefts p.rates q t good are)
+  has_parts = record {
+    server = at_least (left_under p.rates q t good are Server) (part_share p.rates.server (parts_under p.rates q t good are Server));
+    way = λ w. at_least (left_under p.rates q t good are (Direction w)) (part_share (way_of p.rates.down p.rates.up w) (parts_under p.rates q t good are (Direction w)));
+    group = λ w g. at_least (left_under p.rates q t good are (Group w g)) (part_share (group_rate (finite.get p.rates.groups g) w) (parts_under p.rates q t good are (Group w g)));
+    user = λ row w. at_least (left_under p.rates q t good are (User w row.user)) (part_share (way_of row.down row.up w) (parts_under p.rates q t good are (User w row.user)));
+    session = λ row w. at_least (left_under p.rates q t good are (Session w row.user 0)) (part_share (way_of row.session_down row.session_up w) (parts_under p.rates q t good are (Session w row.user 0)));
   }
 
   -- each counted session's row is that of a user of the pace, if there is one
   entry_at : (e : UserSessions) → finite.get p.rates.users e.row.user ≡ Some e.row → (o : Option UserPace) → the_user (offer_round t q) e.row.user ≡ o → IsOwed (tops p.rates q t good are) (owed p.rates q t good are) e
   entry_at e here None at =
       record {
-        server = λ w. nothing w (share (floor_of w e.row) (ticks_under p.rates q t good are Server));
-        way = λ w. nothing w (share (floor_of w e.row) (ticks_under p.rates q t good are (Direction w)));
-        group = λ w g is. nothing w (share (floor_of w e.row) (ticks_under p.rates q t good are (Group w g)));
-        user = λ w. nothing w (share (floor_of w e.row) (ticks_under p.rates q t good are (User w e.row.user)));
-        session = λ w. nothing w (share (floor_of w e.row) (ticks_under p.rates q t good are (Session w e.row.user 0)));
+        server = λ w. nothing w (part_share (floor_of w e.row) (parts_under p.rates q t good are Server));
+        way = λ w. nothing w (part_share (floor_of w e.row) (parts_under p.rates q t good are (Direction w)));
+        group = λ w g is. nothing w (part_share (floor_of w e.row) (parts_under p.rates q t good are (Group w g)));
+        user = λ w. nothing w (part_share (floor_of w e.row) (parts_under p.rates q t good are (User w e.row.user)));
+        session = λ w. nothing w (part_share (floor_of w e.row) (parts_under p.rates q t good are (Session w e.row.user 0)));
       }
     where
       zero-le : (x : ℕ) → 0 ≤ x
@@ -358,7 +358,7 @@ module _ (p : Promises) (q : Paced) (t : ℕ) (good : Good p.rates q) (are : rat
       back (e ∷ es) = ap (λ (xs : List UserRate). (entry e).row ∷ xs) (back es)
 
   fits : PromisesFit (carried_to p (offer_round t q).offered)
-  fits = owed_fits (owed p.rates q t good are) p (carried_to p (offer_round t q).offered) (lefts p.rates q t good are) (tops p.rates q t good are) fit has_ticks all_owed is_offered
+  fits = owed_fits (owed p.rates q t good are) p (carried_to p (offer_round t q).offered) (lefts p.rates q t good are) (tops p.rates q t good are) fit has_parts all_owed is_offered
 
   of_counted : (xs : List Ask) → AreOfCounted p xs → AreOfCounted (carried_to p (offer_round t q).offered) xs
   of_counted xs of = record {

@@ -6,7 +6,7 @@ use Rattle.line_rates.specs.declared.ask.Way.TheVariants.{Down, Up}
 use Rattle.line_rates.specs.Put.{with_line}
 use Rattle.line_rates.specs.Rates.{Rates, Groups, Users}
 use Rattle.line_rates.specs.Stated.{by_number, group_number, user_number}
-use Rattle.round_pace.specs.Offered.{HandsRowsIn, credit_rate, line_ticks, offer_group, handed_user, put_groups, put_users}
+use Rattle.round_pace.specs.Offered.{HandsRowsIn, credit_rate, line_parts, offer_group, handed_user, put_groups, put_users}
 use Rattle.round_pace.specs.Paced.{AreTheUsers}
 use Rattle.round_pace.proofs.GroupsIn.{hands_groups_in, other_rates as other_than_groups}
 use Rattle.round_pace.proofs.UsersIn.{hands_users_in, other_rates as other_than_users}
@@ -22,8 +22,8 @@ same_rates r s d u gs us a b c e f =
 pub hands_rows_in : HandsRowsIn
 unfolding rates_of
 hands_rows_in p groups_up users_up groups users =
-    let d : ℕ = line_ticks Down p in
-    let k : ℕ = line_ticks Up p in
+    let d : ℕ = line_parts Down p in
+    let k : ℕ = line_parts Up p in
     let r0 : Rates = with_line p.offered (credit_rate p.server) (credit_rate p.down) (credit_rate p.up) in
     let r1 : Rates = put_groups r0 p.groups in
     let r2 : Rates = put_users d k p.groups r1 p.users in

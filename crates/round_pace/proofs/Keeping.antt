@@ -12,7 +12,7 @@ use Rattle.line_rates.specs.Rates.{Rates, Groups, Users}
 use Rattle.line_rates.specs.Stated.{by_number, group_number, user_number, IsRising}
 use Rattle.round_pace.specs.declared.paced.GroupPace.{GroupPace}
 use Rattle.round_pace.specs.declared.paced.UserPace.{UserPace}
-use Rattle.round_pace.specs.Offered.{credit_rate, refill_group, refill_user, line_ticks, offer_group, handed_user, put_groups, put_users, offer_all, left_rates}
+use Rattle.round_pace.specs.Offered.{credit_rate, refill_group, refill_user, line_parts, offer_group, handed_user, put_groups, put_users, offer_all, left_rates}
 use Rattle.round_pace.specs.Paced.{Paced, AreTheGroups, AreTheUsers, group_key, pace_number, new_group, new_user}
 use Rattle.round_pace.specs.Taken.{take_group, take_user, take_groups, take_users}
 use Rattle.round_pace.proofs.Keys.{keys_mapped}
@@ -67,7 +67,7 @@ users_taken way octets own user r us new e up are = (
 
 -- what was handed in, call by call
 pub offered_all : (p : Paced) (s d u : ℕ) (one two three : Rates) (gs : List GroupPace) (us : List UserPace) (down up : ℕ) (hs : List GroupPace) → s ≡ credit_rate p.server → d ≡ credit_rate p.down → u ≡ credit_rate p.up → one ≡ with_line p.offered s d u
-    → gs ≡ p.groups → two ≡ put_groups one gs → us ≡ p.users → down ≡ line_ticks Down p → up ≡ line_ticks Up p → hs ≡ p.groups → three ≡ put_users down up hs two us → three ≡ offer_all p
+    → gs ≡ p.groups → two ≡ put_groups one gs → us ≡ p.users → down ≡ line_parts Down p → up ≡ line_parts Up p → hs ≡ p.groups → three ≡ put_users down up hs two us → three ≡ offer_all p
 offered_all p s d u one two three gs us down up hs a b c e f g h x y z k =
     let line : one ≡ with_line p.offered (credit_rate p.server) (credit_rate p.down) (credit_rate p.up) =
     e ∙ (ap (λ (n : ℕ). with_line p.offered n d u) a ∙ (ap (λ (n : ℕ). with_line p.offered (credit_rate p.server) n u) b ∙ ap (with_line p.offered (credit_rate p.server) (credit_rate p.down)) c)) in
@@ -79,7 +79,7 @@ pub groups_offered : (p : Paced) (r : Rates) → r ≡ left_rates p → AreTheGr
 groups_offered p r e q = ap (λ (x : Rates). is_some (finite.get x.groups q)) e ∙ keys_mapped group_key group_number offer_group (λ g. refl) p.groups q
 
 pub users_offered : (p : Paced) (r : Rates) → r ≡ left_rates p → AreTheUsers r p.users
-users_offered p r e q = ap (λ (x : Rates). is_some (finite.get x.users q)) e ∙ keys_mapped pace_number user_number (handed_user (line_ticks Down p) (line_ticks Up p) p.groups) (λ u. refl) p.users q
+users_offered p r e q = ap (λ (x : Rates). is_some (finite.get x.users q)) e ∙ keys_mapped pace_number user_number (handed_user (line_parts Down p) (line_parts Up p) p.groups) (λ u. refl) p.users q
 
 -- the rows of new limits
 pub groups_new : (r : Rates) (rows : List GroupRate) (gs : List GroupPace) → gs ≡ map new_group rows → by_number group_number rows ≡ r.groups → IsRising group_number rows → IsRising group_key gs × AreTheGroups r gs

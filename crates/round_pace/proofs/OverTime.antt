@@ -56,10 +56,10 @@ module _ (s floor : ℕ) where
       plain x o t g a = omega (arith, a)
 
   -- the last round grants all that is owed
-  ends : (sum owed tick ticks g : ℕ) → owed ≤ floor * ticks → floor_in floor owed ticks ≤ g → Covers sum owed (tick + 1) → share floor (tick + 1 - 500 * s) ≤ sum + g
-  ends sum owed tick ticks g fits least covers =
+  ends : (sum owed tick parts g : ℕ) → owed ≤ floor * parts / 1000 → floor_in floor owed parts ≤ g → Covers sum owed (tick + 1) → share floor (tick + 1 - 500 * s) ≤ sum + g
+  ends sum owed tick parts g fits least covers =
       let turned : (tick + 1 - 500 * s) * floor ≡ floor * (tick + 1 - 500 * s) = times (tick + 1 - 500 * s) floor in
-      plain ((tick + 1 - 500 * s) * floor) (floor * (tick + 1 - 500 * s)) owed (floor * ticks) sum g turned fits least covers
+      plain ((tick + 1 - 500 * s) * floor) (floor * (tick + 1 - 500 * s)) owed (floor * parts / 1000) sum g turned fits least covers
     where
       times : (a b : ℕ) → a * b ≡ b * a
       times a b = omega arith
@@ -72,7 +72,7 @@ module _ (s floor : ℕ) where
   kept sum owed begun r [] covers are prompt asked =
       let now : Covers sum (owed_at floor owed begun r.tick) (r.tick + 1) = offered sum owed begun r.tick prompt.0 are.0 prompt.1 covers in
       one (share floor (r.tick + 1 - 500 * s)) sum r.granted (sum_by granted_in (r ∷ [])) (sum_by-cons granted_in r [])
-      (ends sum (owed_at floor owed begun r.tick) r.tick r.ticks r.granted asked.1 (are.1 asked.0) now)
+      (ends sum (owed_at floor owed begun r.tick) r.tick r.parts r.granted asked.1 (are.1 asked.0) now)
     where
       one : (x t g a : ℕ) → a ≡ g + 0 → x ≤ t + g → x ≤ t + a
       one x t g a e h = omega (arith, e, h)

@@ -20,7 +20,7 @@ use Rattle.line_rates.specs.Stated.{by_number, group_number, user_number, IsRisi
 use Rattle.line_rates.proofs.RowLemmas.{first_row, get-by_number, same_test, rising_below, at_any}
 use Rattle.round_pace.specs.declared.paced.GroupPace.{GroupPace}
 use Rattle.round_pace.specs.declared.paced.UserPace.{UserPace}
-use Rattle.round_pace.specs.Offered.{offer_group, user_ticks, handed_user, put_groups, put_users}
+use Rattle.round_pace.specs.Offered.{offer_group, user_parts, handed_user, put_groups, put_users}
 use Rattle.round_pace.specs.Paced.{group_key, pace_number, AreTheGroups, AreTheUsers}
 use Rattle.round_pace.specs.Quiet.{is_full_group, is_full_user, AllMarked, IsQuietGroup, IsQuietUser}
 use Rattle.round_pace.proofs.Full.{offer_full}
@@ -165,7 +165,7 @@ module _ (down up : ℕ) (groups : List GroupPace) where
   pub users_quiet : (r new : Rates) (us : List UserPace) (marks : List Bool) (place : ℕ) → IsRising pace_number us → AreTheUsers r us → place ≡ length us → new ≡ put_users down up groups r (take place us) → AllMarked (λ u. is_full_user u ≡ true) marks us → AllMarked (IsQuietUser new) marks us
   users_quiet r new us marks place rising keys end is full k d lt m =
       let all : new ≡ put_users down up groups r us = is ∙ ap (put_users down up groups r) (ap (λ (n : ℕ). take n us) end ∙ take-length us) in
-      (full k d lt m, λ b t. ap (λ (x : Rates). finite.get x.users (pace_number (get_or us k d))) all ∙ (users_in r us rising keys k d lt ∙ ap Some (offer_full (user_ticks Down down groups (get_or us k d)) (user_ticks Up up groups (get_or us k d)) b t (get_or us k d) (full k d lt m))))
+      (full k d lt m, λ b t. ap (λ (x : Rates). finite.get x.users (pace_number (get_or us k d))) all ∙ (users_in r us rising keys k d lt ∙ ap Some (offer_full (user_parts Down down groups (get_or us k d)) (user_parts Up up groups (get_or us k d)) b t (get_or us k d) (full k d lt m))))
 
 -- other limits with the same rows
 pub groups_quiet_with : (r s : Rates) (marks : List Bool) (gs hs : List GroupPace) → s.groups ≡ r.groups → hs ≡ gs → AllMarked (IsQuietGroup r) marks gs → AllMarked (IsQuietGroup s) marks hs

@@ -2,7 +2,7 @@
 use Rattle.std.specs.Prelude.{ℕ, ◌+◌, ◌*◌, ◌/◌, ◌%◌, ◌-◌, min, nat_eq, if◌then◌else◌}
 use Rattle.round_pace.specs.Earned.{begun_in, carried}
 use Rattle.round_pace.specs.declared.credit.Credit.{Credit}
-use Rattle.round_pace.specs.declared.credit.TheConstants.{TICKS, MOST_OWED}
+use Rattle.round_pace.specs.declared.credit.TheConstants.{TICKS, MOST_OWED, PARTS, MOST_PARTS}
 
 -- number of ticks that have begun in the second of a tick since the ticks begun before
 abbrev pub ticks_since : ℕ → ℕ → ℕ
@@ -12,11 +12,16 @@ ticks_since begun tick = tick % TICKS + 1 - begun_in begun tick
 abbrev pub ticks_due : ℕ → ℕ → ℕ
 ticks_due begun tick = min (ticks_since begun tick) MOST_OWED
 
--- number of ticks whose earnings a rate has left, at most a tenth of a second; no limit has that
-abbrev pub ticks_left : Credit → ℕ
-ticks_left c =
-    if nat_eq c.rate 0 then MOST_OWED
-    else min ((c.left * TICKS + (TICKS - 1)) / c.rate) MOST_OWED
+-- number of thousandths of ticks whose earnings a rate has left, at most a tenth of a second; no
+-- limit has that
+abbrev pub parts_left : Credit → ℕ
+parts_left c =
+    if nat_eq c.rate 0 then MOST_PARTS
+    else min ((c.left * (TICKS * PARTS) + (TICKS * PARTS - 1)) / c.rate) MOST_PARTS
+
+-- the octets that a rate earns in some thousandths of a tick
+abbrev pub part_share : ℕ → ℕ → ℕ
+part_share rate parts = parts * rate / (TICKS * PARTS)
 
 -- The debt of a guarantee as a tick begins: in each tick its rate more, and nothing of an earlier
 -- second. At most a tenth of a second is owed.
@@ -28,7 +33,7 @@ owed_in floor owed begun tick =
 abbrev pub owed_after : ℕ → ℕ → ℕ
 owed_after octets owed = owed - octets * TICKS
 
--- the octets of a guarantee in a round: what is owed, and at most that of the ticks that the rates
--- have left
+-- the octets of a guarantee in a round: what is owed, and at most that of the thousandths of ticks
+-- that the rates have left
 abbrev pub floor_in : ℕ → ℕ → ℕ → ℕ
-floor_in floor owed ticks = min owed (floor * ticks) / TICKS
+floor_in floor owed parts = min owed (floor * parts / PARTS) / TICKS

@@ -13,7 +13,7 @@ use Rattle.rate_floors.specs.Promises.{Promises, PromisesFit}
 use Rattle.round_pace.specs.Changed.{IsChangedTo, idle}
 use Rattle.round_pace.specs.Earned.{tick_of}
 use Rattle.round_pace.specs.Histories.{Held, after, after_all, AreHeld}
-use Rattle.round_pace.specs.Offered.{offer_round, floor_rate, owed_of, line_ticks, user_ticks}
+use Rattle.round_pace.specs.Offered.{offer_round, floor_rate, owed_of, line_parts, user_parts}
 use Rattle.round_pace.specs.declared.paced.UserPace.{UserPace}
 use Rattle.round_pace.specs.Paced.{Paced, pace_number, IsPacedFrom}
 use Rattle.round_pace.specs.Stretches.{Stretch, Lead}
@@ -27,7 +27,8 @@ pub record AreCounted (rates : Rates) (p : Promises) : Type 0 where
 abbrev pub counted_in : ℕ → Paced → Promises → Promises
 counted_in tick pace p = carried_to p (offer_round tick pace).offered
 
--- the debt to each session of a user in a pace, and the ticks that each of its rates has left
+-- the debt to each session of a user in a pace, and the thousandths of ticks that each of its rates
+-- has left
 abbrev pub owed_in_row : Way → Option UserPace → ℕ
 owed_in_row way None = 0
 owed_in_row way (Some u) = owed_of way u
@@ -35,24 +36,24 @@ owed_in_row way (Some u) = owed_of way u
 abbrev pub owed_to : Way → ℕ → Paced → ℕ
 owed_to way user p = owed_in_row way (finite.get (by_number pace_number p.users) user)
 
-abbrev pub ticks_in_row : Way → Paced → Option UserPace → ℕ
-ticks_in_row way p None = 0
-ticks_in_row way p (Some u) = user_ticks way (line_ticks way p) p.groups u
+abbrev pub parts_in_row : Way → Paced → Option UserPace → ℕ
+parts_in_row way p None = 0
+parts_in_row way p (Some u) = user_parts way (line_parts way p) p.groups u
 
-abbrev pub ticks_for : Way → ℕ → Paced → ℕ
-ticks_for way user p = ticks_in_row way p (finite.get (by_number pace_number p.users) user)
+abbrev pub parts_for : Way → ℕ → Paced → ℕ
+parts_for way user p = parts_in_row way p (finite.get (by_number pace_number p.users) user)
 
 -- The guarantees of sessions in a round that a pace offers in a tick, if these rates are in force.
 pub record IsGuaranteed (rates : Rates) (tick : ℕ) (pace : Paced) : Type 0 where
   -- each rate that is a limit is offered as one, and each user stays in their group
   pub limits : (n : Name) → rate_of rates n ≢ 0 → rate_of (offer_round tick pace).offered n ≢ 0
   pub groups : (user : ℕ) → group_of (offer_round tick pace).offered user ≡ group_of rates user
-  -- the guarantee of each session of a user: what it is owed, and at most that of the ticks that
-  -- each of its rates has left
+  -- the guarantee of each session of a user: what it is owed, and at most that of the parts of
+  -- ticks that each of its rates has left
   pub floors : (way : Way) (user : ℕ)
       → stated_floor (finite.get (offer_round tick pace).offered.users user) way
       ≡ floor_rate (stated_floor (finite.get rates.users user) way)
-      (owed_to way user (offer_round tick pace)) (ticks_for way user (offer_round tick pace))
+      (owed_to way user (offer_round tick pace)) (parts_for way user (offer_round tick pace))
   -- under the rates offered, as many sessions are counted of each user,
   pub sessions : (p : Promises) → AreCounted rates p → (user : ℕ)
       → sessions_of (counted_in tick pace p) user ≡ sessions_of p user

@@ -13,7 +13,7 @@ use Rattle.round_pace.specs.declared.paced.GroupPace.{GroupPace}
 use Rattle.round_pace.specs.declared.paced.UserPace.{UserPace}
 use Rattle.round_pace.specs.Credits.{refill_row, is_dry}
 use Rattle.round_pace.specs.Earned.{tick_of, as_rate}
-use Rattle.round_pace.specs.FloorsFit.{ticks_left, owed_in, floor_in}
+use Rattle.round_pace.specs.FloorsFit.{parts_left, owed_in, floor_in}
 use Rattle.round_pace.specs.Rows.{group_credit}
 use Rattle.round_pace.specs.Spent.{credit_of}
 use Rattle.line_rates.specs.declared.ask.Way.{Way}
@@ -54,7 +54,7 @@ credit_rate c = as_rate c.rate c.left
 
 -- the rate that is handed in for a guarantee in a round
 abbrev pub floor_rate : ℕ → ℕ → ℕ → ℕ
-floor_rate floor owed ticks = 10 * floor_in floor owed ticks
+floor_rate floor owed parts = 10 * floor_in floor owed parts
 
 abbrev pub offer_group : GroupPace → GroupRate
 offer_group g = record { group = g.group; down = credit_rate g.down; up = credit_rate g.up }
@@ -64,17 +64,18 @@ abbrev pub owed_of : Way → UserPace → ℕ
 owed_of Down u = u.down_owed
 owed_of Up u = u.up_owed
 
--- the ticks whose earnings each rate of the line has left, and those that each rate of a user has
-abbrev pub line_ticks : Way → Paced → ℕ
-line_ticks way p = min (ticks_left p.server) (ticks_left (credit_of way p.down p.up))
+-- the thousandths of ticks whose earnings each rate of the line has left, and those that each rate
+-- of a user has
+abbrev pub line_parts : Way → Paced → ℕ
+line_parts way p = min (parts_left p.server) (parts_left (credit_of way p.down p.up))
 
-abbrev pub user_ticks : Way → ℕ → List GroupPace → UserPace → ℕ
-user_ticks way line groups u =
-    min (min line (ticks_left (group_credit way groups u.row.group)))
-    (min (ticks_left (credit_of way u.down u.up))
-    (ticks_left (credit_of way u.session_down u.session_up)))
+abbrev pub user_parts : Way → ℕ → List GroupPace → UserPace → ℕ
+user_parts way line groups u =
+    min (min line (parts_left (group_credit way groups u.row.group)))
+    (min (parts_left (credit_of way u.down u.up))
+    (parts_left (credit_of way u.session_down u.session_up)))
 
--- a user's row for a round, whose rates have these ticks left
+-- a user's row for a round, whose rates have these parts of ticks left
 abbrev pub offer_user : ℕ → ℕ → UserPace → UserRate
 offer_user down up u = record {
   user = u.row.user;
@@ -87,10 +88,10 @@ offer_user down up u = record {
   session_up_floor = floor_rate u.row.session_up_floor u.up_owed up;
 }
 
--- a user's row for a round, if the rates of the line have these ticks left
+-- a user's row for a round, if the rates of the line have these parts of ticks left
 abbrev pub handed_user : ℕ → ℕ → List GroupPace → UserPace → UserRate
 handed_user down up groups u =
-    offer_user (user_ticks Down down groups u) (user_ticks Up up groups u) u
+    offer_user (user_parts Down down groups u) (user_parts Up up groups u) u
 
 abbrev pub put_groups : Rates → List GroupPace → Rates
 put_groups rates groups = fold (λ r g. with_group r (offer_group g)) rates groups
@@ -105,7 +106,7 @@ put_line rates p = with_line rates (credit_rate p.server) (credit_rate p.down) (
 -- the rates that a round is handed; they replace those of the round before
 abbrev pub offer_all : Paced → Rates
 offer_all p =
-    put_users (line_ticks Down p) (line_ticks Up p) p.groups
+    put_users (line_parts Down p) (line_parts Up p) p.groups
     (put_groups (put_line p.offered p) p.groups) p.users
 
 abbrev pub with_offered : Rates → Paced → Paced
@@ -129,7 +130,7 @@ offer_round tick p = with_offered (offer_all (refill_all tick p)) (refill_all ti
 abbrev pub left_rates : Paced → Rates
 left_rates p = stated (credit_rate p.server) (credit_rate p.down) (credit_rate p.up)
     (map offer_group p.groups)
-    (map (handed_user (line_ticks Down p) (line_ticks Up p) p.groups) p.users)
+    (map (handed_user (line_parts Down p) (line_parts Up p) p.groups) p.users)
 
 -- The rates handed in are those of the rows, and there is no other row.
 abbrev pub HandsRowsIn : Type 0

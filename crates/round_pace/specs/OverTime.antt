@@ -1,16 +1,16 @@
 -- A guarantee over the rounds of a second.
 use Rattle.std.specs.Prelude.{◌≡◌, ℕ, ◌+◌, ◌-◌, ◌*◌, ◌/◌, ◌≤◌, Bool, true, nat_le, if◌then◌else◌, List, [], ◌∷◌, sum_by}
-use Rattle.round_pace.specs.declared.credit.TheConstants.{TICKS, MOST_OWED}
+use Rattle.round_pace.specs.declared.credit.TheConstants.{TICKS, MOST_OWED, PARTS}
 use Rattle.round_pace.specs.Earned.{share, begun_in, carried}
 use Rattle.round_pace.specs.FloorsFit.{ticks_since, owed_in, owed_after, floor_in}
 
 -- a round by its tick, its grant to a session with a guarantee, whether that asked in it for at
--- least what is handed in, and the ticks that each of the session's rates had left
+-- least what is handed in, and the thousandths of ticks that each of the session's rates had left
 pub record OwedRound : Type 0 where
   pub tick : ℕ
   pub granted : ℕ
   pub asks : Bool
-  pub ticks : ℕ
+  pub parts : ℕ
 
 -- the debt in a round: that as its tick begins, in the first round of the tick
 abbrev pub owed_at : ℕ → ℕ → ℕ → ℕ → ℕ
@@ -21,7 +21,7 @@ owed_at floor owed begun tick = if nat_le begun tick then owed_in floor owed beg
 abbrev pub AreOwed : ℕ → ℕ → ℕ → List OwedRound → Type 0
 AreOwed floor owed begun [] = Unit {0}
 AreOwed floor owed begun (r ∷ rs) = (begun ≤ r.tick + 1)
-    × (r.asks ≡ true → floor_in floor (owed_at floor owed begun r.tick) r.ticks ≤ r.granted)
+    × (r.asks ≡ true → floor_in floor (owed_at floor owed begun r.tick) r.parts ≤ r.granted)
     × AreOwed floor (owed_after r.granted (owed_at floor owed begun r.tick)) (r.tick + 1) rs
 
 -- the debt as a tick begins, before it is cut to that of a tenth of a second
@@ -42,7 +42,7 @@ ArePromptFor second floor owed begun (r ∷ rs) = (r.tick / TICKS ≡ second)
 abbrev pub EndsAsked : ℕ → ℕ → ℕ → List OwedRound → Type 0
 EndsAsked floor owed begun [] = ⊥
 EndsAsked floor owed begun (r ∷ []) = (r.asks ≡ true)
-    × (owed_at floor owed begun r.tick ≤ floor * r.ticks)
+    × (owed_at floor owed begun r.tick ≤ floor * r.parts / PARTS)
 EndsAsked floor owed begun (r ∷ s ∷ rs) =
     EndsAsked floor (owed_after r.granted (owed_at floor owed begun r.tick)) (r.tick + 1) (s ∷ rs)
 

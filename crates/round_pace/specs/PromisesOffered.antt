@@ -12,9 +12,9 @@ use Rattle.line_rates.specs.Stated.{by_number, user_number}
 use Rattle.rate_floors.specs.declared.find.UserSessions.{UserSessions}
 use Rattle.rate_floors.specs.Promises.{Promises, PromisesFit, user_row}
 use Rattle.round_pace.specs.declared.credit.Credit.{Credit}
-use Rattle.round_pace.specs.declared.credit.TheConstants.{MOST_OWED}
+use Rattle.round_pace.specs.declared.credit.TheConstants.{MOST_PARTS}
 use Rattle.round_pace.specs.Earned.{share, as_rate, refilled}
-use Rattle.round_pace.specs.FloorsFit.{ticks_due, ticks_left}
+use Rattle.round_pace.specs.FloorsFit.{ticks_due, parts_left, part_share}
 use Rattle.round_pace.specs.Rows.{floor_of}
 
 -- the octets left under the rates of the server, the ways, the groups, the users, and each session
@@ -26,16 +26,17 @@ pub record Lefts : Type 0 where
   pub user : UserRate → Way → ℕ
   pub session : UserRate → Way → ℕ
 
--- each rate has left what it earns in the ticks that `tops` has for it
-pub record HasTicks (p : Promises) (tops left : Lefts) : Type 0 where
-  pub server : share p.rates.server tops.server ≤ left.server
-  pub way : (w : Way) → share (way_of p.rates.down p.rates.up w) (tops.way w) ≤ left.way w
+-- each rate has left what it earns in the thousandths of ticks that `tops` has for it
+pub record HasParts (p : Promises) (tops left : Lefts) : Type 0 where
+  pub server : part_share p.rates.server tops.server ≤ left.server
+  pub way : (w : Way) → part_share (way_of p.rates.down p.rates.up w) (tops.way w) ≤ left.way w
   pub group : (w : Way) (g : ℕ)
-      → share (group_rate (finite.get p.rates.groups g) w) (tops.group w g) ≤ left.group w g
+      → part_share (group_rate (finite.get p.rates.groups g) w) (tops.group w g) ≤ left.group w g
   pub user : (row : UserRate) (w : Way)
-      → share (way_of row.down row.up w) (tops.user row w) ≤ left.user row w
+      → part_share (way_of row.down row.up w) (tops.user row w) ≤ left.user row w
   pub session : (row : UserRate) (w : Way)
-      → share (way_of row.session_down row.session_up w) (tops.session row w) ≤ left.session row w
+      → part_share (way_of row.session_down row.session_up w) (tops.session row w)
+      ≤ left.session row w
 
 -- for each user and way, the octets that are handed in for the guarantee of each session
 abbrev pub Owed : Type 0
@@ -58,14 +59,15 @@ abbrev pub offered_entry : Owed → Lefts → UserSessions → UserSessions
 offered_entry owed left entry =
     record { row = offered_row owed left entry.row; sessions = entry.sessions }
 
--- a user's guarantees are handed in for at most the ticks that each of their rates has left
+-- a user's guarantees are handed in for at most the thousandths of ticks that each of their rates
+-- has left
 pub record IsOwed (tops : Lefts) (owed : Owed) (e : UserSessions) : Type 0 where
-  pub server : (w : Way) → owed e.row w ≤ share (floor_of w e.row) tops.server
-  pub way : (w : Way) → owed e.row w ≤ share (floor_of w e.row) (tops.way w)
+  pub server : (w : Way) → owed e.row w ≤ part_share (floor_of w e.row) tops.server
+  pub way : (w : Way) → owed e.row w ≤ part_share (floor_of w e.row) (tops.way w)
   pub group : (w : Way) (g : ℕ) → is_number e.row.group g ≡ true
-      → owed e.row w ≤ share (floor_of w e.row) (tops.group w g)
-  pub user : (w : Way) → owed e.row w ≤ share (floor_of w e.row) (tops.user e.row w)
-  pub session : (w : Way) → owed e.row w ≤ share (floor_of w e.row) (tops.session e.row w)
+      → owed e.row w ≤ part_share (floor_of w e.row) (tops.group w g)
+  pub user : (w : Way) → owed e.row w ≤ part_share (floor_of w e.row) (tops.user e.row w)
+  pub session : (w : Way) → owed e.row w ≤ part_share (floor_of w e.row) (tops.session e.row w)
 
 -- the rates handed in, with the same counted sessions
 pub record IsOffered (owed : Owed) (p : Promises) (left : Lefts) (q : Promises) : Type 0 where
@@ -78,19 +80,19 @@ pub record IsOffered (owed : Owed) (p : Promises) (left : Lefts) (q : Promises) 
   pub rows : q.rates.users ≡ by_number user_number (map user_row q.users)
 
 -- Guarantees that fit the stated rates fit what is left of them, whatever rounds there were before,
--- if each is handed in for at most the ticks whose earnings each of its rates has left.
+-- if each is handed in for at most the parts of ticks whose earnings each of its rates has left.
 abbrev pub OwedFits : Type 0
 OwedFits =
-    (owed : Owed) (p q : Promises) (left tops : Lefts) → PromisesFit p → HasTicks p tops left
+    (owed : Owed) (p q : Promises) (left tops : Lefts) → PromisesFit p → HasParts p tops left
     → All (IsOwed tops owed) p.users → IsOffered owed p left q → PromisesFit q
 
--- A rate has left what it earns in the ticks that it has left, and no more ticks.
-abbrev pub LeftTicksFit : Type 0
-LeftTicksFit = (c : Credit) → c.rate ≢ 0 → share c.rate (ticks_left c) ≤ c.left
+-- A rate has left what it earns in the parts of ticks that it has left, and no more of them.
+abbrev pub LeftPartsFit : Type 0
+LeftPartsFit = (c : Credit) → c.rate ≢ 0 → part_share c.rate (parts_left c) ≤ c.left
 
-abbrev pub TicksAreLeft : Type 0
-TicksAreLeft = (c : Credit) (ticks : ℕ) → ticks ≤ MOST_OWED → share c.rate ticks ≤ c.left
-    → ticks ≤ ticks_left c
+abbrev pub PartsAreLeft : Type 0
+PartsAreLeft = (c : Credit) (parts : ℕ) → parts ≤ MOST_PARTS → part_share c.rate parts ≤ c.left
+    → parts ≤ parts_left c
 
 -- As a tick begins, a row has earned the ticks that are due.
 abbrev pub EarnsItsTicks : Type 0

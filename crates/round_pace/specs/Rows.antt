@@ -74,3 +74,8 @@ abbrev pub have_left : TransferRows → ℕ → Bool
 have_left r octets =
     not r.has_floor && has_left r.server octets && has_left r.way octets
     && has_left r.group octets && has_left r.user octets && has_left r.session octets
+
+-- none of the rates is a limit
+abbrev pub are_free : TransferRows → Bool
+are_free r = nat_eq r.server.rate 0 && nat_eq r.way.rate 0 && nat_eq r.group.rate 0
+    && nat_eq r.user.rate 0 && nat_eq r.session.rate 0

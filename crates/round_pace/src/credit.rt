@@ -4,8 +4,8 @@ ghost use Rattle.std.specs.Prelude.{◌≡◌, ◌≤◌, ◌*◌};
 ghost use Rattle.round_pace.specs.Credits.{IsCredit, refill_row, take_row, is_dry};
 ghost use Rattle.round_pace.specs.Earned.{share, begun_in, refilled, most_kept, as_rate};
 ghost use Rattle.round_pace.specs.Changed.{changed_credit};
-ghost use Rattle.round_pace.specs.FloorsFit.{ticks_left, owed_in, owed_after, floor_in};
-ghost use Rattle.round_pace.specs.declared.credit.TheConstants.{MOST_OWED};
+ghost use Rattle.round_pace.specs.FloorsFit.{parts_left, owed_in, owed_after, floor_in};
+ghost use Rattle.round_pace.specs.declared.credit.TheConstants.{MOST_OWED, MOST_PARTS};
 ghost use Rattle.round_pace.specs.Quiet.{is_full};
 
 use line_rates::MAX_RATE;
@@ -18,6 +18,12 @@ pub const TICKS: u64 = 500;
 
 /// The most ticks of a guarantee that are owed: those of a tenth of a second, which is what a rate keeps.
 pub const MOST_OWED: u64 = 50;
+
+/// Number of parts of a tick, in which it is counted how much of a rate's earnings is left.
+pub const PARTS: u64 = 1_000;
+
+/// The parts of [`MOST_OWED`] ticks.
+pub const MOST_PARTS: u64 = 50_000;
 
 /// The most that a round can be offered under a rate, in octets.
 pub const MOST_OFFERED: u64 = 109_951_162_777;
@@ -83,16 +89,17 @@ pub(crate) fn as_rate(credit: Credit) -> u64
     10 * credit.left + 1
 }
 
-/// Number of ticks whose earnings a rate has left, and at most [`MOST_OWED`], which is that of no limit.
-pub(crate) fn ticks_left(credit: Credit) -> u64
+/// Number of parts of ticks whose earnings a rate has left, and at most [`MOST_PARTS`], which is that of no limit. In whole
+/// ticks a guarantee would lose in each round what is left of a tick.
+pub(crate) fn parts_left(credit: Credit) -> u64
     requires credit { IsCredit credit }
-    ensures ticks { result ≡ ticks_left credit }
-    ensures most { result ≤ MOST_OWED }
+    ensures parts { result ≡ parts_left credit }
+    ensures most { result ≤ MOST_PARTS }
 {
     if credit.rate == 0 {
-        return MOST_OWED;
+        return MOST_PARTS;
     }
-    ((credit.left * TICKS + (TICKS - 1)) / credit.rate).min(MOST_OWED)
+    ((credit.left * (TICKS * PARTS) + (TICKS * PARTS - 1)) / credit.rate).min(MOST_PARTS)
 }
 
 /// The debt of a guarantee as a tick begins, in 500ths of an octet, if `begun` ticks had begun before.
@@ -116,14 +123,14 @@ pub(crate) fn owed_after(octets: u64, owed: u64) -> u64
     owed.saturating_sub(octets.saturating_mul(TICKS))
 }
 
-/// The octets of a guarantee in a round, of which this is owed, if the rates have this number of ticks left.
-pub(crate) fn floor_in(floor: u64, owed: u64, ticks: u64) -> u64
+/// The octets of a guarantee in a round, of which this is owed, if the rates have this number of parts of ticks left.
+pub(crate) fn floor_in(floor: u64, owed: u64, parts: u64) -> u64
     requires rate { floor ≤ MAX_RATE }
-    requires ticks { ticks ≤ MOST_OWED }
-    ensures floor { result ≡ floor_in floor owed ticks }
+    requires parts { parts ≤ MOST_PARTS }
+    ensures floor { result ≡ floor_in floor owed parts }
     ensures most { 10 * result ≤ floor }
 {
-    owed.min(floor * ticks) / TICKS
+    owed.min(floor * parts / PARTS) / TICKS
 }
 
 /// A credit as a tick begins, if `begun` ticks had begun before.

@@ -5,7 +5,7 @@ ghost use Rattle.round_pace.specs.Earned.{OffersCredits};
 ghost use Rattle.round_pace.specs.Histories.{HistoriesAreRounds, HistoriesKeepRates, RatesStay, NewRates, TicksBegin};
 ghost use Rattle.round_pace.specs.Stretches.{StretchesKeepRates, OneStretchKeeps, ChangedRates, NewIsChanged};
 ghost use Rattle.round_pace.specs.Offered.{HandsRowsIn};
-ghost use Rattle.round_pace.specs.PromisesOffered.{OwedFits, LeftTicksFit, TicksAreLeft, EarnsItsTicks};
+ghost use Rattle.round_pace.specs.PromisesOffered.{OwedFits, LeftPartsFit, PartsAreLeft, EarnsItsTicks};
 ghost use Rattle.round_pace.specs.Given.{RoundsGive};
 ghost use Rattle.round_pace.specs.OverTime.{KeepsGuarantees};
 ghost use Rattle.round_pace.specs.Guaranteed.{StretchesAreGuaranteed, NextIsGuaranteed, HistoriesAreGuaranteed};
@@ -36,11 +36,11 @@ pub fn rates_are_reached()
 {}
 
 /// Guarantees of counted sessions that are within the rates are within what is left of them in any round, if each is
-/// handed in for at most the ticks whose earnings each of its rates has left.
+/// handed in for at most the parts of ticks whose earnings each of its rates has left.
 pub fn floors_fit_what_is_offered()
     ensures promises { OwedFits }
-    ensures fit { LeftTicksFit }
-    ensures left { TicksAreLeft }
+    ensures fit { LeftPartsFit }
+    ensures left { PartsAreLeft }
     ensures ticks { EarnsItsTicks }
 {}
 

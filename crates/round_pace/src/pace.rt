@@ -14,7 +14,7 @@ use crate::credit::{Credit, TICK_MICROS, changed_credit, is_dry, refill_row, tak
 use crate::due::Due;
 use crate::paced::{
     GroupPace, UserPace, credit_of, credit_rate, group_of, is_group_spent, is_user_spent,
-    line_ticks, put_groups, put_users, refill_groups, refill_users, take_groups, take_if_down,
+    line_parts, put_groups, put_users, refill_groups, refill_users, take_groups, take_if_down,
     take_if_up, take_users,
 };
 use crate::quiet::begin_second;
@@ -208,8 +208,8 @@ impl<A: Allocator> Pace<A> {
             credit_rate(self.up),
         );
         put_groups(&mut self.offered, &self.groups, &mut self.quiet_groups);
-        let down = line_ticks(self.server, self.down);
-        let up = line_ticks(self.server, self.up);
+        let down = line_parts(self.server, self.down);
+        let up = line_parts(self.server, self.up);
         put_users(
             &mut self.offered,
             &self.users,

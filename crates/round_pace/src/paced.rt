@@ -5,17 +5,17 @@ ghost use Rattle.std.specs.List.{All};
 ghost use Rattle.line_rates.specs.Put.{FindsPlace};
 ghost use Rattle.line_rates.specs.Stated.{FitsGroup, FitsUser, IsRising};
 ghost use Rattle.round_pace.specs.Credits.{IsCredit};
-ghost use Rattle.round_pace.specs.FloorsFit.{ticks_left};
-ghost use Rattle.round_pace.specs.Offered.{refill_group, refill_user, credit_rate, floor_rate, offer_group, owed_of, user_ticks, handed_user, put_groups, put_users};
+ghost use Rattle.round_pace.specs.FloorsFit.{parts_left};
+ghost use Rattle.round_pace.specs.Offered.{refill_group, refill_user, credit_rate, floor_rate, offer_group, owed_of, user_parts, handed_user, put_groups, put_users};
 ghost use Rattle.round_pace.specs.Paced.{group_key, pace_number, IsGroupPace, IsUserPace, AreTheGroups, AreTheUsers};
 ghost use Rattle.round_pace.specs.Quiet.{AllMarked, IsQuietGroup, IsQuietUser, KeepMarked};
 ghost use Rattle.round_pace.specs.Rows.{floor_of};
 ghost use Rattle.round_pace.specs.Spent.{credit_of, is_spent, is_user_spent, is_group_spent};
 ghost use Rattle.round_pace.specs.Taken.{take_if_down, take_if_up, owed_if_down, owed_if_up, take_group, take_user, group_of, take_users, take_groups};
-ghost use Rattle.round_pace.specs.declared.credit.TheConstants.{MOST_OWED};
+ghost use Rattle.round_pace.specs.declared.credit.TheConstants.{MOST_PARTS};
 
 use crate::credit::{
-    Credit, as_rate, floor_in, is_dry, owed_after, owed_in, refill_row, take_row, ticks_left,
+    Credit, as_rate, floor_in, is_dry, owed_after, owed_in, parts_left, refill_row, take_row,
 };
 use crate::quiet::{is_full_group, is_full_user, is_marked, set_mark};
 use crate::rows::{floor_of, group_credit};
@@ -82,55 +82,56 @@ fn owed_of(user: UserPace, way: Way) -> u64
     }
 }
 
-/// The ticks whose earnings the rates of the line and of one way have left.
-pub(crate) fn line_ticks(server: Credit, way: Credit) -> u64
+/// The parts of ticks whose earnings the rates of the line and of one way have left.
+pub(crate) fn line_parts(server: Credit, way: Credit) -> u64
     requires server { IsCredit server }
     requires way { IsCredit way }
-    ensures ticks { result ≡ min (ticks_left server) (ticks_left way) }
-    ensures most { result ≤ MOST_OWED }
+    ensures parts { result ≡ min (parts_left server) (parts_left way) }
+    ensures most { result ≤ MOST_PARTS }
 {
-    ticks_left(server).min(ticks_left(way))
+    parts_left(server).min(parts_left(way))
 }
 
-// The ticks whose earnings each rate of a user has left, if those of the line have this number left.
-fn user_ticks(user: UserPace, groups: &[GroupPace], way: Way, line: u64) -> u64
+// The parts of ticks whose earnings each rate of a user has left, if those of the line have this number left.
+fn user_parts(user: UserPace, groups: &[GroupPace], way: Way, line: u64) -> u64
     requires user { IsUserPace user }
     requires groups { All IsGroupPace groups.now }
     requires rising { IsRising group_key groups.now }
-    requires line { line ≤ MOST_OWED }
-    ensures ticks { result ≡ user_ticks way line groups.now user }
-    ensures most { result ≤ MOST_OWED }
+    requires line { line ≤ MOST_PARTS }
+    ensures parts { result ≡ user_parts way line groups.now user }
+    ensures most { result ≤ MOST_PARTS }
 {
-    let group = ticks_left(group_credit(groups, user.row.group, way));
-    let own = ticks_left(credit_of(user.down, user.up, way));
-    let session = ticks_left(credit_of(user.session_down, user.session_up, way));
+    let group = parts_left(group_credit(groups, user.row.group, way));
+    let own = parts_left(credit_of(user.down, user.up, way));
+    let session = parts_left(credit_of(user.session_down, user.session_up, way));
     line.min(group).min(own.min(session))
 }
 
-// The rate that is handed in for a user's guarantee of one way, if the rates of the line have this number of ticks left.
+// The rate that is handed in for a user's guarantee of one way, if the rates of the line have this number of parts of
+// ticks left.
 fn floor_rate(user: UserPace, groups: &[GroupPace], way: Way, line: u64) -> u64
     requires user { IsUserPace user }
     requires groups { All IsGroupPace groups.now }
     requires rising { IsRising group_key groups.now }
-    requires line { line ≤ MOST_OWED }
+    requires line { line ≤ MOST_PARTS }
     ensures floor { result ≡ floor_rate (floor_of way user.row) (owed_of way user)
-        (user_ticks way line groups.now user) }
+        (user_parts way line groups.now user) }
     ensures most { result ≤ MAX_RATE }
 {
     let floor = floor_of(user.row, way);
     if floor == 0 {
         return 0;
     }
-    let ticks = user_ticks(user, groups, way, line);
-    10 * floor_in(floor, owed_of(user, way), ticks)
+    let parts = user_parts(user, groups, way, line);
+    10 * floor_in(floor, owed_of(user, way), parts)
 }
 
 fn handed_user(user: UserPace, groups: &[GroupPace], down: u64, up: u64) -> UserRate
     requires user { IsUserPace user }
     requires groups { All IsGroupPace groups.now }
     requires rising { IsRising group_key groups.now }
-    requires down { down ≤ MOST_OWED }
-    requires up { up ≤ MOST_OWED }
+    requires down { down ≤ MOST_PARTS }
+    requires up { up ≤ MOST_PARTS }
     ensures row { result ≡ handed_user down up groups.now user }
     ensures fits { FitsUser result }
 {
@@ -239,7 +240,8 @@ pub(crate) fn put_groups<L: Allocator, A: Allocator>(
     }
 }
 
-/// Writes the rows of users into the limits, likewise, if the rates of the line have these numbers of ticks left.
+/// Writes the rows of users into the limits, likewise, if the rates of the line have these numbers of parts of ticks
+/// left.
 pub(crate) fn put_users<L: Allocator, A: Allocator>(
     offered: &mut Limits<L>,
     users: &[UserPace],
@@ -251,8 +253,8 @@ pub(crate) fn put_users<L: Allocator, A: Allocator>(
     requires paces { All IsUserPace users.now }
     requires groups { All IsGroupPace groups.now }
     requires groups_rise { IsRising group_key groups.now }
-    requires down { down ≤ MOST_OWED }
-    requires up { up ≤ MOST_OWED }
+    requires down { down ≤ MOST_PARTS }
+    requires up { up ≤ MOST_PARTS }
     requires rising { IsRising pace_number users.now }
     requires rows { AreTheUsers offered.old users.now }
     requires marked { AllMarked (IsQuietUser offered.old) marks.old.items users.now }

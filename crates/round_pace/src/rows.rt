@@ -3,7 +3,7 @@
 ghost use Rattle.std.specs.Prelude.{◌≡◌};
 ghost use Rattle.line_rates.specs.Stated.{IsRising};
 ghost use Rattle.round_pace.specs.Paced.{group_key, pace_number, no_credit};
-ghost use Rattle.round_pace.specs.Rows.{floor_of, user_credit, session_credit, group_credit, has_left, have_left, has_floor};
+ghost use Rattle.round_pace.specs.Rows.{floor_of, user_credit, session_credit, group_credit, has_left, have_left, are_free, has_floor};
 
 use crate::credit::Credit;
 use crate::paced::{GroupPace, UserPace, credit_of, find_group, find_user};
@@ -50,6 +50,17 @@ impl TransferRows {
             && has_left(self.group, octets)
             && has_left(self.user, octets)
             && has_left(self.session, octets)
+    }
+
+    /// Returns whether none of the rates is a limit.
+    pub fn are_free(&self) -> bool
+        ensures free { result ≡ are_free self.now }
+    {
+        self.server.rate == 0
+            && self.way.rate == 0
+            && self.group.rate == 0
+            && self.user.rate == 0
+            && self.session.rate == 0
     }
 }
 

@@ -60,7 +60,7 @@ module _ {A S C D H Q K T R W : Type 0} (Row : Standing → Given K → ℕ → 
   })
 
 module _ {T R W : Type 0} (users : Users) (settings : Settings Global) (port : ℕ) (remaining : R → Option (List ℕ)) (contents : W → Option (List ℕ)) (result : Result T ControlFault)
-    (store store' : Memory) (promises promises' : Promises) (side : ScriptSide Upload) (reader reader' : R) (writer writer' : W) where
+    (store store' : Memory) (promises promises' : Promises) (side : ScriptSide Global Upload) (reader reader' : R) (writer writer' : W) where
   pub script_reported : promises' ≡ promises
       → IsReported (IsRow {A = Global} {R = List ℕ} InMemory users) ReadsZero AnswersScript StaysSilent remaining contents result (new_session settings home_address)
       (script_parts store promises (unasked port) reader writer) (script_parts store' promises' side reader' writer')

@@ -4,13 +4,13 @@ use Rattle.std.specs.declared.alloc.Global.{Global}
 use Rattle.authorizer.specs.Users.{Users}
 use Rattle.memory_store.specs.InMemory.{Memory, InMemory, Upload}
 use Rattle.rate_floors.specs.Promises.{Promises}
-use Rattle.session_core.specs.declared.events.DataEvent.{DataEvent}
-use Rattle.session_core.specs.declared.events.DataEvent.TheVariants.{Ready, Ended}
+use Rattle.session_table.specs.declared.inputs.Input.{Input}
+use Rattle.session_table.specs.declared.inputs.Input.TheVariants.{DataReady, TransferEnded}
 use Rattle.session_host.specs.Alone.{Parts}
 use Rattle.session_host.specs.ControlFault.{ControlFault}
 use Rattle.session_host.specs.Rows.{IsRow}
 use Rattle.session_host.specs.Sessions.{new_session}
-use Rattle.session_host.specs.Sides.{SideCall}
+use Rattle.session_host.specs.Sides.{SideCall, came_of}
 use Rattle.session_host.specs.Sides.SideCall.{Opens, Connects, Drops, Starts, Aborts, Looks, Settles}
 use Rattle.session_host.specs.Silent.{StaysSilent}
 use Rattle.session_host.specs.Reported.{IsReported}
@@ -38,22 +38,26 @@ IsSent NoConnection = ⊥
 IsSent Aborted = ⊥
 
 -- the end of a transfer: a text is sent, a file is read, and an upload brings nothing
-abbrev pub EndsScript : {A R K : Type 0} → Job A R K → DataEvent K → Type 0
-EndsScript (Text octets) event = event ≡ Ended Done None
-EndsScript (SendFile source form) event = (end : End) × IsSent end × (event ≡ Ended end None)
-EndsScript (TakeFile file form) event = event ≡ Ended Done (Some file)
+abbrev pub EndsScript : {A R K : Type 0} → Job A R K → Input A K → Type 0
+EndsScript (Text octets) event = event ≡ TransferEnded Done None
+EndsScript (SendFile source form) event =
+    (end : End) × IsSent end × (event ≡ TransferEnded end None)
+EndsScript (TakeFile file form) event = event ≡ TransferEnded Done (Some file)
 
 -- the port is the same each time, a transfer ends as it begins, and an event waits until the side
 -- is asked for it
-abbrev pub AnswersScript : {A R K : Type 0} → ScriptSide K → SideCall A R K → ScriptSide K → Type 0
-AnswersScript old Opens new = new ≡ record old { came = Some (Ready (Some old.port)) }
+abbrev pub AnswersScript : {A R K : Type 0} → ScriptSide A K → SideCall A R K → ScriptSide A K
+    → Type 0
+AnswersScript old Opens new = new ≡ record old { came = Some (DataReady (Some old.port)) }
 AnswersScript old (Connects to) new = new ≡ old
 AnswersScript old Drops new = new ≡ old
-AnswersScript {K = K} old (Starts job) new =
-    (event : DataEvent K) × EndsScript job event × (new ≡ record old { came = Some event })
+AnswersScript {A = A} {K = K} old (Starts job) new =
+    (event : Input A K) × EndsScript job event × (new ≡ record old { came = Some event })
 AnswersScript old Aborts new = new ≡ old
-AnswersScript old (Looks event) new = (event ≡ old.came) × (new ≡ record old { came = None })
-AnswersScript old (Settles event) new = (event ≡ old.came) × (new ≡ record old { came = None })
+AnswersScript old (Looks event) new =
+    (event ≡ came_of old.came) × (new ≡ record old { came = None })
+AnswersScript old (Settles event) new =
+    (event ≡ came_of old.came) × (new ≡ record old { came = None })
 
 -- the client of a script
 abbrev pub home_address : List ℕ
@@ -61,8 +65,8 @@ home_address = 127 ∷ 0 ∷ 0 ∷ 1 ∷ []
 
 -- the parts of a script's session: a store, floors, a data side and two ends, beside the clock and
 -- a handler without effect
-abbrev pub script_parts : {R W : Type 0} → Memory → Promises → ScriptSide Upload → R → W
-    → Parts Memory ZeroClock (ScriptSide Upload) R W Silent
+abbrev pub script_parts : {R W : Type 0} → Memory → Promises → ScriptSide Global Upload → R → W
+    → Parts Memory ZeroClock (ScriptSide Global Upload) R W Silent
 script_parts store promises side reader writer =
     record {
       store = store;
@@ -75,7 +79,7 @@ script_parts store promises side reader writer =
     }
 
 -- a data side with this port, before its first call
-abbrev pub unasked : ℕ → ScriptSide Upload
+abbrev pub unasked : ℕ → ScriptSide Global Upload
 unasked port = record { port = port; came = None }
 
 -- these octets, or unknown octets
@@ -87,7 +91,7 @@ as_known octets = octets
 pub record IsScript {T : Type 0} (users : Users) (settings : Settings Global) (port : ℕ)
     (promises : Promises) (store store' : Memory) (left left' out out' : Option (List ℕ))
     (result : Result T ControlFault) : Type 0 where
-  pub side : ScriptSide Upload
+  pub side : ScriptSide Global Upload
   pub reported : IsReported {A = Global} {Q = List ℕ} (IsRow InMemory users) ReadsZero AnswersScript
       StaysSilent as_known as_known
       result (new_session settings home_address)

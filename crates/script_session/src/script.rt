@@ -40,7 +40,7 @@ pub fn serve_text<F: Allocator + Clone, R: TextReader, W: TextWriter>(
     settings: Settings,
     port: u16,
 ) -> Result<(), ControlFault>
-    ensures whole { (side : ScriptSide Upload) × IsServed
+    ensures whole { (side : ScriptSide Global Upload) × IsServed
         (IsRow {A = Global} {R = List ℕ} InMemory)
         (AloneDoes users.now.users ReadsZero AnswersScript StaysSilent R.remaining R.may_fail
         W.contents W.may_refuse)

@@ -5,8 +5,8 @@ ghost use Rattle.std.specs.Io.KnownBytes.{IsAtEnd};
 ghost use Rattle.script_session.specs.Scripts.{AnswersScript, EndsScript, IsSent, ReadsZero};
 
 use ftp_wire::HostPort;
-use session_host::{DataEvent, DataSide, Moments};
-use session_table::{End, Job};
+use session_host::{DataSide, Moments};
+use session_table::{End, Input, Job};
 use std::alloc::Allocator;
 use virtual_tree::{Source, StoreFault};
 
@@ -25,10 +25,10 @@ impl Moments for ZeroClock {
 /// A data side without sockets. Each passive port is the same. A transfer ends as it begins: a download is read to its
 /// end and dropped, an upload brings no octets. An event waits until the next look.
 #[derive(Drop)]
-pub struct ScriptSide<K> {
+pub struct ScriptSide<A: Allocator, K> {
     pub port: u16,
     /// The event that waits, if any.
-    pub came: Option<DataEvent<K>>,
+    pub came: Option<Input<A, K>>,
 }
 
 /// The end of a transfer whose file the store cannot read on.
@@ -67,30 +67,30 @@ fn take_whole<R: Source>(source: R) -> End
 }
 
 /// Runs a transfer to its end.
-fn run<A: Allocator, R: Source, K: Drop>(job: Job<A, R, K>) -> DataEvent<K>
+fn run<A: Allocator, R: Source, K: Drop>(job: Job<A, R, K>) -> Input<A, K>
     ensures ends { EndsScript job result }
 {
     match job {
-        Job::Text(_) => DataEvent::Ended {
+        Job::Text(_) => Input::TransferEnded {
             end: End::Done,
             sink: None,
         },
-        Job::SendFile(source, _) => DataEvent::Ended {
+        Job::SendFile(source, _) => Input::TransferEnded {
             end: take_whole(source),
             sink: None,
         },
-        Job::TakeFile(sink, _) => DataEvent::Ended {
+        Job::TakeFile(sink, _) => Input::TransferEnded {
             end: End::Done,
             sink: Some(sink),
         },
     }
 }
 
-impl<A: Allocator, R: Source, K: Drop> DataSide<A, R, K> for ScriptSide<K> {
+impl<A: Allocator, R: Source, K: Drop> DataSide<A, R, K> for ScriptSide<A, K> {
     ghost Asks = { AnswersScript };
 
     fn open_passive(&mut self) {
-        self.came = Some(DataEvent::Ready(Some(self.port)));
+        self.came = Some(Input::DataReady(Some(self.port)));
     }
 
     fn connect_to(&mut self, _to: HostPort) {}
@@ -105,11 +105,11 @@ impl<A: Allocator, R: Source, K: Drop> DataSide<A, R, K> for ScriptSide<K> {
 
     fn abort(&mut self) {}
 
-    fn look(&mut self) -> Option<DataEvent<K>> {
+    fn look(&mut self) -> Option<Input<A, K>> {
         self.came.take()
     }
 
-    fn settle(&mut self) -> Option<DataEvent<K>> {
+    fn settle(&mut self) -> Option<Input<A, K>> {
         self.came.take()
     }
 }

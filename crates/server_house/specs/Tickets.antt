@@ -1,5 +1,5 @@
 -- The ends that a lane may report of a transfer.
-use Rattle.std.specs.Prelude.{◌≡◌, ℕ, Bool, true, false, Option, None}
+use Rattle.std.specs.Prelude.{◌≡◌, Bool, true, false, None}
 use Rattle.server_house.specs.declared.transfer_end.TransferEnd.{TransferEnd}
 use Rattle.session_table.specs.declared.inputs.End.TheVariants.{Aborted, NoMemory}
 use Rattle.transfer_worker.specs.declared.job.LaneJob.{LaneJob}

@@ -17,6 +17,8 @@ pub enum EndCause {
     NoMemory,
     /// The file could not be read or written.
     File,
+    /// All octets of the upload came, and the store refused the file at its end.
+    Refused,
     /// The data connection failed, with the error of its last failing call, if one is known.
     Connection(Option<io::Error>),
     /// The control connection was lost.

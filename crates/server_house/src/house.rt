@@ -11,7 +11,7 @@ use client_patience::Patience;
 use event_word::{EventCount, SharedEventCount};
 use ftp_terms::LineText;
 use lent_parts::{LentBoard, LentPass, PartsName};
-use passive_ports::{Registry, RestingPorts};
+use passive_ports::{Admissions, RestingPorts};
 use rate_floors::Floors;
 use server_config::ServerNumbers;
 use session_table::Settings;
@@ -39,7 +39,8 @@ pub struct House<S: Store<Global>, H: Drop, B: PartsName> {
     /// The owner's callbacks.
     pub handler: Mutex<H>,
     pub ports: Mutex<RestingPorts>,
-    pub registry: Mutex<Registry>,
+    /// The connections, and the limits to further ones.
+    pub registry: Mutex<Admissions>,
     /// The ticket of each session, by the number of its connection.
     pub tickets: Vec<SessionTicket<S>>,
     /// The numbers of the tickets on which a transfer waits for a lane. One that was taken back leaves its number here.

@@ -29,6 +29,8 @@ pub struct LaneSign {
     whole: AtomicU64,
     // 1 if the rates had plenty left after the last grant to an upload, otherwise 0
     plenty: AtomicU64,
+    // 1 if no rate is a limit of an upload, otherwise 0
+    free: AtomicU64,
 }
 
 // The number of rounds refused in a row, after one more round.
@@ -66,6 +68,7 @@ impl LaneSign {
             refused: AtomicU64::new(0),
             whole: AtomicU64::new(0),
             plenty: AtomicU64::new(0),
+            free: AtomicU64::new(0),
         }
     }
 
@@ -96,6 +99,17 @@ impl LaneSign {
     /// takes nothing from others.
     pub fn has_plenty(&self) -> bool {
         self.plenty.load(Ordering::SeqCst) == 1
+    }
+
+    /// Sets whether no rate is a limit of the upload of the lane.
+    pub fn set_free(&self, is_free: bool) {
+        self.free.store(u64::from(is_free), Ordering::SeqCst);
+    }
+
+    /// Returns whether no rate was a limit of the upload as it began, or in the last round that granted it octets: one that
+    /// is granted more than it reads takes nothing from anybody.
+    pub fn is_free(&self) -> bool {
+        self.free.load(Ordering::SeqCst) == 1
     }
 
     /// Returns whether the lane's transfer is to end for lack of memory: [`MOST_REFUSED`] rounds in a row were refused.

@@ -38,13 +38,14 @@ pub use outgoing::{Outgoing, Progress};
 pub use own_address::OwnAddress;
 pub use own_runs::OwnRuns;
 pub use passive::{
-    accept_from, address_octets, empty_queue, listen, may_keep_ports, socket_address,
+    PeerConnection, accept_from, address_octets, empty_queue, listen, may_keep_ports,
+    socket_address,
 };
 pub use runtime::ServerRuntime;
 pub use served::{Listing, Served};
 pub use server_hooks::{
-    BegunTransfer, ClientSession, LaneLook, NotServed, ServerEvent, ServerHooks, ServerLook,
-    SessionEvent, SessionRefusal, StoreNote, TransferKind, TransferRecord,
+    BegunTransfer, ClientSession, LaneLook, NoHooks, NotServed, ServerEvent, ServerHooks,
+    ServerLook, SessionEvent, SessionRefusal, StoreNote, TransferKind, TransferRecord,
 };
 pub use terms::{HeldTerms, SharedTerms, Terms};
 pub use ticket::{LaneEnds, SessionEnd, SessionJob, SessionTicket};

@@ -1,6 +1,6 @@
 //! Passive ports: listening, and accepting the peer.
 
-ghost use Rattle.std.specs.Prelude.{◌≡◌, ◌↔◌, IsTrue};
+ghost use Rattle.std.specs.Prelude.{◌≡◌, ◌↔◌, IfSome, IsTrue, None};
 ghost use Rattle.server_house.specs.Peers.{IsAddress, IsFrom, IsOctetsOf, IsWanted};
 ghost use Rattle.server_house.specs.Ports.{may_keep_ports, none_waits};
 
@@ -77,14 +77,49 @@ fn is_wanted(from: SocketAddr, peer: Option<[u8; 4]>) -> bool
     }
 }
 
+/// A connection that was accepted, whose address is the peer's, or any if no peer is given: by its type, no stranger's is
+/// one.
+#[derive(Drop)]
+pub struct PeerConnection {
+    stream: TcpStream,
+    peer: Option<[u8; 4]>,
+    from: SocketAddr,
+    ghost wanted: { ∥ IsWanted peer from ∥₁ },
+}
+
+impl PeerConnection {
+    // The connection with this address, if it is the peer's.
+    fn of_peer(stream: TcpStream, from: SocketAddr, peer: Option<[u8; 4]>) -> Option<PeerConnection>
+        ensures wanted { IfSome result (λ connection. (connection.peer ≡ peer)
+            × (connection.from ≡ from)) }
+        ensures stranger { result ≡ None → ¬ IsWanted peer from }
+    {
+        if is_wanted(from, peer) {
+            Some(PeerConnection { stream, peer, from })
+        } else {
+            None
+        }
+    }
+
+    /// The socket.
+    pub fn into_stream(self) -> TcpStream
+        ensures stream { result ≡ self.stream }
+    {
+        let PeerConnection { stream, .. } = self;
+        stream
+    }
+}
+
 /// Accepts a connection from this peer, or from anybody if no peer is given, and closes those of others. `None` if none
 /// has come yet, if the machine reports an error, or after `MOST_STRANGERS` others: the next call goes on.
-pub fn accept_from(listener: &TcpListener, peer: Option<[u8; 4]>) -> Option<TcpStream> {
+pub fn accept_from(listener: &TcpListener, peer: Option<[u8; 4]>) -> Option<PeerConnection>
+    ensures peer { IfSome result (λ connection. connection.peer ≡ peer) }
+{
     for _ in 0..MOST_STRANGERS {
         match listener.accept() {
             Ok((stream, from)) => {
-                if is_wanted(from, peer) {
-                    return Some(stream);
+                if let Some(connection) = PeerConnection::of_peer(stream, from, peer) {
+                    return Some(connection);
                 }
             }
             Err(_) => return None,

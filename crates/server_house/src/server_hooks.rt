@@ -64,6 +64,11 @@ pub enum ServerEvent {
     Drains(u64),
     /// The time of a server that drains is over: that number of clients is told so, and their transfers are cut.
     DrainTimedOut(u64),
+    /// The server ends, and waits for that number of calls of the machine which have not returned: on files, or on
+    /// sockets.
+    Waits(u64),
+    /// Nothing can be settled: the part of this lane is not in its place, which is a fault of the program.
+    Misplaced(u64),
 }
 
 /// The kind of a transfer.
@@ -149,35 +154,97 @@ pub struct StoreNote<'a> {
 
 /// Callbacks for the events of a server and of its sessions. One that is about a session has it as its first argument. A
 /// session waits for its callbacks: they may note, count or report to others, and must not take long.
+///
+/// A handler writes those that it wants: each does nothing otherwise, except that `on_call` and `on_transfer` pass on to
+/// the callbacks above them. A handler that hands events on to another one writes all those that are not passed on.
 pub trait ServerHooks: Drop {
-    /// An event of this session. A handler with a callback for each of them (`Hooks` of `handler_hooks`) passes it to
-    /// `report` there.
-    fn on_call(&mut self, session: ClientSession, call: &HookCall<Global>);
+    /// A client has connected, and was greeted.
+    fn on_connect(&mut self, _session: ClientSession) {}
+
+    /// The control connection is gone. No callback of `on_call` follows for this session.
+    fn on_disconnect(&mut self, _session: ClientSession) {}
+
+    /// A user has logged in.
+    fn on_login(&mut self, _session: ClientSession, _user: &str) {}
+
+    /// A wrong password was given for a name, which may be no user's.
+    fn on_login_failed(&mut self, _session: ClientSession, _user: &str) {}
+
+    /// A user has left: by QUIT, REIN or another USER, or because the connection is gone.
+    fn on_logout(&mut self, _session: ClientSession, _user: &str) {}
+
+    /// A file was sent whole.
+    fn on_file_sent(&mut self, _session: ClientSession, _file: &TransferRecord<'_>) {}
+
+    /// A file was received whole, and the store has it.
+    fn on_file_received(&mut self, _session: ClientSession, _file: &TransferRecord<'_>) {}
+
+    /// A file was not sent whole: the record has the cause.
+    fn on_incomplete_file_sent(&mut self, _session: ClientSession, _file: &TransferRecord<'_>) {}
+
+    /// A file was not received whole, or the store refused it: the record has the cause.
+    fn on_incomplete_file_received(
+        &mut self,
+        _session: ClientSession,
+        _file: &TransferRecord<'_>,
+    ) {}
+
+    /// An event of this session. Passes it on, unless it is of a file: `on_transfer` does that.
+    fn on_call(&mut self, session: ClientSession, call: &HookCall<Global>) {
+        match call {
+            HookCall::Connect => self.on_connect(session),
+            HookCall::Disconnect => self.on_disconnect(session),
+            HookCall::Login(user) => self.on_login(session, user.as_str()),
+            HookCall::LoginFailed(user) => self.on_login_failed(session, user.as_str()),
+            HookCall::Logout(user) => self.on_logout(session, user.as_str()),
+            HookCall::FileSent(_)
+            | HookCall::FileReceived(_)
+            | HookCall::IncompleteFileSent(_)
+            | HookCall::IncompleteFileReceived(_) => {}
+        }
+    }
 
     /// An event of this session for which a handler has no callback.
-    fn on_session(&mut self, session: ClientSession, event: SessionEvent);
+    fn on_session(&mut self, _session: ClientSession, _event: SessionEvent) {}
 
     /// A client of this address is not served.
-    fn on_refused(&mut self, peer: [u8; 4], why: NotServed);
+    fn on_refused(&mut self, _peer: [u8; 4], _why: NotServed) {}
 
     /// An event of the server.
-    fn on_server(&mut self, event: ServerEvent);
+    fn on_server(&mut self, _event: ServerEvent) {}
 
     /// The server has taken a changed configuration, or has refused it for this reason.
-    fn on_reload(&mut self, refused: Option<&str>);
+    fn on_reload(&mut self, _refused: Option<&str>) {}
 
     /// Returns whether the sizes of files that are sent are to be asked for.
-    fn wants_sizes(&self) -> bool;
+    fn wants_sizes(&self) -> bool {
+        false
+    }
 
     /// A transfer of this session has begun.
-    fn on_begun(&mut self, session: ClientSession, transfer: &BegunTransfer<'_>);
+    fn on_begun(&mut self, _session: ClientSession, _transfer: &BegunTransfer<'_>) {}
 
     /// A look at what goes on, once a second, if the owner's signs ask for it.
-    fn on_look(&mut self, look: &ServerLook<'_>);
+    fn on_look(&mut self, _look: &ServerLook<'_>) {}
 
-    /// A transfer of this session has ended. It is called also if the control connection is gone.
-    fn on_transfer(&mut self, session: ClientSession, record: &TransferRecord<'_>);
+    /// A transfer of this session has ended. It is called also if the control connection is gone. Passes a transfer of a
+    /// file on.
+    fn on_transfer(&mut self, session: ClientSession, record: &TransferRecord<'_>) {
+        match (record.kind, record.cause) {
+            (TransferKind::Sent, None) => self.on_file_sent(session, record),
+            (TransferKind::Sent, Some(_)) => self.on_incomplete_file_sent(session, record),
+            (TransferKind::Received, None) => self.on_file_received(session, record),
+            (TransferKind::Received, Some(_)) => self.on_incomplete_file_received(session, record),
+            (TransferKind::Listed, _) => {}
+        }
+    }
 
     /// This session has changed its store, or its store has a fault.
-    fn on_store(&mut self, session: ClientSession, note: &StoreNote<'_>);
+    fn on_store(&mut self, _session: ClientSession, _note: &StoreNote<'_>) {}
 }
+
+/// A handler to which no event matters.
+#[derive(Drop)]
+pub struct NoHooks;
+
+impl ServerHooks for NoHooks {}

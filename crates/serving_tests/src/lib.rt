@@ -1,6 +1,6 @@
 //! Tests of the parts of the server that need no desk and no session: counts that threads wait on, tickets, the mender
-//! of control text, the pace of rounds and their cadence, limits of time, ports that rest, the queue of lines, and the
-//! line of a transfer log. They call only public functions.
+//! of control text, the pace of rounds and their cadence, limits of time, doors, ports that rest, the queue of lines, and the
+//! line of a transfer log; and of the callbacks of a handler. They call only public functions.
 #![tactic(auto)]
 
 #[cfg(test)]
@@ -8,7 +8,11 @@ mod cadences;
 #[cfg(test)]
 mod counts;
 #[cfg(test)]
+mod doors;
+#[cfg(test)]
 mod expect;
+#[cfg(test)]
+mod handlers;
 #[cfg(test)]
 mod lines;
 #[cfg(test)]

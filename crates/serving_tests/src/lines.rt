@@ -3,7 +3,7 @@
 use crate::expect::holds;
 use line_queue::{
     LAST_WAIT, LineQueue, MAX_LINES, Readiness, Round, SharedLines, Step, next_step, priority,
-    readiness_of,
+    readiness_of, transfers_dropped,
 };
 use log::Level;
 use std::process::Abort;
@@ -53,6 +53,21 @@ fn counts_are_taken(rt: HostRuntime) {
 }
 
 #[test]
+fn lines_that_are_left(rt: HostRuntime) {
+    let mut queue = LineQueue::new(rt.alloc()).expect(&rt, "memory");
+    queue.offer(line(&rt, "a\n"));
+    queue.offer(line(&rt, "b\n"));
+    queue.written(1);
+    queue.begin_again();
+    holds(&rt, queue.next_octets() == b"a\n".as_slice());
+    queue.miss();
+    holds(&rt, queue.lost() == 3);
+    queue.give_up();
+    holds(&rt, queue.is_empty());
+    holds(&rt, queue.dropped() == 3);
+}
+
+#[test]
 fn steps_of_the_writer(rt: HostRuntime) {
     holds(&rt, readiness_of(1, 4) == Readiness::Ready);
     holds(&rt, readiness_of(0, 0) == Readiness::Full);
@@ -60,6 +75,8 @@ fn steps_of_the_writer(rt: HostRuntime) {
     let step = next_step(Round::Idle, Round::Idle, None);
     holds(&rt, step == Step::Sleep);
     let step = next_step(Round::Held, Round::Idle, Some(LAST_WAIT));
+    holds(&rt, step == Step::Poll);
+    let step = next_step(Round::Refused, Round::Held, None);
     holds(&rt, step == Step::Pause);
     let step = next_step(Round::Held, Round::Wrote, Some(LAST_WAIT + 1));
     holds(&rt, step == Step::End);
@@ -68,6 +85,9 @@ fn steps_of_the_writer(rt: HostRuntime) {
     lines.note(&rt, Ok(line(&rt, "a\n")));
     lines.transfer(&rt, Ok(line(&rt, "b\n")));
     lines.close();
+    holds(&rt, lines.give_up(&rt) == 1);
+    let note = transfers_dropped(rt.alloc(), "<4>", 1).expect(&rt, "memory");
+    holds(&rt, note.as_str() == "<4>lines of the transfer log dropped: 1\n");
 }
 
 #[test]

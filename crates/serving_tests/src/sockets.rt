@@ -34,7 +34,7 @@ where
     let near = TcpStream::connect(rt, address).ok()?;
     for _ in 0..1_000_000 {
         match accept_from(listener, Some(LOOPBACK)) {
-            Some(far) => return Some((near, far)),
+            Some(far) => return Some((near, far.into_stream())),
             None => {}
         }
     }

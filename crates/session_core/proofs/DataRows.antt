@@ -1,6 +1,5 @@
 -- What comes of the data side, and the end of the control connection, as rows of the table.
-use Rattle.std.proofs.Common.{◌≡◌, ◌∙◌, ◌&&◌, ℕ, Bool, true, false, cond, not, List, [], ◌∷◌, ◌++◌, IfOk, IsErr, OnErr, Option, Some, None, Result, Ok, Err, refl, sym, ap, subst}
-use Rattle.std.proofs.lemmas.Bool.{false≢true}
+use Rattle.std.proofs.Common.{◌≡◌, ◌∙◌, ◌&&◌, ℕ, Bool, true, false, cond, not, List, [], ◌∷◌, ◌++◌, Option, Some, None, refl, sym, ap, subst}
 use Rattle.authorizer.specs.Users.{Users}
 use Rattle.ftp_wire.specs.Items.{Item}
 use Rattle.rate_floors.specs.Promises.{Promises}
@@ -60,12 +59,3 @@ module _ {A R K : Type 0} where
       ∙ (ap (λ (out : Option (LoggedOut A)). Then (record view { stage = stage.Closed; name = [] }) (aborts view ++ logout_actions out ++ (action.Hook hook.Disconnect ∷ []))) left_is
       ∙ (ap (λ (out : List (Action A R K)). Then (record view { stage = stage.Closed; name = [] }) (aborts view ++ out ++ (action.Hook hook.Disconnect ∷ []))) (logout_is view (is_inside view.stage))
       ∙ sym (ap (λ (b : Bool). cond b (idle view) (closed_row view)) shut))))
-
-pub ok_through : {T E F : Type 0} (inner : Result T E) (outer : Result T F) (P : T → Type 0) → IfOk outer (λ value. inner ≡ Ok value) → IfOk inner P → IfOk outer P
-ok_through inner (Ok value) P is has = subst (λ (r : Result _ _). IfOk r P) is has
-ok_through inner (Err fault) P is has = tt
-
-pub err_through : {T E F : Type 0} (P : Type 0) (inner : Result T E) (outer : Result T F) → OnErr outer (IsErr inner) → OnErr inner P → OnErr outer P
-err_through P inner (Ok value) is has = tt
-err_through P (Err fault) (Err other) is has = has
-err_through P (Ok value) (Err other) is has = absurd (false≢true is)

@@ -1,9 +1,10 @@
--- Events of the data side as inputs.
-use Rattle.session_core.specs.declared.events.DataEvent.{DataEvent}
-use Rattle.session_core.specs.declared.events.DataEvent.TheVariants.{Ready, Ended}
+-- Events of the data side among the inputs.
+use Rattle.std.specs.Prelude.{Bool, true, false}
 use Rattle.session_table.specs.declared.inputs.Input.{Input}
 use Rattle.session_table.specs.declared.inputs.Input.TheVariants as input
 
-abbrev pub input_of : {A K : Type 0} → DataEvent K → Input A K
-input_of (Ready port) = input.DataReady port
-input_of (Ended end sink) = input.TransferEnded end sink
+-- the end of a transfer, or a passive port
+abbrev pub is_event : {A K : Type 0} → Input A K → Bool
+is_event (input.TransferEnded end sink) = true
+is_event (input.DataReady port) = true
+is_event _ = false

@@ -20,6 +20,5 @@ mod rules;
 mod served;
 mod session;
 
-pub use events::DataEvent;
 pub use session::{MOST_HELD, Session};
 pub use session_events::{Leaving, LoggedOut};

@@ -3,7 +3,6 @@
 ghost use Rattle.std.specs.Prelude.{◌≡◌, [], ◌∷◌, ◌++◌, IfOk, OnErr};
 ghost use Rattle.session_table.specs.declared.inputs.Input.TheVariants.{Held, Line};
 
-use crate::events::lacking;
 use crate::rules::{is_pass, meanwhile_of};
 use crate::served::serve;
 use authorizer::Authorizer;
@@ -286,7 +285,7 @@ impl<A: Allocator + Clone> Session<A> {
     /// milliseconds since 1970.
     ///
     /// `Err` is lack of memory: the session and the floors are then unchanged, the store is as its looks, if any, left
-    /// it, and a sink that came back is dropped. `take_event` returns it instead.
+    /// it, and a sink that came back is dropped. `take_end` leaves it with the caller instead.
     pub fn step<F: Allocator + Clone, S: Store<A>>(
         &mut self,
         users: &Authorizer<A>,
@@ -309,8 +308,8 @@ impl<A: Allocator + Clone> Session<A> {
             Input::Line(item) => self.take_line(users, floors, store, item, moment),
             Input::Held => self.take_held(users, floors, store, moment),
             Input::TransferEnded { end, sink } => {
-                let answer = self.take_end(users, store, end, sink, moment);
-                lacking(answer)
+                let mut sink = sink;
+                self.take_end(users, store, end, &mut sink, moment)
             }
             Input::DataReady(port) => self.take_port(users, port),
             Input::Closed => self.close(),

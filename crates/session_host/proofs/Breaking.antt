@@ -224,7 +224,7 @@ module _ {A S C D R W H Q K : Type 0} (users : Users) (Gives : C → ℕ → C �
         beside_stands first old new before after before.heard.asked (beside_as old new _ did.rest refl refl) (ap (λ (x : Situation K). x.heard) same)
         (λ lost. let no = sym (ap (λ (x : Situation K). x.lost) same) ∙ lost in absurd (cc)) stands
     move_stands before after calls old new (Declines given came taken next line same trace) chain stands = absurd (only old new calls Declined trace chain)
-    move_stands before after calls old new (Asks event none same (inl trace)) chain stands =
+    move_stands before after calls old new (Asks event none same (inl (live, trace))) chain stands =
         let (did, rest) = only old new calls (Asked (Looks event)) trace chain in
         beside_stands first old new before after true (beside_as old new _ rest refl refl) (ap (λ (x : Situation K). x.heard) same)
         (kept old before.lost after.lost (ap (λ (x : Situation K). x.lost) same)) stands

@@ -10,7 +10,6 @@ use Rattle.ftp_wire.specs.Reading.{OnlyReadsAs}
 use Rattle.authorizer.specs.Users.{Users}
 use Rattle.handler_hooks.specs.Events.{Event, event_of}
 use Rattle.rate_floors.specs.Promises.{Promises}
-use Rattle.session_core.specs.declared.events.DataEvent.{DataEvent}
 use Rattle.session_table.specs.Steps.{Standing}
 use Rattle.session_table.specs.Answers.{answer_form}
 use Rattle.session_table.specs.Views.{is_closed}
@@ -22,7 +21,7 @@ use Rattle.control_session.specs.Calls.HostCall.{Asked, Declined, Read, ReadEnd,
 use Rattle.control_session.specs.Rows.{Outcome}
 use Rattle.control_session.specs.Rows.Outcome.{Made, Stopped}
 use Rattle.control_session.specs.Sessions.{IsServed, IsSession, nothing}
-use Rattle.control_session.specs.Sides.{Given, SideCall}
+use Rattle.control_session.specs.Sides.{Given, SideCall, SideEvent}
 use Rattle.control_session.specs.Sides.Given.{Line, Held, Came, Closed}
 use Rattle.control_session.specs.Sides.SideCall.{Aborts, Connects, Drops, Looks, Opens, Settles, Starts}
 use Rattle.control_session.specs.Reported.{text_of, texts}
@@ -319,7 +318,7 @@ module _ {A S C D R W H Q K : Type 0} (users : Users) (Gives : C → ℕ → C �
     abbrev Doing : List Item → Scene S C D H K → List ℕ → Scene S C D H K → Type 0
     Doing = Act (Row users) Gives Asks' Reported
 
-    follows_next : (items later : List Item) (now : Situation K) (host : Parts S C D R W H) (given : Given K) (came : Option (DataEvent K)) (taken : List Item)
+    follows_next : (items later : List Item) (now : Situation K) (host : Parts S C D R W H) (given : Given K) (came : Option (SideEvent K)) (taken : List Item)
         → items ≡ now.heard.items ++ later → Next now given came taken → Next (situated items (scene_of now host)) given came taken
     follows_next items later now host (Came event) came taken is next = next
     follows_next items later now host Held came taken is next = next
@@ -412,7 +411,7 @@ module _ {A S C D R W H Q K : Type 0} (users : Users) (Gives : C → ℕ → C �
     uncut : (before after : Situation K) → after.lost ≡ before.lost → CutBy before.lost after.lost [] []
     uncut before after same = subst (λ (l : Option TurnFault). CutBy before.lost l [] []) (sym same) (cut_none before.lost)
 
-    asks_reported : (items : List Item) (before after : Situation K) (old new : Parts S C D R W H) (event : Option (DataEvent K)) → before.came ≡ None → after ≡ record before { came = event; heard = asked_as true before.heard }
+    asks_reported : (items : List Item) (before after : Situation K) (old new : Parts S C D R W H) (event : Option (SideEvent K)) → before.came ≡ None → after ≡ record before { came = event; heard = asked_as true before.heard }
         → (Asks' old.side (Looks event) new.side) ⊎ ((is_closed before.session.view.stage ≡ true) × Asks' old.side (Settles event) new.side) → new ≡ record old { side = new.side } → Moved items before old after new
     asks_reported items before after old new event none same asks rest =
         plain items before after old new
@@ -465,7 +464,7 @@ module _ {A S C D R W H Q K : Type 0} (users : Users) (Gives : C → ℕ → C �
         (ap (λ (x : Situation K). x.heard.octets) same) (ap (λ (x : Situation K). x.heard.ended) same)
         (subst (λ (l : Option TurnFault). CutBy before.lost l [] []) (sym (ap (λ (x : Situation K). x.lost) same)) (stopped_cut before.lost))
     move_reported items later before after calls old new is (Declines given came taken next line same trace) chain = absurd (one old new calls Declined trace chain)
-    move_reported items later before after calls old new is (Asks event none same (inl trace)) chain =
+    move_reported items later before after calls old new is (Asks event none same (inl (live, trace))) chain =
         let (did, rest) = one old new calls (Asked (Looks event)) trace chain in
         asks_reported items before after old new event none same (inl did) rest
     move_reported items later before after calls old new is (Asks event none same (inr (gone, trace))) chain =
@@ -580,7 +579,7 @@ module _ {A S C D R W H Q K : Type 0} (users : Users) (Gives : C → ℕ → C �
     over_reported last reader ends (inl closed) = inl closed
     over_reported last reader ends (inr (ended, all)) = inr (ends ended, all)
 
-    settled_reported : (items : List Item) (now : Situation K) (old new : Parts S C D R W H) (event : Option (DataEvent K)) → now.came ≡ None → is_closed now.session.view.stage ≡ true → Does old (Asked (Settles event)) new
+    settled_reported : (items : List Item) (now : Situation K) (old new : Parts S C D R W H) (event : Option (SideEvent K)) → now.came ≡ None → is_closed now.session.view.stage ≡ true → Does old (Asked (Settles event)) new
         → Moved items now old (record now { came = event; heard = asked_as true now.heard }) new
     settled_reported items now old new event none gone (did, rest) = asks_reported items now (record now { came = event; heard = asked_as true now.heard }) old new event none refl (inr (gone, did)) rest
 

@@ -6,7 +6,6 @@ use Rattle.ftp_wire.specs.Items.{Item}
 use Rattle.ftp_wire.specs.Reading.{OnlyReadsAs}
 use Rattle.handler_hooks.specs.Events.{Event, event_of}
 use Rattle.rate_floors.specs.Promises.{Promises, after_release}
-use Rattle.session_core.specs.declared.events.DataEvent.{DataEvent}
 use Rattle.session_table.specs.Laws.{releases}
 use Rattle.session_table.specs.Steps.{Standing}
 use Rattle.session_table.specs.Plans.Plan.{Then}
@@ -14,7 +13,7 @@ use Rattle.session_table.specs.StateRows.{greeting}
 use Rattle.session_table.specs.Views.{is_closed}
 use Rattle.session_table.specs.declared.actions.Action.{Action}
 use Rattle.session_table.specs.declared.actions.Action.TheVariants.{Say, Hook, OpenPassive, ConnectTo, DropData, Start, Abort, CloseControl, ReleaseFloor}
-use Rattle.control_session.specs.Sides.{Given, SideCall}
+use Rattle.control_session.specs.Sides.{Given, SideCall, SideEvent}
 use Rattle.control_session.specs.Sides.SideCall.{Opens, Connects, Drops, Starts, Aborts, Looks, Settles}
 use Rattle.control_session.specs.Reported.{closes, texts}
 use Rattle.control_session.specs.Rows.{Outcome}
@@ -32,7 +31,7 @@ use Rattle.session_host.specs.Alone.{Parts}
 -- clock, the data side and the handler.
 pub record Scene (S C D H K : Type 0) : Type 0 where
   pub session : Standing
-  pub came : Option (DataEvent K)
+  pub came : Option (SideEvent K)
   pub asked : Bool
   pub taken : List Item
   pub owed : List ℕ
@@ -110,7 +109,7 @@ module _ {A S C D H Q K : Type 0}
     Turns : IsTurned items before says after → Act items before says after
     -- the data side is asked for an event, or, once the session is closed, for the end of a
     -- transfer that still runs
-    Hears : (event : Option (DataEvent K)) → before.came ≡ None
+    Hears : (event : Option (SideEvent K)) → before.came ≡ None
         → after ≡ record before { came = event; asked = true; side = after.side }
         → (Asks before.side (Looks event) after.side)
         ⊎ ((is_closed before.session.view.stage ≡ true)
@@ -124,7 +123,7 @@ module _ {A S C D H Q K : Type 0}
         → says ≡ [] → Act items before says after
     -- there was no memory for the step of the next input: the floors are unchanged, and the store
     -- is as that row's looks, if any, left it
-    Lacks : (given : Given K) (moment : ℕ) (came : Option (DataEvent K)) (taken : List Item)
+    Lacks : (given : Given K) (moment : ℕ) (came : Option (SideEvent K)) (taken : List Item)
         → Next (situated items before) given came taken → Gives before.clock moment after.clock
         → Row before.session given moment before.store after.store before.promises Stopped
         → after ≡ record before { lost = true; clock = after.clock; store = after.store }

@@ -4,7 +4,7 @@ ghost use Rattle.std.specs.Prelude.{◌≡◌, ◌<◌};
 
 use authorizer::Authorizer;
 use control_session::{
-    DataEvent, DataSide, Host, Leaving, Moments, NoStep, Piece, Session, close_by, end_by, step_by,
+    DataSide, Host, Leaving, Moments, NoStep, Piece, Session, close_by, end_by, step_by,
 };
 use ftp_wire::HostPort;
 use handler_hooks::{Hooks, report};
@@ -77,7 +77,7 @@ impl<
         &mut self,
         session: &mut Session,
         input: &mut Option<Input<Global, S::Sink>>,
-    ) -> Result<Vec<Action<Global, S::Source, S::Sink>>, NoStep<S::Sink>> {
+    ) -> Result<Vec<Action<Global, S::Source, S::Sink>>, NoStep<Global, S::Sink>> {
         let moment = self.clock.moment();
         step_by(session, self.users, self.floors, self.store, input, moment)
     }
@@ -94,7 +94,7 @@ impl<
         }
     }
 
-    fn end(&mut self, session: &mut Session, event: &mut Option<DataEvent<S::Sink>>) {
+    fn end(&mut self, session: &mut Session, event: &mut Option<Input<Global, S::Sink>>) {
         let moment = self.clock.moment();
         if let Some(event) = event.take() {
             end_by(session, self.users, self.floors, self.store, event, moment);
@@ -138,11 +138,11 @@ impl<
         self.side.abort();
     }
 
-    fn look(&mut self) -> Option<DataEvent<S::Sink>> {
+    fn look(&mut self) -> Option<Input<Global, S::Sink>> {
         self.side.look()
     }
 
-    fn settle(&mut self) -> Option<DataEvent<S::Sink>> {
+    fn settle(&mut self) -> Option<Input<Global, S::Sink>> {
         self.side.settle()
     }
 }

@@ -9,9 +9,7 @@ mod host;
 mod silent;
 
 pub use alone::run_alone;
-pub use control_session::{
-    ControlFault, DataEvent, DataSide, Host, Leaving, Moments, Piece, Session,
-};
+pub use control_session::{ControlFault, DataSide, Host, Leaving, Moments, Piece, Session};
 pub use given::GivesSettings;
 pub use handler_hooks::Hooks;
 pub use host::{SoleHost, piece_of};

@@ -3,10 +3,11 @@ use Rattle.log.specs.declared.level.Level.{Level}
 use Rattle.log.specs.declared.level.Level.TheVariants.{Warn, Info}
 use Rattle.server_house.specs.declared.cause.EndCause.{EndCause}
 use Rattle.server_house.specs.declared.cause.EndCause.TheVariants.{Aborted, NothingPrepared, NoClient, NotConnected, NoMemory, File, Connection, ControlLost, ServerEnds}
+use Rattle.server_house.specs.declared.cause.EndCause.TheVariants as ended
 use Rattle.server_house.specs.declared.server_hooks.NotServed.{NotServed}
 use Rattle.server_house.specs.declared.server_hooks.NotServed.TheVariants.{NotAdmitted, NoThread, Ending}
 use Rattle.server_house.specs.declared.server_hooks.ServerEvent.{ServerEvent}
-use Rattle.server_house.specs.declared.server_hooks.ServerEvent.TheVariants.{NotBound, NotAccepted, FewDescriptors, Drains, DrainTimedOut}
+use Rattle.server_house.specs.declared.server_hooks.ServerEvent.TheVariants.{NotBound, NotAccepted, FewDescriptors, Drains, DrainTimedOut, Waits, Misplaced}
 use Rattle.server_house.specs.declared.server_hooks.SessionEvent.{SessionEvent}
 use Rattle.server_house.specs.declared.server_hooks.SessionEvent.TheVariants.{Refused, NoPort, TimedOut}
 use Rattle.session_notes.specs.declared.words.Noted.{Noted}
@@ -27,6 +28,7 @@ level_of_cause NoClient = Info
 level_of_cause (NotConnected error) = Info
 level_of_cause NoMemory = Warn
 level_of_cause File = Warn
+level_of_cause ended.Refused = Warn
 level_of_cause (Connection error) = Info
 level_of_cause ControlLost = Info
 level_of_cause ServerEnds = Info
@@ -47,3 +49,5 @@ level_of_server (NotAccepted error) = Warn
 level_of_server (FewDescriptors limit needed) = Warn
 level_of_server (Drains sessions) = Info
 level_of_server (DrainTimedOut sessions) = Warn
+level_of_server (Waits calls) = Warn
+level_of_server (Misplaced lane) = Warn

@@ -7,11 +7,12 @@ use Rattle.std.specs.declared.alloc.Global.{Global}
 use Rattle.passive_ports.specs.declared.fault.AdmitFault.TheVariants.{TooMany, TooManyOfAddress, Memory}
 use Rattle.server_house.specs.declared.cause.EndCause.{EndCause}
 use Rattle.server_house.specs.declared.cause.EndCause.TheVariants.{Aborted, NothingPrepared, NoClient, NotConnected, NoMemory, File, Connection, ControlLost, ServerEnds}
+use Rattle.server_house.specs.declared.cause.EndCause.TheVariants as ended
 use Rattle.server_house.specs.declared.server_hooks.ClientSession.{ClientSession}
 use Rattle.server_house.specs.declared.server_hooks.NotServed.{NotServed}
 use Rattle.server_house.specs.declared.server_hooks.NotServed.TheVariants.{NotAdmitted, NoThread, Ending}
 use Rattle.server_house.specs.declared.server_hooks.ServerEvent.{ServerEvent}
-use Rattle.server_house.specs.declared.server_hooks.ServerEvent.TheVariants.{NotBound, NotAccepted, FewDescriptors, Drains, DrainTimedOut}
+use Rattle.server_house.specs.declared.server_hooks.ServerEvent.TheVariants.{NotBound, NotAccepted, FewDescriptors, Drains, DrainTimedOut, Waits, Misplaced}
 use Rattle.server_house.specs.declared.server_hooks.SessionEvent.{SessionEvent}
 use Rattle.server_house.specs.declared.server_hooks.SessionEvent.TheVariants.{Refused, NoPort, TimedOut}
 use Rattle.server_house.specs.declared.server_hooks.SessionRefusal.TheVariants.{TooManyLogins, NoGuarantee, TooManyHeldLines}
@@ -68,6 +69,7 @@ cause_words NoClient = codes "nobody connected to the passive port in time"
 cause_words (NotConnected error) = codes "the client's port could not be connected to"
 cause_words NoMemory = codes "out of memory"
 cause_words File = codes "the file could not be read or written"
+cause_words ended.Refused = codes "the store refused it at its end"
 cause_words (Connection error) = codes "the data connection failed"
 cause_words ControlLost = codes "the control connection was lost"
 cause_words ServerEnds = codes "the server ends"
@@ -86,3 +88,6 @@ server_words (NotAccepted error) = codes "connections cannot be accepted"
 server_words (FewDescriptors limit needed) = codes "too few open files are allowed"
 server_words (Drains sessions) = codes "ends once all transfers have ended"
 server_words (DrainTimedOut sessions) = codes "ends, and cuts transfers: the time for them is over"
+server_words (Waits calls) = codes "calls of the machine"
+server_words (Misplaced lane) =
+    codes "fault of the program: nothing is settled without the part of lane"

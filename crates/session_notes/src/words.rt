@@ -113,6 +113,7 @@ fn cause_words(cause: EndCause) -> &'static str
         EndCause::NotConnected(_) => "the client's port could not be connected to",
         EndCause::NoMemory => "out of memory",
         EndCause::File => "the file could not be read or written",
+        EndCause::Refused => "the store refused it at its end",
         EndCause::Connection(_) => "the data connection failed",
         EndCause::ControlLost => "the control connection was lost",
         EndCause::ServerEnds => "the server ends",
@@ -190,6 +191,9 @@ fn server_words(event: ServerEvent) -> &'static str
         ServerEvent::FewDescriptors(_, _) => "too few open files are allowed",
         ServerEvent::Drains(_) => "ends once all transfers have ended",
         ServerEvent::DrainTimedOut(_) => "ends, and cuts transfers: the time for them is over",
+        ServerEvent::Waits(_) => "calls of the machine",
+        ServerEvent::Misplaced(_) =>
+            "fault of the program: nothing is settled without the part of lane",
     }
 }
 
@@ -213,6 +217,8 @@ impl fmt::Display for ServerText {
             ServerEvent::Drains(sessions) | ServerEvent::DrainTimedOut(sessions) => {
                 write!(f, "{words}; clients that are connected: {sessions}")
             }
+            ServerEvent::Waits(calls) => write!(f, "waits for {calls} {words}"),
+            ServerEvent::Misplaced(lane) => write!(f, "{words} {lane}"),
         }
     }
 }

@@ -6,9 +6,7 @@ ghost use Rattle.session_shortage_tests.specs.Unsaid.{AnyCall};
 
 use crate::reported::{Sink, Source};
 use authorizer::Authorizer;
-use control_session::{
-    DataEvent, DataSide, Host, Leaving, NoStep, Piece, Session, close_by, end_by, step_by,
-};
+use control_session::{DataSide, Host, Leaving, NoStep, Piece, Session, close_by, end_by, step_by};
 use ftp_wire::HostPort;
 use linked_list_allocator::LocalHeap;
 use memory_store::MemStore;
@@ -27,7 +25,7 @@ pub(crate) struct HeapHost<'h, R> {
     pub users: Authorizer<Memory<'h>>,
     pub store: MemStore<Memory<'h>>,
     pub floors: Floors,
-    pub side: ScriptSide<Sink<'h>>,
+    pub side: ScriptSide<Memory<'h>, Sink<'h>>,
     pub reader: R,
     pub output: Vec<u8>,
 }
@@ -47,7 +45,10 @@ impl<'h, R: TextReader> Host<Memory<'h>> for HeapHost<'h, R> {
         &mut self,
         session: &mut Session<Memory<'h>>,
         input: &mut Option<Input<Memory<'h>, Sink<'h>>>,
-    ) -> Result<Vec<Action<Memory<'h>, Source<'h>, Sink<'h>>, Memory<'h>>, NoStep<Sink<'h>>> {
+    ) -> Result<
+        Vec<Action<Memory<'h>, Source<'h>, Sink<'h>>, Memory<'h>>,
+        NoStep<Memory<'h>, Sink<'h>>,
+    > {
         step_by(
             session,
             &self.users,
@@ -72,7 +73,11 @@ impl<'h, R: TextReader> Host<Memory<'h>> for HeapHost<'h, R> {
         }
     }
 
-    fn end(&mut self, session: &mut Session<Memory<'h>>, event: &mut Option<DataEvent<Sink<'h>>>) {
+    fn end(
+        &mut self,
+        session: &mut Session<Memory<'h>>,
+        event: &mut Option<Input<Memory<'h>, Sink<'h>>>,
+    ) {
         if let Some(event) = event.take() {
             let (floors, store) = (&mut self.floors, &mut self.store);
             end_by(session, &self.users, floors, store, event, 0);
@@ -96,7 +101,7 @@ impl<'h, R: TextReader> Host<Memory<'h>> for HeapHost<'h, R> {
 
     fn open_passive(&mut self) {
         let port = self.side.port;
-        self.side.came = Some(DataEvent::Ready(Some(port)));
+        self.side.came = Some(Input::DataReady(Some(port)));
     }
 
     fn connect_to(&mut self, _to: HostPort) {}
@@ -109,11 +114,11 @@ impl<'h, R: TextReader> Host<Memory<'h>> for HeapHost<'h, R> {
 
     fn abort(&mut self) {}
 
-    fn look(&mut self) -> Option<DataEvent<Sink<'h>>> {
+    fn look(&mut self) -> Option<Input<Memory<'h>, Sink<'h>>> {
         self.side.came.take()
     }
 
-    fn settle(&mut self) -> Option<DataEvent<Sink<'h>>> {
+    fn settle(&mut self) -> Option<Input<Memory<'h>, Sink<'h>>> {
         self.side.came.take()
     }
 }

@@ -1,11 +1,11 @@
 //! The data side of a session without sockets: a download is read to its end, and ends as its file does.
 
 use crate::expect::holds;
-use control_session::{DataEvent, DataSide};
+use control_session::DataSide;
 use ftp_terms::DataType;
 use memory_store::MemSink;
 use script_session::ScriptSide;
-use session_table::{End, Job};
+use session_table::{End, Input, Job};
 use std::alloc::Global;
 use std::process::Abort;
 use virtual_tree::{Source, StoreFault};
@@ -56,7 +56,7 @@ fn end_of(source: Long<'_>) -> Option<End> {
     let mut job: Option<Download<'_>> = Some(Job::SendFile(source, DataType::Image));
     side.start(&mut job);
     match side.came.take() {
-        Some(DataEvent::Ended { end, sink: None }) => Some(end),
+        Some(Input::TransferEnded { end, sink: None }) => Some(end),
         _ => None,
     }
 }

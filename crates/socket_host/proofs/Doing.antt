@@ -16,12 +16,12 @@ use Rattle.control_session.specs.declared.no_step.NoStep.TheVariants as unmade
 use Rattle.handler_hooks.specs.Events.{event_of}
 use Rattle.rate_floors.specs.Promises.{Promises}
 use Rattle.server_house.specs.declared.terms.HeldTerms.{HeldTerms}
-use Rattle.session_core.specs.declared.events.DataEvent.{DataEvent}
 use Rattle.session_table.specs.Steps as table
 use Rattle.session_table.specs.Views.{is_inside}
 use Rattle.session_table.specs.declared.actions.Action.{Action}
 use Rattle.session_table.specs.declared.actions.HookCall.{HookCall}
 use Rattle.session_table.specs.declared.actions.HookCall.TheVariants as hook
+use Rattle.session_table.specs.declared.inputs.Input.{Input}
 use Rattle.socket_host.specs.Doing.{LendsTo, Notes, SocketDoes, Stays, kept_users}
 use Rattle.socket_host.specs.Lending.{LentFor, RefusedFor}
 use Rattle.socket_host.specs.Standing.{Follows}
@@ -74,9 +74,9 @@ read_does A S R K (Ok piece.AtEnd) buffer s0 s1 p0 p1 same paid = (same, paid)
 read_does A S R K (Err fault) buffer s0 s1 p0 p1 same paid = (same, paid)
 
 module _ {H A S R K : Type 0} (Row : Users → table.Standing → Given K → ℕ → S → S → Promises → Outcome A R K → Type 0) (Does : H → HostCall A S R K → H → Type 0) where
-  pub refused_for : (old new : H) (users : Users) (session : table.Standing) (given : Given K) (event : Option (DataEvent K))
+  pub refused_for : (old new : H) (users : Users) (session : table.Standing) (given : Given K) (event : Option (Input A K))
       → ((moment : ℕ) (store store' : S) (promises : Promises) → Does old (Tried session moment users store store' promises) new)
-      → (why : NoStep K) → RefusedFor Row users session given event why → StepRefused Row Does old session given event why new
+      → (why : NoStep A K) → RefusedFor Row users session given event why → StepRefused Row Does old session given event why new
   refused_for old new users session given event did (unmade.NoMemory back) (moment, store, store', promises, row, is) =
       ((moment, users, store, store', promises, did moment store store' promises, row), is)
   refused_for old new users session given event did unmade.Over refused = absurd refused
@@ -89,7 +89,7 @@ module _ {A S R K : Type 0} (Row : Users → table.Standing → Given K → ℕ 
   made_users u u' session given session' actions same moment store store' promises promises' row =
       subst (λ (x : Users). LentFor Row x session given session' actions) same (moment, store, store', promises, promises', row)
 
-  pub stopped_users : (u u' : Users) (session : table.Standing) (given : Given K) (event : Option (DataEvent K)) → u ≡ u'
+  pub stopped_users : (u u' : Users) (session : table.Standing) (given : Given K) (event : Option (Input A K)) → u ≡ u'
       → (moment : ℕ) (store store' : S) (promises : Promises) → Row u session given moment store store' promises Stopped
       → RefusedFor Row u' session given event (unmade.NoMemory event)
   stopped_users u u' session given event same moment store store' promises row =

@@ -1,12 +1,13 @@
 -- Reasons for the ends of transfers.
 use Rattle.std.specs.Prelude.{◌≡◌, ⊤, Bool, true, false, IsTrue, Option, Some, None}
+use Rattle.std.specs.declared.alloc.Global.{Global}
 use Rattle.std.specs.declared.io.Error.{Error}
 use Rattle.server_house.specs.declared.transfer_end.TransferEnd.{TransferEnd}
 use Rattle.server_house.specs.declared.cause.EndCause.{EndCause}
 use Rattle.server_house.specs.declared.cause.EndCause.TheVariants as cause
-use Rattle.session_core.specs.declared.events.DataEvent.{DataEvent}
-use Rattle.session_core.specs.declared.events.DataEvent.TheVariants.{Ready, Ended}
 use Rattle.session_table.specs.declared.inputs.End.{End}
+use Rattle.session_table.specs.declared.inputs.Input.{Input}
+use Rattle.session_table.specs.declared.inputs.Input.TheVariants.{TransferEnded}
 use Rattle.session_table.specs.declared.inputs.End.TheVariants.{Done, Lost, Local, Full, NoConnection, NoMemory, Aborted}
 use Rattle.socket_host.specs.declared.running.Prepared.{Prepared}
 use Rattle.socket_host.specs.declared.running.Prepared.TheVariants as prepared
@@ -74,12 +75,12 @@ module _ {R K : Type 0} where
 
   -- the reason for the end that a look reports
   abbrev pub LookCause
-      : Running R K → Option (DataEvent K) → Option EndCause → Option EndCause → Type 0
+      : Running R K → Option (Input Global K) → Option EndCause → Option EndCause → Type 0
   LookCause running.Nothing event old new = new ≡ old
   LookCause (running.Awaited listener port job since) event old new = ⊤
   LookCause (running.Connecting outgoing job since) event old new = ⊤
   LookCause (running.Moving connection is_aborted) None old new = new ≡ old
-  LookCause (running.Moving connection is_aborted) (Some (Ready port)) old new = ⊤
-  LookCause (running.Moving connection is_aborted) (Some (Ended end sink)) old new =
+  LookCause (running.Moving connection is_aborted) (Some (TransferEnded end sink)) old new =
       MovedCause is_aborted end new
+  LookCause (running.Moving connection is_aborted) (Some other) old new = ⊤
   LookCause (running.Over reported) event old new = new ≡ old

@@ -1,10 +1,11 @@
 -- Transfers that are cut by the end of their session.
 use Rattle.std.specs.Prelude.{Bool, true, false, Option, Some, None}
+use Rattle.std.specs.declared.alloc.Global.{Global}
 use Rattle.server_house.specs.declared.cause.EndCause.{EndCause}
 use Rattle.server_house.specs.declared.cause.EndCause.TheVariants.{ControlLost, ServerEnds}
-use Rattle.session_core.specs.declared.events.DataEvent.{DataEvent}
-use Rattle.session_core.specs.declared.events.DataEvent.TheVariants.{Ready, Ended}
 use Rattle.session_table.specs.declared.inputs.End.TheVariants.{Done}
+use Rattle.session_table.specs.declared.inputs.Input.{Input}
+use Rattle.session_table.specs.declared.inputs.Input.TheVariants.{TransferEnded}
 
 -- whoever ended the session cut its transfer
 abbrev pub cut_by : Bool → EndCause
@@ -12,8 +13,7 @@ cut_by true = ServerEnds
 cut_by false = ControlLost
 
 -- the reason for which the transfer was cut whose end is the last of its session, if it was
-abbrev pub cause_of_cut : {K : Type 0} → Option (DataEvent K) → Bool → Option EndCause
-cause_of_cut None is_ending = None
-cause_of_cut (Some (Ready port)) is_ending = None
-cause_of_cut (Some (Ended Done sink)) is_ending = None
-cause_of_cut (Some (Ended end sink)) is_ending = Some (cut_by is_ending)
+abbrev pub cause_of_cut : {K : Type 0} → Option (Input Global K) → Bool → Option EndCause
+cause_of_cut (Some (TransferEnded Done sink)) is_ending = None
+cause_of_cut (Some (TransferEnded end sink)) is_ending = Some (cut_by is_ending)
+cause_of_cut _ is_ending = None

@@ -1,5 +1,6 @@
 -- Replies that end a session.
-use Rattle.std.specs.Prelude.{Option, Some, None}
+use Rattle.std.specs.Prelude.{Bool, true, false, List, Option, Some, None}
+use Rattle.std.specs.List.{list_any}
 use Rattle.server_house.specs.declared.server_hooks.SessionRefusal.{SessionRefusal}
 use Rattle.server_house.specs.declared.server_hooks.SessionRefusal.TheVariants as session
 use Rattle.session_table.specs.declared.actions.Action.{Action}
@@ -34,3 +35,25 @@ refusal_of (Start job) = None
 refusal_of Abort = None
 refusal_of CloseControl = None
 refusal_of (ReleaseFloor user) = None
+
+abbrev pub is_refusing : Answer Global → Bool
+is_refusing (answer.Notice notice) = false
+is_refusing (answer.Refusal refusal) = true
+is_refusing (answer.Fault fault) = false
+is_refusing (answer.Made reply) = false
+
+-- the action is a reply that refuses
+abbrev pub is_refusal : {R K : Type 0} → Action Global R K → Bool
+is_refusal (Say said) = is_refusing said
+is_refusal (Hook call) = false
+is_refusal OpenPassive = false
+is_refusal (ConnectTo to) = false
+is_refusal DropData = false
+is_refusal (Start job) = false
+is_refusal Abort = false
+is_refusal CloseControl = false
+is_refusal (ReleaseFloor user) = false
+
+-- a step with these actions says a refusal
+abbrev pub says_refusal : {R K : Type 0} → List (Action Global R K) → Bool
+says_refusal actions = list_any is_refusal actions

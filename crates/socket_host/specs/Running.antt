@@ -7,11 +7,11 @@ use Rattle.server_house.specs.declared.transfer_end.TransferEnd.{TransferEnd}
 use Rattle.server_house.specs.declared.served.Served.{Served}
 use Rattle.server_house.specs.Tickets.{HasSinkOf}
 use Rattle.server_house.specs.Tickets as house
-use Rattle.session_core.specs.declared.events.DataEvent.{DataEvent}
-use Rattle.session_core.specs.declared.events.DataEvent.TheVariants.{Ended}
 use Rattle.session_table.specs.declared.actions.Job.{Job}
 use Rattle.session_table.specs.declared.inputs.End.{End}
 use Rattle.session_table.specs.declared.inputs.End.TheVariants.{NoConnection, NoMemory, Aborted}
+use Rattle.session_table.specs.declared.inputs.Input.{Input}
+use Rattle.session_table.specs.declared.inputs.Input.TheVariants.{TransferEnded}
 use Rattle.socket_host.specs.Jobs.{sink_in, sink_of}
 use Rattle.socket_host.specs.declared.run.Taken.{Taken}
 use Rattle.socket_host.specs.declared.run.Taken.TheVariants as taken
@@ -37,9 +37,9 @@ IsNoTarget (prepared.Listening listener port) = ⊤
 IsNoTarget (prepared.Target to) = ⊥
 
 -- the report of an end
-abbrev pub event_of : {K : Type 0} → Option (TransferEnd K) → Option (DataEvent K)
+abbrev pub event_of : {K : Type 0} → Option (TransferEnd K) → Option (Input Global K)
 event_of None = None
-event_of (Some reported) = Some (Ended reported.end reported.sink)
+event_of (Some reported) = Some (TransferEnded reported.end reported.sink)
 
 -- the octets that a transfer had moved whose end is taken
 abbrev pub IsMovedBy : {K : Type 0} → Option (TransferEnd K) → ℕ → Type 0
@@ -248,7 +248,7 @@ module _ {R K : Type 0} where
   -- a look at a moment: the transfer goes on, and its end is taken, with the octets that it had
   -- moved; what was on the ticket before stays there
   abbrev pub Looks
-      : Ticket R K → ℕ → Running R K → Option (DataEvent K) → Running R K → ℕ → Type 0
+      : Ticket R K → ℕ → Running R K → Option (Input Global K) → Running R K → ℕ → Type 0
   Looks before now old event new moved =
       (mid : Running R K) × (end : Option (TransferEnd K)) × (view : Ticket R K)
       × (is_moving old ≡ true → view ≡ before) × GoesOn now old mid × TakesEnd view mid end new
@@ -256,17 +256,17 @@ module _ {R K : Type 0} where
 
   -- The report of a transfer that is waited for, or of nothing if nothing runs, with the octets
   -- that it had moved. One without a connection is aborted.
-  abbrev pub Settles : Running R K → Option (DataEvent K) → ℕ → Type 0
+  abbrev pub Settles : Running R K → Option (Input Global K) → ℕ → Type 0
   Settles running.Nothing event moved = event ≡ None
   Settles (running.Awaited listener port job since) event moved =
-      (event ≡ Some (Ended Aborted (sink_in job))) × (moved ≡ 0)
+      (event ≡ Some (TransferEnded Aborted (sink_in job))) × (moved ≡ 0)
   Settles (running.Connecting outgoing job since) event moved =
-      (event ≡ Some (Ended Aborted (sink_in job))) × (moved ≡ 0)
+      (event ≡ Some (TransferEnded Aborted (sink_in job))) × (moved ≡ 0)
   Settles (running.Moving connection is_aborted) event moved =
-      (end : TransferEnd K) × (event ≡ Some (Ended end.end end.sink)) × (moved ≡ end.moved)
+      (end : TransferEnd K) × (event ≡ Some (TransferEnded end.end end.sink)) × (moved ≡ end.moved)
       × (IsTrue is_aborted → end.end ≡ Aborted)
   Settles (running.Over reported) event moved =
-      (event ≡ Some (Ended reported.end reported.sink)) × (moved ≡ reported.moved)
+      (event ≡ Some (TransferEnded reported.end reported.sink)) × (moved ≡ reported.moved)
 
   -- true if there is something to report; either value for a moving transfer
   abbrev pub RestsOn : Running R K → Bool → Type 0

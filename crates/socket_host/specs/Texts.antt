@@ -1,12 +1,13 @@
 -- The octets of a read and of a last reply, and the errors of a read that only found nothing.
 use Rattle.std.specs.Prelude.{◌++◌, nat_lt, ◌&&◌, ◌||◌, not, if◌then◌else◌, ℕ, Bool, true, false, List, [], ◌∷◌, Option, Some, None, codes, take}
+use Rattle.std.specs.declared.alloc.Global.{Global}
 use Rattle.std.specs.declared.io.ErrorKind.{ErrorKind}
 use Rattle.std.specs.declared.io.ErrorKind.TheVariants.{WouldBlock, TimedOut, Interrupted}
 use Rattle.control_session.specs.declared.host.Piece.{Piece}
 use Rattle.client_patience.specs.declared.waits.TimeOut.{TimeOut}
 use Rattle.client_patience.specs.declared.waits.TimeOut.TheVariants.{Login, Idle}
-use Rattle.session_core.specs.declared.events.DataEvent.{DataEvent}
-use Rattle.session_core.specs.declared.events.DataEvent.TheVariants.{Ready, Ended}
+use Rattle.session_table.specs.declared.inputs.Input.{Input}
+use Rattle.session_table.specs.declared.inputs.Input.TheVariants.{DataReady}
 use Rattle.control_session.specs.declared.host.Piece.TheVariants.{Octets, Nothing, AtEnd}
 
 abbrev pub octets_in : Piece → List ℕ → List ℕ
@@ -41,8 +42,6 @@ last_reply ends drains is_removed is_busy =
     else None
 
 -- a passive port was asked for, and none could be had
-abbrev pub is_without_port : {K : Type 0} → Option (DataEvent K) → Bool
-is_without_port None = false
-is_without_port (Some (Ready None)) = true
-is_without_port (Some (Ready (Some port))) = false
-is_without_port (Some (Ended end sink)) = false
+abbrev pub is_without_port : {K : Type 0} → Option (Input Global K) → Bool
+is_without_port (Some (DataReady None)) = true
+is_without_port _ = false

@@ -1,18 +1,18 @@
 //! The host of a control session.
 
-ghost use Rattle.std.specs.Prelude.{◌≡◌, ◌<◌, IfErr, IfNone, IfOk, IfSome, OnErr, [], false, length, option_map, string_bytes, true};
+ghost use Rattle.std.specs.Prelude.{◌≡◌, ◌<◌, IfErr, IfNone, IfOk, IfSome, MatchResult, OnErr, [], false, length, option_map, string_bytes, true};
 ghost use Rattle.std.specs.declared.alloc.Global.{Global};
 ghost use Rattle.control_session.specs.Calls.{reads_within};
 ghost use Rattle.control_session.specs.Rows.{IsRow};
 ghost use Rattle.control_session.specs.Turns.{StepRefused, Stepped};
-ghost use Rattle.control_session.specs.Sides.{event_in, given_of, is_line};
-ghost use Rattle.control_session.specs.Sides.Given.{Came};
+ghost use Rattle.control_session.specs.Sides.{back_in, given_of, is_line};
 ghost use Rattle.rate_floors.specs.Promises.{HasNoSessions};
+ghost use Rattle.session_core.specs.Events.{is_event};
 ghost use Rattle.session_table.specs.Steps.{asks_floors};
 ghost use Rattle.session_table.specs.Views.{is_closed};
 ghost use Rattle.socket_host.specs.Cuts.{cause_of_cut};
-ghost use Rattle.socket_host.specs.Records.{ends_file, ends_listing, is_end, is_text, job_kind, path_of};
-ghost use Rattle.socket_host.specs.Refusals.{refusal_of};
+ghost use Rattle.socket_host.specs.Records.{cause_with, ends_file, ends_listing, is_end, is_text, job_kind, path_of};
+ghost use Rattle.socket_host.specs.Refusals.{is_refusal, refusal_of, says_refusal};
 ghost use Rattle.socket_host.specs.Standing.{Follows};
 ghost use Rattle.socket_host.specs.Texts.{is_without_port, last_reply, time_out_reply};
 ghost use Rattle.socket_host.specs.Doing.{SocketDoes, Stays, kept_users};
@@ -24,9 +24,7 @@ use crate::side::SocketSide;
 use crate::standing::Standing;
 use crate::waiting::{is_due, is_life, passed_limit};
 use client_patience::{TimeOut, Waits};
-use control_session::{
-    DataEvent, Host, Leaving, NoStep, Piece, Session, close_by, end_by, step_by,
-};
+use control_session::{Host, Leaving, NoStep, Piece, Session, close_by, end_by, step_by};
 use event_word::micros;
 use ftp_terms::DataType;
 use ftp_wire::HostPort;
@@ -80,24 +78,66 @@ fn time_out_reply(why: TimeOut) -> &'static [u8]
 }
 
 // The reason for which the transfer was cut whose end is the last event of its session, if it was.
-fn cause_of_cut<K>(last: &Option<DataEvent<K>>, is_ending: bool) -> Option<EndCause>
+fn cause_of_cut<K>(last: &Option<Input<Global, K>>, is_ending: bool) -> Option<EndCause>
     ensures cause { result ≡ cause_of_cut last.now is_ending }
 {
     match last {
-        None | Some(DataEvent::Ready(_)) | Some(DataEvent::Ended { end: End::Done, .. }) => None,
-        Some(DataEvent::Ended { .. }) => Some(if is_ending {
+        Some(Input::TransferEnded { end: End::Done, .. }) => None,
+        Some(Input::TransferEnded { .. }) => Some(if is_ending {
             EndCause::ServerEnds
         } else {
             EndCause::ControlLost
         }),
+        _ => None,
+    }
+}
+
+// The reason for which a transfer did not come to its end, if the store refused its file at the end or did not.
+fn cause_with(cause: Option<EndCause>, is_refused: bool) -> Option<EndCause>
+    ensures cause { result ≡ cause_with cause is_refused }
+{
+    match cause {
+        Some(cause) => Some(cause),
+        None if is_refused => Some(EndCause::Refused),
+        None => None,
+    }
+}
+
+// Returns whether an action is a reply that refuses.
+fn is_refusal<R, K>(action: &Action<Global, R, K>) -> bool
+    ensures refusal { result ≡ is_refusal action.now }
+{
+    matches!(action, Action::Say(Answer::Refusal(_)))
+}
+
+// Returns whether an action of a step is a reply that refuses.
+fn says_refusal<R, K>(actions: &[Action<Global, R, K>]) -> bool
+    ensures refusal { result ≡ says_refusal actions.now }
+{
+    for action in actions {
+        if is_refusal(action) {
+            return true;
+        }
+    }
+    false
+}
+
+// Returns whether a step was made that says a refusal.
+fn is_refused<R, K>(made: &Result<Vec<Action<Global, R, K>>, NoStep<Global, K>>) -> bool
+    ensures refused { MatchResult made.now
+        (λ actions. result ≡ says_refusal actions.items) (λ why. result ≡ false) }
+{
+    match made {
+        Ok(actions) => says_refusal(actions),
+        Err(_) => false,
     }
 }
 
 // Returns whether a passive port was asked for, and none could be had.
-fn is_without_port<K>(event: &Option<DataEvent<K>>) -> bool
+fn is_without_port<K>(event: &Option<Input<Global, K>>) -> bool
     ensures none { result ≡ is_without_port event.now }
 {
-    matches!(event, Some(DataEvent::Ready(None)))
+    matches!(event, Some(Input::DataReady(None)))
 }
 
 /// Floors without rows, which need no memory.
@@ -159,18 +199,18 @@ fn kind_of<R, K>(job: &Job<Global, R, K>) -> TransferKind
 }
 
 // Returns whether an event is the end of a transfer.
-fn is_end<K>(event: &Option<DataEvent<K>>) -> bool
+fn is_end<K>(event: &Option<Input<Global, K>>) -> bool
     ensures end { result ≡ is_end event.now }
 {
-    matches!(event, Some(DataEvent::Ended { .. }))
+    matches!(event, Some(Input::TransferEnded { .. }))
 }
 
 // Returns whether an event is the end of a listing, if the last transfer was of this kind.
-fn ends_listing<K>(event: &Option<DataEvent<K>>, kind: TransferKind) -> bool
+fn ends_listing<K>(event: &Option<Input<Global, K>>, kind: TransferKind) -> bool
     ensures ends { result ≡ ends_listing event.now kind }
 {
     match (event, kind) {
-        (Some(DataEvent::Ended { .. }), TransferKind::Listed) => true,
+        (Some(Input::TransferEnded { .. }), TransferKind::Listed) => true,
         _ => false,
     }
 }
@@ -224,6 +264,8 @@ pub struct SocketHost<'h, R, S: Store<Global>, H: Drop, B: PartsName, T> {
     path: Option<VPath>,
     // the reply that comes next is to a wrong password
     is_wrong: bool,
+    // the last step said a refusal: if it was the end of an upload, the store refused the file
+    is_refused: bool,
     // lent to steps that need no floors
     no_floors: Floors,
 }
@@ -264,6 +306,7 @@ where
             },
             path: None,
             is_wrong: false,
+            is_refused: false,
             no_floors,
         }
     }
@@ -281,6 +324,7 @@ where
             begun: _,
             path: _,
             is_wrong: _,
+            is_refused: _,
             no_floors: _,
         } = self;
         side.leave();
@@ -480,11 +524,14 @@ where
         self.house.handler.lock(self.rt).on_store(self.own, &note);
     }
 
-    // Follows a call of the store: the file that is opened, a change, or a fault.
-    fn follow_store(&mut self, record: Option<StoreRecord>)
+    // Follows a step, which may have said a refusal, and its call of the store: the file that is opened, a change, or a
+    // fault.
+    fn follow_store(&mut self, record: Option<StoreRecord>, is_refused: bool)
         ensures standing { self.new.standing ≡ self.old.standing }
         ensures side { self.new.side ≡ self.old.side }
+        ensures refused { self.new.is_refused ≡ is_refused }
     {
+        self.is_refused = is_refused;
         match record {
             Some(StoreRecord::OpenedToRead(path)) => self.path = path,
             Some(StoreRecord::OpenedToWrite(path)) => self.path = path,
@@ -503,7 +550,7 @@ where
     }
 
     // Reports the refusals of a step, if it was made.
-    fn report_made<F, K>(&self, made: &Result<Vec<Action<Global, F, K>>, NoStep<K>>) {
+    fn report_made<F, K>(&self, made: &Result<Vec<Action<Global, F, K>>, NoStep<Global, K>>) {
         if let Ok(actions) = made {
             self.report_refusals(actions);
         }
@@ -515,7 +562,7 @@ where
         session: &mut Session<Global>,
         input: &mut Option<Input<Global, S::Sink>>,
     ) -> (
-        Result<Vec<Action<Global, S::Source, S::Sink>>, NoStep<S::Sink>>,
+        Result<Vec<Action<Global, S::Source, S::Sink>>, NoStep<Global, S::Sink>>,
         Option<StoreRecord>,
     )
         ensures row { IfSome input.old (λ input. IfOk result.0 (λ actions.
@@ -524,7 +571,7 @@ where
         ensures unchanged { OnErr result.0 (session.new ≡ session.old) }
         ensures refused { IfSome input.old (λ input. IfErr result.0 (λ why.
             RefusedFor {A = Global} {R = S.Source} (IsRow S.Step) (kept_users self.old.standing)
-            session.old (given_of input) (event_in input) why)) }
+            session.old (given_of input) (back_in input) why)) }
         ensures standing { self.new.standing ≡ self.old.standing }
         ensures side { self.new.side ≡ self.old.side }
     {
@@ -593,10 +640,11 @@ where
     }
 
     // Passes on the events of the data side after the end of the control connection.
-    fn end_with(&mut self, session: &mut Session<Global>, event: DataEvent<S::Sink>)
+    fn end_with(&mut self, session: &mut Session<Global>, event: Input<Global, S::Sink>)
         requires closed { is_closed session.old.view.stage ≡ true }
+        requires event { is_event event ≡ true }
         ensures row { LentFor (IsRow {A = Global} {R = S.Source} S.Step)
-            (kept_users self.old.standing) session.old (Came event) session.new [] }
+            (kept_users self.old.standing) session.old (given_of event) session.new [] }
         ensures closed { is_closed session.new.view.stage ≡ true }
         ensures standing { self.new.standing ≡ self.old.standing }
         ensures side { self.new.side ≡ self.old.side }
@@ -609,7 +657,7 @@ where
             end_by(session, users, floors, &mut *store, event, moment);
             store.take_last()
         };
-        self.follow_store(record);
+        self.follow_store(record, false);
     }
 
     /// Ends the control connection in such a way that the last reply arrives.
@@ -641,13 +689,13 @@ where
         &mut self,
         session: &mut Session<Global>,
         input: &mut Option<Input<Global, S::Sink>>,
-    ) -> Result<Vec<Action<Global, S::Source, S::Sink>>, NoStep<S::Sink>> {
+    ) -> Result<Vec<Action<Global, S::Source, S::Sink>>, NoStep<Global, S::Sink>> {
         if self.ends_instead(input) {
             return Err(NoStep::Over);
         }
         self.compare_terms(session.is_inside());
         let (made, record) = self.step_over(session, input);
-        self.follow_store(record);
+        self.follow_store(record, is_refused(&made));
         self.report_made(&made);
         made
     }
@@ -667,7 +715,7 @@ where
         }
     }
 
-    fn end(&mut self, session: &mut Session<Global>, event: &mut Option<DataEvent<S::Sink>>) {
+    fn end(&mut self, session: &mut Session<Global>, event: &mut Option<Input<Global, S::Sink>>) {
         match event.take() {
             Some(event) => self.end_with(session, event),
             None => {}
@@ -681,7 +729,7 @@ where
     fn note(&mut self, call: &HookCall<Global>) {
         self.follow(call);
         if ends_file(call) {
-            self.report_end(self.side.cause());
+            self.report_end(cause_with(self.side.cause(), self.is_refused));
         }
         self.house.handler.lock(self.rt).on_call(self.own, call);
     }
@@ -737,7 +785,7 @@ where
         self.side.abort();
     }
 
-    fn look(&mut self) -> Option<DataEvent<S::Sink>> {
+    fn look(&mut self) -> Option<Input<Global, S::Sink>> {
         let event = self.side.look(micros(self.rt));
         if is_without_port(&event) {
             if let Some(error) = self.side.port_fault() {
@@ -750,7 +798,7 @@ where
         event
     }
 
-    fn settle(&mut self) -> Option<DataEvent<S::Sink>> {
+    fn settle(&mut self) -> Option<Input<Global, S::Sink>> {
         let last = self.side.settle();
         if is_end(&last) {
             self.report_end(cause_of_cut(&last, self.is_ending()));

@@ -1,9 +1,9 @@
 //! The data side of a session.
 
 ghost use Rattle.std.specs.Prelude.{◌≡◌, IfNone, IfSome, IsTrue, false, true};
-ghost use Rattle.session_core.specs.declared.events.DataEvent.TheVariants.{Ready};
 ghost use Rattle.server_house.specs.declared.cause.EndCause.TheVariants as cause;
 ghost use Rattle.session_table.specs.declared.inputs.End.TheVariants.{Aborted, NoConnection, NoMemory};
+ghost use Rattle.session_table.specs.declared.inputs.Input.TheVariants.{DataReady};
 ghost use Rattle.socket_host.specs.Causes.{AbortCause, GoesCause, LookCause, StartCause, TakenCause, cause_of};
 ghost use Rattle.socket_host.specs.Keeping.{GoesKeeps, Keeps, LookKeeps, StartKeeps, may_keep, without_port};
 ghost use Rattle.socket_host.specs.Running.{Aborts, GoesOn, IsAwaited, IsConnecting, IsHandedOver, IsMovedBy, IsNoTarget, Looks, RestsOn, Settles, Starts, TakesEnd, event_of, is_busy, is_moving, over, pause_after, port_in};
@@ -23,8 +23,7 @@ use server_house::{
     DataConnection, EndCause, House, LaneEnds, Outgoing, OwnRuns, Progress, ServerRuntime,
     SessionEnd, SessionJob, TransferEnd, accept_from, empty_queue, socket_address,
 };
-use session_core::DataEvent;
-use session_table::{End, Job};
+use session_table::{End, Input, Job};
 use std::alloc::Global;
 use std::io::ErrorKind;
 use std::net::{TcpListener, TcpStream};
@@ -87,11 +86,11 @@ fn cause_of(is_aborted: bool, end: End, fault: Option<io::Error>) -> Option<EndC
 }
 
 // The report of an end, if there is one.
-fn event_of<K: Drop>(end: Option<TransferEnd<K>>) -> Option<DataEvent<K>>
+fn event_of<K: Drop>(end: Option<TransferEnd<K>>) -> Option<Input<Global, K>>
     ensures event { result ≡ event_of end }
 {
     match end {
-        Some(TransferEnd { end, sink, .. }) => Some(DataEvent::Ended { end, sink }),
+        Some(TransferEnd { end, sink, .. }) => Some(Input::TransferEnded { end, sink }),
         None => None,
     }
 }
@@ -392,10 +391,10 @@ where
         ensures payer { self.new.run.payer ≡ self.old.run.payer }
     {
         match accept_from(&listener, self.wanted) {
-            Some(stream) => {
+            Some(connection) => {
                 let closed = self.kept.keep(listener, port);
                 self.close(closed);
-                self.hand_over(stream, job);
+                self.hand_over(connection.into_stream(), job);
             }
             None => {
                 if has_passed(since, now, PATIENCE) {
@@ -586,8 +585,8 @@ where
     /// Reports a port, or the end of the transfer; `None` if there is neither by this moment, in microseconds. A
     /// client that has not connected to its port within a minute, or whose port has not answered within five seconds,
     /// is not waited for any longer. Does not wait.
-    pub fn look(&mut self, now: u64) -> Option<DataEvent<S::Sink>>
-        ensures port { IfSome self.old.ready (λ port. (result ≡ Some (Ready port))
+    pub fn look(&mut self, now: u64) -> Option<Input<Global, S::Sink>>
+        ensures port { IfSome self.old.ready (λ port. (result ≡ Some (DataReady port))
             × (self.new.run.running ≡ self.old.run.running)) }
         ensures end { IfNone self.old.ready (Looks (owner_view self.old.run.owner) now
             self.old.run.running result self.new.run.running self.new.moved) }
@@ -601,7 +600,7 @@ where
         ensures payer { self.new.run.payer ≡ self.old.run.payer }
     {
         if let Some(port) = self.ready.take() {
-            return Some(DataEvent::Ready(port));
+            return Some(Input::DataReady(port));
         }
         self.go_on(now);
         event_of(self.take_end())
@@ -635,7 +634,7 @@ where
     }
 
     // Waits for the end of the running transfer and reports it.
-    fn await_end(&mut self) -> Option<DataEvent<S::Sink>>
+    fn await_end(&mut self) -> Option<Input<Global, S::Sink>>
         ensures settled { Settles self.old.run.running result self.new.moved }
         ensures running { self.new.run.running ≡ Running.Nothing }
         ensures prepared { self.new.prepared ≡ self.old.prepared }
@@ -647,7 +646,7 @@ where
         for _ in rt.forever() {
             match self.take_end() {
                 Some(TransferEnd { end, sink, .. }) => {
-                    return Some(DataEvent::Ended { end, sink });
+                    return Some(Input::TransferEnded { end, sink });
                 }
                 None => {
                     if !self.is_busy() {
@@ -662,7 +661,7 @@ where
 
     /// Waits for the end of the running transfer and reports it; aborts it if there is no connection yet. Drops what was
     /// prepared.
-    pub fn settle(&mut self) -> Option<DataEvent<S::Sink>>
+    pub fn settle(&mut self) -> Option<Input<Global, S::Sink>>
         ensures settled { Settles self.old.run.running result self.new.moved }
         ensures running { self.new.run.running ≡ Running.Nothing }
         ensures prepared { self.new.prepared ≡ Prepared.Nothing }

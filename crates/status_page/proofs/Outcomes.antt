@@ -18,10 +18,9 @@ use Rattle.http_server.specs.declared.state.Refusal.TheVariants.{Truncated, Unre
 use Rattle.http_server.specs.Exchange.{Call, Calls, Chain, Exchanges, IsInterim, Serves, keeps_open}
 use Rattle.http_server.specs.History.{History, IsDone, IsServed, Justifies, Stands, new_history, output}
 use Rattle.http_server.specs.Response.{fields_of}
-use Rattle.server_status.specs.declared.status.Status.{Status}
 use Rattle.http.specs.Request.{head_of}
 use Rattle.http_uri.specs.Uri.{uri_path}
-use Rattle.status_page.specs.Answers.{Answers, IsHosted, IsRouted, IsShown, is_read, route_of}
+use Rattle.status_page.specs.Answers.{Answers, IsHosted, IsRouted, IsShown, Shown, is_read, route_of}
 use Rattle.status_page.specs.Hosts.{is_own_request}
 use Rattle.status_page.specs.Exchanges.{IsAnswered, IsOutcome}
 use Rattle.status_page.specs.declared.routes.Route.{Route}
@@ -45,22 +44,22 @@ final_of r more fields status = record {
   status = status;
 }
 
-shown_final : (status : Status) (route : Route) (r : Response) → IsShown status route r → IsFinal r
-shown_final status Page r is = final_of r _ is.headers (λ e. absurd (omega (arith, e, is.status)))
-shown_final status Json r is = final_of r _ is.2.headers (λ e. absurd (omega (arith, e, is.2.status)))
-shown_final status Metrics r is = final_of r _ is.headers (λ e. absurd (omega (arith, e, is.status)))
+shown_final : (shown : Shown) (route : Route) (r : Response) → IsShown shown route r → IsFinal r
+shown_final shown Page r is = final_of r _ is.headers (λ e. absurd (omega (arith, e, is.status)))
+shown_final shown Json r is = final_of r _ is.2.headers (λ e. absurd (omega (arith, e, is.2.status)))
+shown_final shown Metrics r is = final_of r _ is.headers (λ e. absurd (omega (arith, e, is.status)))
 
-routed_final : (status : Status) (route : Option Route) (read : Bool) (r : Response) → IsRouted status route read r → IsFinal r
-routed_final status None read r is = final_of r _ is.headers (λ e. absurd (omega (arith, e, is.status)))
-routed_final status (Some route) false r is = final_of r _ is.headers (λ e. absurd (omega (arith, e, is.status)))
-routed_final status (Some route) true r is = shown_final status route r is
+routed_final : (shown : Shown) (route : Option Route) (read : Bool) (r : Response) → IsRouted shown route read r → IsFinal r
+routed_final shown None read r is = final_of r _ is.headers (λ e. absurd (omega (arith, e, is.status)))
+routed_final shown (Some route) false r is = final_of r _ is.headers (λ e. absurd (omega (arith, e, is.status)))
+routed_final shown (Some route) true r is = shown_final shown route r is
 
-hosted_final : (status : Status) (own : Bool) (route : Option Route) (read : Bool) (r : Response) → IsHosted status own route read r → IsFinal r
-hosted_final status false route read r is = final_of r _ is.headers (λ e. absurd (omega (arith, e, is.status)))
-hosted_final status true route read r is = routed_final status route read r is
+hosted_final : (shown : Shown) (own : Bool) (route : Option Route) (read : Bool) (r : Response) → IsHosted shown own route read r → IsFinal r
+hosted_final shown false route read r is = final_of r _ is.headers (λ e. absurd (omega (arith, e, is.status)))
+hosted_final shown true route read r is = routed_final shown route read r is
 
-answer_final : (status : Status) (q : Request (List ℕ)) (r : Response) → Answers status q r → IsFinal r
-answer_final status q r is = hosted_final status (is_own_request q) (route_of (uri_path (head_of q).uri)) (is_read (head_of q).method) r is
+answer_final : (shown : Shown) (q : Request (List ℕ)) (r : Response) → Answers shown q r → IsFinal r
+answer_final shown q r is = hosted_final shown (is_own_request q) (route_of (uri_path (head_of q).uri)) (is_read (head_of q).method) r is
 
 -- ---- no call was answered before the last
 
@@ -93,15 +92,15 @@ when_ok : {A E : Type 0} (r : Result A E) (P Q : Type 0) → (P → Q) → OnOk 
 when_ok (Ok u) P Q f p = f p
 when_ok (Err e) P Q f p = p
 
-module _ {S : Type 0} (answers : S → Request (List ℕ) → Response → S → Type 0) (old new : S) (status : Status) (each : (next : S) (q : Request (List ℕ)) (r : Response) → answers old q r next → Answers status q r) where
-  first_answers : (calls : List Call) (c : Call) (more : List Call) → calls ≡ c ∷ more → Chain answers old calls new → Answers status c.0 c.1
+module _ {S : Type 0} (answers : S → Request (List ℕ) → Response → S → Type 0) (old new : S) (shown : Shown) (each : (next : S) (q : Request (List ℕ)) (r : Response) → answers old q r next → Answers shown q r) where
+  first_answers : (calls : List Call) (c : Call) (more : List Call) → calls ≡ c ∷ more → Chain answers old calls new → Answers shown c.0 c.1
   first_answers calls c more is chain = let t = subst (λ (cs : List Call). Chain answers old cs new) is chain in each t.0 c.0 c.1 t.1
 
   none_before : (calls : List Call) → Chain answers old calls new → (answered more : List Call) → calls ≡ answered ++ more → (stream text rest : List ℕ) → Serves CONFIG stream answered text rest → answered ≡ []
   none_before calls chain [] more is stream text rest serves = refl
   none_before calls chain (c ∷ answered) more is stream text rest serves =
       let e = serves.4 in
-      absurd (not_open e.message.head c.1 (answer_final status c.0 c.1 (first_answers calls c (answered ++ more) is chain)) e.persists)
+      absurd (not_open e.message.head c.1 (answer_final shown c.0 c.1 (first_answers calls c (answered ++ more) is chain)) e.persists)
 
   -- the calls are those that were answered, and at most one more
   more_calls : (s : State) (h : History) (answered : List Call) (text interim rest : List ℕ) → Stands s CONFIG h answered text interim rest → (more : List Call) × (h.calls ≡ answered ++ more)
@@ -115,7 +114,7 @@ module _ {S : Type 0} (answers : S → Request (List ℕ) → Response → S →
   -- what is found of a connection: what it sent and lost is an outcome of what it received
   pub record IsFound (h : History) : Type 0 where
     pub lost : List ℕ
-    pub outcome : IsOutcome status h.received (h.sent ++ lost)
+    pub outcome : IsOutcome shown h.received (h.sent ++ lost)
     pub whole : IsDone h → lost ≡ []
 
   found : (s : State) (h : History) (interim : List ℕ) → h.state ≡ s → Chain answers old h.calls new → IsInterim CONFIG.limits h.received interim → Stands s CONFIG h [] [] interim h.received → IsFound h
@@ -145,7 +144,7 @@ module _ {S : Type 0} (answers : S → Request (List ℕ) → Response → S →
     whole = λ done. nil_from_length h.pending done.1;
   }
   found Upgraded h interim is chain invited stands =
-      absurd ((answer_final status stands.last.call.0 stands.last.call.1 (first_answers h.calls stands.last.call [] stands.last.calls chain)).status stands.accepted)
+      absurd ((answer_final shown stands.last.call.0 stands.last.call.1 (first_answers h.calls stands.last.call [] stands.last.calls chain)).status stands.accepted)
   found Aborted h interim is chain invited stands = record {
     lost = [];
     outcome = inr (inr (stands.lost, subst (IsInterim CONFIG.limits h.received) (sym (ap (λ (sent : List ℕ). sent ++ stands.lost) (append-nil h.sent) ∙ stands.sent)) invited));
@@ -168,7 +167,7 @@ module _ {S : Type 0} (answers : S → Request (List ℕ) → Response → S →
     pub written : (more : List ℕ) × Writes more × (h.sent ≡ h0.sent ++ more)
     pub calls : Calls answers old new h0.calls h.calls
 
-  from_new : {A E : Type 0} (Reads Writes : List ℕ → Type 0) (result : Result A E) (h : History) → GoesOn Reads Writes new_history h → OnOk result (IsDone h) → IsServed CONFIG h → IsAnswered status Reads Writes result
+  from_new : {A E : Type 0} (Reads Writes : List ℕ → Type 0) (result : Result A E) (h : History) → GoesOn Reads Writes new_history h → OnOk result (IsDone h) → IsServed CONFIG h → IsAnswered shown Reads Writes result
   from_new Reads Writes result h on done is =
       let found = outcome_of h (subst (λ (cs : List Call). Chain answers old cs new) (sym on.calls.1) on.calls.2) is in
       record {
@@ -182,6 +181,6 @@ module _ {S : Type 0} (answers : S → Request (List ℕ) → Response → S →
       }
 
   -- a new connection that went on has answered
-  pub answered : {A E : Type 0} (Reads Writes : List ℕ → Type 0) (result : Result A E) (h0 h : History) → h0 ≡ new_history → GoesOn Reads Writes h0 h → OnOk result (IsDone h) → (config : Config) → config ≡ CONFIG → ∥ IsServed config h ∥₁ → ∥ IsAnswered status Reads Writes result ∥₁
+  pub answered : {A E : Type 0} (Reads Writes : List ℕ → Type 0) (result : Result A E) (h0 h : History) → h0 ≡ new_history → GoesOn Reads Writes h0 h → OnOk result (IsDone h) → (config : Config) → config ≡ CONFIG → ∥ IsServed config h ∥₁ → ∥ IsAnswered shown Reads Writes result ∥₁
   answered Reads Writes result h0 h begun on done config is served =
       ∥∥₁_map (subst (λ (c : Config). ∥ IsServed c h ∥₁) is served) (from_new Reads Writes result h (subst (λ (start : History). GoesOn Reads Writes start h) begun on) done)

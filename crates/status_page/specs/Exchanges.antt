@@ -5,15 +5,14 @@ use Rattle.http_server.specs.declared.state.Refusal.{Refusal}
 use Rattle.http_server.specs.Exchange.{Call, Exchanges, IsInterim}
 use Rattle.http_server.specs.History.{History, Justifies}
 use Rattle.http_server.specs.Refusal.{refusal_text}
-use Rattle.server_status.specs.declared.status.Status.{Status}
-use Rattle.status_page.specs.Answers.{Answers}
+use Rattle.status_page.specs.Answers.{Answers, Shown}
 use Rattle.status_page.specs.declared.serving.TheConstants.{CONFIG}
 
 -- the output is all that is sent for the request that begins the input: what the routes answer.
 -- The connection closes after it
-pub record IsExchanged (status : Status) (input output : List ℕ) : Type 0 where
+pub record IsExchanged (shown : Shown) (input output : List ℕ) : Type 0 where
   pub call : Call
-  pub answers : Answers status call.0 call.1
+  pub answers : Answers shown call.0 call.1
   pub rest : List ℕ
   pub exchanges : Exchanges CONFIG false input call output rest
 
@@ -31,13 +30,13 @@ pub record IsRefused (input output : List ℕ) : Type 0 where
 abbrev pub IsSilent : List ℕ → List ℕ → Type 0
 IsSilent input output = (cut : List ℕ) × IsInterim CONFIG.limits input (output ++ cut)
 
-abbrev pub IsOutcome : Status → List ℕ → List ℕ → Type 0
-IsOutcome status input output =
-    IsExchanged status input output ⊎ (IsRefused input output ⊎ IsSilent input output)
+abbrev pub IsOutcome : Shown → List ℕ → List ℕ → Type 0
+IsOutcome shown input output =
+    IsExchanged shown input output ⊎ (IsRefused input output ⊎ IsSilent input output)
 
 -- octets were read and written; with those that were lost, which are none after success, what was
 -- written is an outcome of what was read
-pub record IsAnswered {A E : Type 0} (status : Status) (Reads Writes : List ℕ → Type 0)
+pub record IsAnswered {A E : Type 0} (shown : Shown) (Reads Writes : List ℕ → Type 0)
     (result : Result A E) : Type 0 where
   pub input : List ℕ
   pub reads : Reads input
@@ -45,4 +44,4 @@ pub record IsAnswered {A E : Type 0} (status : Status) (Reads Writes : List ℕ 
   pub writes : Writes output
   pub lost : List ℕ
   pub whole : OnOk result (lost ≡ [])
-  pub outcome : IsOutcome status input (output ++ lost)
+  pub outcome : IsOutcome shown input (output ++ lost)

@@ -6,7 +6,8 @@
 //! let mut reader = b"GET /status.json HTTP/1.1\r\nHost: localhost\r\n\r\n".as_slice();
 //! let mut writer = Vec::new(rt.alloc());
 //! let keys = RandomState::new(rt)?;
-//! serve_request(rt.alloc(), keys, status, &mut reader, &mut writer)?; // one request of a browser
+//! let date = HttpDate::from_unix_secs(951_827_696).expect(rt, "a date"); // seconds since 1970
+//! serve_request(rt.alloc(), keys, status, date, &mut reader, &mut writer)?; // of a browser
 //! holds(rt, writer.as_slice().starts_with(b"HTTP/1.1 200 OK\r\n"));
 //! ```
 #![tactic(auto)]

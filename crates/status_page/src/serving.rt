@@ -1,11 +1,13 @@
 //! One request of one connection.
 
 ghost use Rattle.std.specs.Io.KnownBytes.{Appends, Consumes};
+ghost use Rattle.status_page.specs.Answers.{shown_at};
 ghost use Rattle.status_page.specs.Exchanges.{IsAnswered};
 
 use crate::routes::Routes;
 use http_server::{Config, Connection, serve};
 use http1::Limits;
+use httpdate::HttpDate;
 use server_status::Status;
 use std::alloc::Global;
 use std::hash::RandomState;
@@ -24,22 +26,23 @@ const CONFIG: Config = Config {
     read_size: 4_096,
 };
 
-/// Reads a request, and answers it from a status: the page, the status as JSON, or its metrics. The connection is to be
-/// closed afterwards; whatever follows the request is not answered.
+/// Reads a request, and answers it at a date from a status: the page, the status as JSON, or its metrics. The connection is
+/// to be closed afterwards; whatever follows the request is not answered.
 ///
 /// Fails if a read or a write fails. `keys` are secret, so that a client cannot choose headers that are slow to look up.
 pub fn serve_request<R: Read, W: Write>(
     alloc: Global,
     keys: RandomState,
     status: &Status,
+    date: HttpDate,
     reader: &mut R,
     writer: &mut W,
 ) -> io::Result<()>
-    ensures answered { ∥ IsAnswered status.now
+    ensures answered { ∥ IsAnswered (shown_at status.now date)
         (Consumes (R.remaining reader.old) (R.remaining reader.new))
         (Appends (W.contents writer.old) (W.contents writer.new)) result ∥₁ }
 {
     let mut connection = Connection::new(alloc, keys, CONFIG);
-    let mut routes = Routes::new(alloc, status);
+    let mut routes = Routes::new(alloc, status, date);
     serve(&mut connection, &mut routes, reader, writer)
 }

@@ -1,8 +1,10 @@
 //! The examples in the heads of these crates. `tools/examples` checks that both have the same lines.
 
 use crate::expect::holds;
+use crate::pages::Two;
 use linked_list_allocator::LocalHeap;
 use memory_store::MemStore;
+use page_store::PageStore;
 use std::alloc::AllocError;
 use std::process::Abort;
 use test_fail_store::FailStore;
@@ -56,6 +58,21 @@ fn of_a_directory(rt: &(impl Abort + AllocGlobal)) {
     test_fail_store(rt, &path).expect(rt, "a store");
 }
 
+fn page_store(rt: &impl Abort, mut store: PageStore<Two>, path: &VPath) -> Result<(), StoreFault> {
+    // the files are `a.txt`, which is `one`, and `b.txt`; the path is `/a.txt`
+    let mut source = store.open_read(path, 1)?; // from the second octet on
+    let mut buffer = [0u8; 16];
+    holds(rt, source.read(&mut buffer) == Ok(2));
+    holds(rt, store.remove_file(path) == Err(StoreFault::Device)); // nothing can be changed
+    Ok(())
+}
+
+fn of_pages(rt: &(impl Abort + AllocGlobal)) {
+    let root = VPath::root(rt.alloc());
+    let path = root.child(rt.alloc(), "a.txt").expect(rt, "a path");
+    page_store(rt, PageStore::new(rt.alloc(), Two), &path).expect(rt, "a page");
+}
+
 fn of_a_file(rt: &(impl Abort + AllocGlobal)) {
     let root = VPath::root(rt.alloc());
     let path = root.child(rt.alloc(), "f").expect(rt, "a path");
@@ -85,5 +102,6 @@ fn examples(rt: HostRuntime) {
     expectations(&rt);
     of_a_directory(&rt);
     of_a_file(&rt);
+    of_pages(&rt);
     test_scarce_memory(rt).expect(&rt, "memory");
 }

@@ -1,5 +1,5 @@
-//! Tests of the store in memory, of a store that fails once, of records of calls, and of stores where memory is refused:
-//! each growth of each call in turn.
+//! Tests of the store in memory, of a store of pages, of one that fails once, of records of calls, and of stores where
+//! memory is refused: each growth of each call in turn.
 #![tactic(auto)]
 
 #[cfg(test)]
@@ -8,6 +8,8 @@ mod examples;
 mod expect;
 #[cfg(test)]
 mod failing;
+#[cfg(test)]
+mod pages;
 #[cfg(test)]
 mod records;
 #[cfg(test)]

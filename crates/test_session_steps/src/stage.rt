@@ -5,7 +5,8 @@ ghost use Rattle.std.specs.declared.alloc.Global.{Global};
 ghost use Rattle.control_session.specs.Calls.{reads_within};
 ghost use Rattle.control_session.specs.Rows.{IsRow};
 ghost use Rattle.control_session.specs.Turns.{Stepped};
-ghost use Rattle.control_session.specs.Sides.Given.{Came};
+ghost use Rattle.control_session.specs.Sides.{given_of};
+ghost use Rattle.session_core.specs.Events.{is_event};
 ghost use Rattle.test_fail_store.specs.Failing.{FailStep};
 ghost use Rattle.memory_store.specs.InMemory.{InMemory};
 ghost use Rattle.test_session_steps.specs.Unsaid.{AnyCall};
@@ -16,9 +17,7 @@ use crate::hall::Hall;
 use crate::reported::{Job, put_connect, put_hook};
 use crate::words::{Word, asked};
 use authorizer::Authorizer;
-use control_session::{
-    DataEvent, Host, Leaving, NoStep, Piece, Session, close_by, end_by, step_by,
-};
+use control_session::{Host, Leaving, NoStep, Piece, Session, close_by, end_by, step_by};
 use ftp_wire::HostPort;
 use memory_store::{MemSink, MemSource, MemStore};
 use session_table::{Action, End, HookCall, Input, Text};
@@ -37,7 +36,7 @@ pub(crate) struct Stage<R, W> {
     writer: W,
     line: Vec<u8>,
     /// The event of the data side that waits.
-    came: Option<DataEvent<MemSink<Global>>>,
+    came: Option<Input<Global, MemSink<Global>>>,
     /// A transfer runs.
     runs: bool,
     /// The client takes no more replies.
@@ -141,7 +140,7 @@ impl<R: BufRead, W: Write> Stage<R, W> {
             Word::Closed => return Ok(true),
             Word::Lost => return Err(Fault::Lost),
             Word::Held => {}
-            Word::Port(port) => self.came = Some(DataEvent::Ready(port)),
+            Word::Port(port) => self.came = Some(Input::DataReady(port)),
             Word::End(end, octets) => self.end(end, octets),
             Word::Anew | Word::Talk | Word::Remove(_) => return Err(Fault::Word),
             Word::Other | Word::Look(_) | Word::At(_) | Word::Fail(_) | Word::Deaf => self.follow(
@@ -154,7 +153,7 @@ impl<R: BufRead, W: Write> Stage<R, W> {
     fn end(&mut self, end: End, octets: Option<&str>) {
         self.runs = false;
         match self.hall.sink_with(octets) {
-            Ok(sink) => self.came = Some(DataEvent::Ended { end, sink }),
+            Ok(sink) => self.came = Some(Input::TransferEnded { end, sink }),
             Err(fault) => self.fault = Some(fault),
         }
     }
@@ -192,10 +191,11 @@ impl<R: BufRead, W: Write> Stage<R, W> {
 
 impl<R: BufRead, W: Write> Stage<R, W> {
     // Takes the event of the data side after the end of the control connection.
-    fn end_with(&mut self, session: &mut Session, event: DataEvent<MemSink<Global>>)
+    fn end_with(&mut self, session: &mut Session, event: Input<Global, MemSink<Global>>)
         requires closed { is_closed session.old.view.stage ≡ true }
+        requires event { is_event event ≡ true }
         ensures row { Stepped (IsRow {A = Global} {R = List ℕ} (FailStep InMemory))
-            AnyCall self.old session.old (Came event) session.new [] self.new }
+            AnyCall self.old session.old (given_of event) session.new [] self.new }
         ensures closed { is_closed session.new.view.stage ≡ true }
     {
         let moment = self.hall.moment;
@@ -219,7 +219,10 @@ impl<R: BufRead, W: Write> Host<Global> for Stage<R, W> {
         &mut self,
         session: &mut Session,
         input: &mut Option<Input<Global, MemSink<Global>>>,
-    ) -> Result<Vec<Action<Global, MemSource<Global>, MemSink<Global>>>, NoStep<MemSink<Global>>> {
+    ) -> Result<
+        Vec<Action<Global, MemSource<Global>, MemSink<Global>>>,
+        NoStep<Global, MemSink<Global>>,
+    > {
         let moment = self.hall.moment;
         let (floors, store) = (&mut self.hall.floors, &mut self.hall.store);
         step_by(session, &self.users, floors, store, input, moment)
@@ -238,7 +241,7 @@ impl<R: BufRead, W: Write> Host<Global> for Stage<R, W> {
         }
     }
 
-    fn end(&mut self, session: &mut Session, event: &mut Option<DataEvent<MemSink<Global>>>) {
+    fn end(&mut self, session: &mut Session, event: &mut Option<Input<Global, MemSink<Global>>>) {
         match event.take() {
             Some(event) => self.end_with(session, event),
             None => {}
@@ -301,12 +304,12 @@ impl<R: BufRead, W: Write> Host<Global> for Stage<R, W> {
         self.keep(done);
     }
 
-    fn look(&mut self) -> Option<DataEvent<MemSink<Global>>> {
+    fn look(&mut self) -> Option<Input<Global, MemSink<Global>>> {
         self.came.take()
     }
 
     /// Ends a transfer that still runs as aborted; an upload brings nothing more.
-    fn settle(&mut self) -> Option<DataEvent<MemSink<Global>>> {
+    fn settle(&mut self) -> Option<Input<Global, MemSink<Global>>> {
         if self.runs {
             self.end(End::Aborted, Some(""));
         }

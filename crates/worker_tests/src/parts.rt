@@ -13,7 +13,7 @@ use super::expect::limits;
 use super::house::House;
 use grant_ledger::{Book, SettledNumbers, Tally};
 use lane_desk::{Desk, LaneSeat, Rounds, Worked, open_desk};
-use lent_parts::{LentDesk, LentRounds, LentWorker, PartsName, settle_lent};
+use lent_parts::{LentDesk, LentRounds, LentWorker, MisplacedParts, PartsName, settle_lent};
 use paced_rounds::PacedRounds;
 use round_cadence::Cadence;
 use round_pace::Pace;
@@ -113,6 +113,14 @@ impl<B: PartsName> Lent<B> {
     }
 }
 
+/// No part is out of its place in a test, which would not end otherwise.
+#[derive(Drop)]
+struct InPlace;
+
+impl MisplacedParts for InPlace {
+    fn misplaced(&mut self, _lane: usize) {}
+}
+
 /// Settles the desk of a house, from all workers in the order of their lanes.
 pub(crate) fn settle_house<B: PartsName, R: Abort + AllocGlobal + Wait>(
     rt: &R,
@@ -123,5 +131,12 @@ pub(crate) fn settle_house<B: PartsName, R: Abort + AllocGlobal + Wait>(
 {
     let room = Vec::<Worked<()>>::with_capacity(rt.alloc(), workers.len());
     let (desk, rounds) = house.into_parts();
-    settle_lent(rt, desk, rounds, workers, room.expect(rt, "memory"))
+    settle_lent(
+        rt,
+        &mut InPlace,
+        desk,
+        rounds,
+        workers,
+        room.expect(rt, "memory"),
+    )
 }

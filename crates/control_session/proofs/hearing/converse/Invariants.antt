@@ -18,6 +18,5 @@ invariant-loop-turn g l = record {
       l.fn.host (stand l.fn.talk [] nothing) l.host (stand l.talk last heard)
       × HasRead heard.octets heard.items l.lines
       × (heard.reads ≡ l._turn) × (heard.ended ≡ false)
-      × ((l.talk.closed ≡ true) ⊎ AllTaken last heard)
-      × (heard.asked ≡ true);
+      × ((l.talk.closed ≡ true) ⊎ (AllTaken last heard × (heard.asked ≡ true)));
 }

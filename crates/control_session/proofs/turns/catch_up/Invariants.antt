@@ -1,4 +1,4 @@
-use Rattle.std.proofs.Common.{◌≡◌, List, None, true}
+use Rattle.std.proofs.Common.{◌≡◌, ◌⊎◌, Bool, List, None, true}
 use Rattle.ftp_wire.specs.Items.{Item}
 use Rattle.control_session.specs.Rows.{IsRow}
 use Rattle.control_session.specs.Standing.{stand}
@@ -10,9 +10,9 @@ abbrev pub invariant-loop-host : goal.invariant-loop-host
 invariant-loop-host g l = record {
   none : l.talk.came ≡ None;
   whole : l.talk.lost ≡ None;
-  stays : l.fn.talk.closed ≡ true → l.talk.closed ≡ true;
-  went : (taken : List Item) (heard : Heard) → Went (WhileOpen (IsRow {A = g.row.A.Denot} g.H.Host.Step)) g.H.Host.Does
-      l.fn.host (stand l.fn.talk taken heard) l.host (stand l.talk taken (asked_as true heard));
+  went : (taken : List Item) (heard : Heard) → (asked : Bool) × Went (WhileOpen (IsRow {A = g.row.A.Denot} g.H.Host.Step)) g.H.Host.Does
+      l.fn.host (stand l.fn.talk taken heard) l.host (stand l.talk taken (asked_as asked heard))
+      × ((l.talk.closed ≡ true) ⊎ (asked ≡ true));
 }
 
 abbrev pub decreases-loop-host : goal.decreases-loop-host

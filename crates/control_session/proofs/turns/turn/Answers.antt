@@ -1,6 +1,6 @@
 use Rattle.std.proofs.Common.{◌∙◌, inl, inr, refl}
 use Rattle.control_session.specs.Rows.{IsRow}
-use Rattle.control_session.specs.Sides.{event_in, given_of}
+use Rattle.control_session.specs.Sides.{back_in, given_of}
 use Rattle.control_session.specs.Turns.{behind}
 use Rattle.control_session.proofs.Going.{any_ok, on_ok_to, stays_or}
 use Rattle.control_session.proofs.Steps.{row_holds}
@@ -12,7 +12,7 @@ returns-in-Err-clause-went g c came taken heard taken' next = (
   taken,
   heard,
   unmade_went _ _ _ _ _ _ came c.args.talk.now.came _ taken taken' heard _ _ _ _ c.args.input c.in-Err.why next c.requires.live (c.unmade.ensures.session ∙ c.in-Err.ensures.unchanged)
-      (refused_open {A = g.row.A.Denot} {R = g.row.H-Source.Denot} (IsRow {A = g.row.A.Denot} {R = g.row.H-Source.Denot} g.H.Host.Step) g.H.Host.Does _ _ _ (event_in c.args.input) c.in-Err.why _ c.requires.live c.in-Err.ensures.refused) c.unmade.ensures.left,
+      (refused_open {A = g.row.A.Denot} {R = g.row.H-Source.Denot} (IsRow {A = g.row.A.Denot} {R = g.row.H-Source.Denot} g.H.Host.Step) g.H.Host.Does _ _ _ (back_in c.args.input) c.in-Err.why _ c.requires.live c.in-Err.ensures.refused) c.unmade.ensures.left,
   inl refl,
   on_ok_to c.unmade.result _ _ (λ is. inl is) c.unmade.ensures.closed,
   inl refl,

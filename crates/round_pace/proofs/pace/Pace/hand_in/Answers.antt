@@ -22,8 +22,8 @@ invariant_of-self g c =
       users = c.self.inside.users.items;
       offered = c.self.inside.offered;
     } in
-    let put = offered_all p c.credit_rate.result c.credit_rate-2.result c.credit_rate-3.result c.put_line.new.self c.put_groups.new.offered c.put_users.new.offered c.deref.result.now c.deref-2.result.now c.line_ticks-down.result c.line_ticks-up.result c.deref-3.result.now
-    c.credit_rate.ensures.rate c.credit_rate-2.ensures.rate c.credit_rate-3.ensures.rate c.put_line.ensures.put c.deref.ensures.value c.put_groups.ensures.put c.deref-2.ensures.value c.line_ticks-down.ensures.ticks c.line_ticks-up.ensures.ticks c.deref-3.ensures.value c.put_users.ensures.put in
+    let put = offered_all p c.credit_rate.result c.credit_rate-2.result c.credit_rate-3.result c.put_line.new.self c.put_groups.new.offered c.put_users.new.offered c.deref.result.now c.deref-2.result.now c.line_parts-down.result c.line_parts-up.result c.deref-3.result.now
+    c.credit_rate.ensures.rate c.credit_rate-2.ensures.rate c.credit_rate-3.ensures.rate c.put_line.ensures.put c.deref.ensures.value c.put_groups.ensures.put c.deref-2.ensures.value c.line_parts-down.ensures.parts c.line_parts-up.ensures.parts c.deref-3.ensures.value c.put_users.ensures.put in
     let rates : c.put_users.new.offered ≡ left_rates p = put ∙ hands_rows_in p kept.groups_rise kept.users_rise kept.are_groups kept.are_users in
     record {
       server_fits = kept.server_fits;
@@ -37,7 +37,7 @@ invariant_of-self g c =
       are_users = users_offered p c.put_users.new.offered rates;
       handed = λ q. sym rates;
       groups_quiet = groups_quiet_with c.put_groups.new.offered c.put_users.new.offered c.put_groups.new.marks.items c.deref.result.now c.self.inside.groups.items
-          (ap (λ (r : Rates). r.groups) c.put_users.ensures.put ∙ (other_than_users c.line_ticks-down.result c.line_ticks-up.result c.deref-3.result.now c.put_groups.new.offered c.deref-2.result.now).3) (sym c.deref.ensures.value) c.put_groups.ensures.marked;
+          (ap (λ (r : Rates). r.groups) c.put_users.ensures.put ∙ (other_than_users c.line_parts-down.result c.line_parts-up.result c.deref-3.result.now c.put_groups.new.offered c.deref-2.result.now).3) (sym c.deref.ensures.value) c.put_groups.ensures.marked;
       users_quiet = users_quiet_with c.put_users.new.offered c.put_users.new.offered c.put_users.new.marks.items c.deref-2.result.now c.self.inside.users.items refl (sym c.deref-2.ensures.value) c.put_users.ensures.marked;
     }
 
@@ -54,8 +54,8 @@ returns-clause-handed g c =
       users = c.self.inside.users.items;
       offered = c.self.inside.offered;
     } in
-    let put = offered_all p c.credit_rate.result c.credit_rate-2.result c.credit_rate-3.result c.put_line.new.self c.put_groups.new.offered c.put_users.new.offered c.deref.result.now c.deref-2.result.now c.line_ticks-down.result c.line_ticks-up.result c.deref-3.result.now
-    c.credit_rate.ensures.rate c.credit_rate-2.ensures.rate c.credit_rate-3.ensures.rate c.put_line.ensures.put c.deref.ensures.value c.put_groups.ensures.put c.deref-2.ensures.value c.line_ticks-down.ensures.ticks c.line_ticks-up.ensures.ticks c.deref-3.ensures.value c.put_users.ensures.put in
+    let put = offered_all p c.credit_rate.result c.credit_rate-2.result c.credit_rate-3.result c.put_line.new.self c.put_groups.new.offered c.put_users.new.offered c.deref.result.now c.deref-2.result.now c.line_parts-down.result c.line_parts-up.result c.deref-3.result.now
+    c.credit_rate.ensures.rate c.credit_rate-2.ensures.rate c.credit_rate-3.ensures.rate c.put_line.ensures.put c.deref.ensures.value c.put_groups.ensures.put c.deref-2.ensures.value c.line_parts-down.ensures.parts c.line_parts-up.ensures.parts c.deref-3.ensures.value c.put_users.ensures.put in
     put ∙ hands_rows_in p kept.groups_rise kept.users_rise kept.are_groups kept.are_users
 
 pub put_users-requires-clause-rows : goal.put_users-requires-clause-rows

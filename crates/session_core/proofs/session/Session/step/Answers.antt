@@ -1,5 +1,4 @@
 use Rattle.std.proofs.Common.{IfOk, refl, sym, subst}
-use Rattle.session_core.proofs.DataRows.{err_through, ok_through}
 use Rattle.std.proofs.lemmas.Result.{IfOk-weaker}
 use Rattle.session_table.specs.Steps.{SessionStep, SessionStops}
 use Rattle.session_table.specs.declared.inputs.Input.{Input}
@@ -10,18 +9,14 @@ use Rattle.session_core.proofs.session.Session.step.Goals as goal
 
 pub returns-in-TransferEnded-clause-row : goal.returns-in-TransferEnded-clause-row
 returns-in-TransferEnded-clause-row g c =
-    ok_through c.take_end-answer.result c.lacking.result _ c.lacking.ensures.ok
-    (subst (λ (i : Input g.row.A.Denot g.row.S-Sink.Denot). IfOk c.take_end-answer.result (λ actions. SessionStep {A = g.row.A.Denot} {R = g.row.S-Source.Denot} {K = g.row.S-Sink.Denot} g.S.Store.Step c.args.users.now.users c.args.self.now.view c.args.self.now.held c.args.moment i c.args.store.now c.take_end-answer.new.store c.args.floors.now c.args.floors.now c.take_end-answer.new.self.view c.take_end-answer.new.self.held actions.items)) (sym c.in-TransferEnded.is)
-    (c.take_end-answer.ensures.row c.args.floors.now))
-
-pub returns-in-TransferEnded-clause-unchanged : goal.returns-in-TransferEnded-clause-unchanged
-returns-in-TransferEnded-clause-unchanged g c = err_through _ c.take_end-answer.result c.lacking.result c.lacking.ensures.err c.take_end-answer.ensures.unchanged
+    subst (λ (i : Input g.row.A.Denot g.row.S-Sink.Denot). IfOk c.take_end.result (λ actions. SessionStep {A = g.row.A.Denot} {R = g.row.S-Source.Denot} {K = g.row.S-Sink.Denot} g.S.Store.Step c.args.users.now.users c.args.self.now.view c.args.self.now.held c.args.moment i c.args.store.now c.take_end.new.store c.args.floors.now c.args.floors.now c.take_end.new.self.view c.take_end.new.self.held actions.items)) (sym c.in-TransferEnded.is)
+    (c.take_end.ensures.row c.args.floors.now)
 
 pub returns-in-TransferEnded-clause-stops : goal.returns-in-TransferEnded-clause-stops
-returns-in-TransferEnded-clause-stops g c = err_through _ c.take_end-answer.result c.lacking.result c.lacking.ensures.err
-    (on_err_from c.take_end-answer.result (λ same.
+returns-in-TransferEnded-clause-stops g c =
+    on_err_from c.take_end.result (λ same.
     subst (λ s. SessionStops {A = g.row.A.Denot} {R = g.row.S-Source.Denot} {K = g.row.S-Sink.Denot} g.S.Store.Step c.args.users.now.users c.args.self.now.view c.args.self.now.held c.args.moment c.args.input c.args.store.now s) (sym same)
-    (step_stops_here g.S.Store.Step c.args.users.now.users c.args.self.now.view c.args.self.now.held c.args.moment c.args.input c.args.store.now)) c.take_end-answer.ensures.untouched)
+    (step_stops_here g.S.Store.Step c.args.users.now.users c.args.self.now.view c.args.self.now.held c.args.moment c.args.input c.args.store.now)) c.take_end.ensures.untouched
 
 pub returns-in-DataReady-clause-row : goal.returns-in-DataReady-clause-row
 returns-in-DataReady-clause-row g c =

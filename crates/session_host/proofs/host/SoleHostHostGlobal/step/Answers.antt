@@ -2,7 +2,7 @@ use Rattle.std.proofs.Common.{ap, refl}
 use Rattle.rate_floors.specs.Promises.{Promises}
 use Rattle.session_host.specs.Alone.{parts}
 use Rattle.control_session.proofs.Lending.{lend, lend_refused}
-use Rattle.control_session.specs.Sides.{event_in}
+use Rattle.control_session.specs.Sides.{back_in}
 use Rattle.session_host.proofs.host.SoleHostHostGlobal.step.Goals as goal
 
 pub returns-clause-row : goal.returns-clause-row
@@ -21,7 +21,7 @@ returns-clause-row g c = lend c.args.input.now c.step_by.result _ _ (λ input ac
 )) c.step_by.ensures.row
 
 pub returns-clause-refused : goal.returns-clause-refused
-returns-clause-refused g c = lend_refused c.args.input.now c.step_by.result _ _ (λ input. event_in input) _ (λ input same stopped. (
+returns-clause-refused g c = lend_refused c.args.input.now c.step_by.result _ _ (λ input. back_in input) _ (λ input same stopped. (
   (
     c.moment-moment.result,
     c.args.self.now.users.now.users,

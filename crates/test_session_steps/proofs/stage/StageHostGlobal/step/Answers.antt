@@ -1,10 +1,10 @@
 use Rattle.std.proofs.Common.{refl}
 use Rattle.control_session.proofs.Lending.{lend, lend_refused}
-use Rattle.control_session.specs.Sides.{event_in}
+use Rattle.control_session.specs.Sides.{back_in}
 use Rattle.test_session_steps.proofs.stage.StageHostGlobal.step.Goals as goal
 
 pub returns-clause-row : goal.returns-clause-row
 returns-clause-row g c = lend c.args.input.now c.step_by.result _ _ (λ x v row. (c.args.self.now.hall.moment, _, _, _, _, _, tt, row)) c.step_by.ensures.row
 
 pub returns-clause-refused : goal.returns-clause-refused
-returns-clause-refused g c = lend_refused c.args.input.now c.step_by.result _ _ (λ input. event_in input) _ (λ input same stopped. ((c.args.self.now.hall.moment, _, _, _, c.args.self.now.hall.floors, tt, stopped), refl)) c.step_by.ensures.unchanged c.step_by.ensures.stopped c.step_by.ensures.back
+returns-clause-refused g c = lend_refused c.args.input.now c.step_by.result _ _ (λ input. back_in input) _ (λ input same stopped. ((c.args.self.now.hall.moment, _, _, _, c.args.self.now.hall.floors, tt, stopped), refl)) c.step_by.ensures.unchanged c.step_by.ensures.stopped c.step_by.ensures.back

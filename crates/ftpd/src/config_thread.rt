@@ -1,0 +1,137 @@
+//! The thread that reads the configuration again.
+
+use crate::own_thread::{STACK, ThreadSigns, shared};
+use ftp_daemon::ServeFault;
+use std::sync::{Arc, Mutex, Wait};
+use std::thread::{Builder, Threads};
+use std::time::Clock;
+use std::{fs, io};
+use text_io::{FallibleIo, read_whole};
+
+/// The octets of a configuration, or the reason for which they cannot be had; none for one without memory.
+pub(crate) type ReadOctets = Result<Vec<u8>, Option<String>>;
+
+/// The state of the thread.
+#[derive(Drop)]
+enum Reading {
+    /// It is asked for nothing.
+    Idle,
+    /// It is to read the configuration, or reads it.
+    Asked,
+    /// It has read it.
+    Done(ReadOctets),
+}
+
+/// A configuration that a thread reads, which nobody waits for.
+#[derive(Drop)]
+pub(crate) struct ConfigReader {
+    reading: Mutex<Reading>,
+    signs: ThreadSigns,
+}
+
+/// Reads a file. `Err` is the reason for which it cannot be had. What is no regular file is not opened: a pipe would be
+/// waited for, and a device may have no end.
+fn read_file(machine: &HostRuntime, path: &str) -> ReadOctets {
+    let alloc = machine.alloc();
+    let file = match open_regular(machine, path) {
+        Ok(Some(file)) => file,
+        Ok(None) => return Err(format!(in alloc; "{path}: is not a regular file").ok()),
+        Err(reason) => return Err(format!(in alloc; "{path}: {reason}").ok()),
+    };
+    match read_whole(alloc, &mut FallibleIo(file)) {
+        Ok(octets) => Ok(octets),
+        Err(fault) => Err(format!(in alloc; "{path}: {fault}").ok()),
+    }
+}
+
+/// Opens a file, unless something else than a regular file is at the path.
+fn open_regular(machine: &HostRuntime, path: &str) -> io::Result<Option<fs::File>> {
+    if !fs::metadata(machine, path)?.is_file() {
+        return Ok(None);
+    }
+    let file = fs::open(machine, path)?;
+    if !file.metadata()?.is_file() {
+        return Ok(None);
+    }
+    Ok(Some(file))
+}
+
+impl ConfigReader {
+    /// Starts the thread for a configuration at a path. Fails without a thread, or memory.
+    pub fn start<R>(
+        rt: &R,
+        machine: &HostRuntime,
+        path: String,
+    ) -> Result<Arc<ConfigReader>, ServeFault>
+    where
+        R: Threads + Wait + Clock + Copy + Send + Sync + 'static,
+    {
+        let reader = shared(
+            machine.alloc(),
+            ConfigReader {
+                reading: Mutex::new(Reading::Idle),
+                signs: ThreadSigns::new(),
+            },
+        )?;
+        let own = Arc::try_clone(&reader)?;
+        let runtime = *rt;
+        let machine = *machine;
+        let started = Builder::new().stack_size(STACK).spawn(rt, move || {
+            own.work(&runtime, &machine, path.as_str());
+        });
+        match started {
+            Ok(_) => Ok(reader),
+            Err(_) => Err(ServeFault::NoThread),
+        }
+    }
+
+    // Reads the configuration each time that it is asked to, until no more work comes.
+    fn work<R: Wait + Clock>(&self, rt: &R, machine: &HostRuntime, path: &str) {
+        for _ in rt.forever() {
+            let seen = self.signs.seen();
+            if self.signs.is_closed() {
+                self.signs.end();
+                return;
+            }
+            if self.is_asked(rt) {
+                let octets = read_file(machine, path);
+                *self.reading.lock(rt) = Reading::Done(octets);
+            } else {
+                self.signs.wait(rt, seen);
+            }
+        }
+        unreachable!()
+    }
+
+    fn is_asked<R: Wait>(&self, rt: &R) -> bool {
+        matches!(&*self.reading.lock(rt), Reading::Asked)
+    }
+
+    /// Asks for the octets of the configuration. Returns whether the thread was idle: otherwise it still reads.
+    pub fn ask<R: Wait>(&self, rt: &R) -> bool {
+        if self.is_asked(rt) {
+            return false;
+        }
+        *self.reading.lock(rt) = Reading::Asked;
+        self.signs.wake();
+        true
+    }
+
+    /// Returns the octets of the configuration once they are read.
+    pub fn take<R: Wait>(&self, rt: &R) -> Option<ReadOctets> {
+        let mut reading = self.reading.lock(rt);
+        match &*reading {
+            Reading::Done(_) => {}
+            _ => return None,
+        }
+        match std::mem::replace(&mut *reading, Reading::Idle) {
+            Reading::Done(octets) => Some(octets),
+            _ => None,
+        }
+    }
+
+    /// Waits for the end of the thread, at most a second.
+    pub fn leave<R: Wait + Clock>(&self, rt: &R) {
+        self.signs.leave(rt);
+    }
+}

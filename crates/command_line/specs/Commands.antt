@@ -87,12 +87,14 @@ with_status app =
 -- `serve CONFIG [--stop-file PATH] [--ready-file PATH] [--drain-file PATH] [--reload-file PATH]
 -- [--transfer-log PATH] [--log-form FORM] [--status PATH] [--status-port PORT]
 -- [--login-timeout SECONDS] [--idle-timeout SECONDS] [--login-delay SECONDS]
--- [--drain-seconds SECONDS]`
+-- [--drain-seconds SECONDS] [--sync]`
 abbrev pub serve : App
 serve =
-    with_patience
+    with_rule
+    (with_patience
     (with_status
-    (with_logs (with_files (with_rule (bare (codes "serve")) (file_rule (codes "CONFIG"))))))
+    (with_logs (with_files (with_rule (bare (codes "serve")) (file_rule (codes "CONFIG")))))))
+    (flag_rule (codes "sync"))
 
 -- `plan CONFIG TRANSFERS [--json]`
 abbrev pub plan : App

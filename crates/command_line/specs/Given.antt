@@ -213,6 +213,7 @@ IsFound found (Serve config files patience) =
     × (first_of (codes "transfer-log") rows ≡ option_map (λ w. w.now) files.transfer_log)
     × (first_of (codes "log-form") rows ≡ option_map (λ w. w.now) files.log_form)
     × (first_of (codes "status") rows ≡ option_map (λ w. w.now) files.status)
+    × (files.syncs ≡ is_flagged (codes "sync") rows)
     × IsPortIn rows files.status_port × IsPatienceIn rows patience
 IsFound found (Plan config transfers json) =
     (rows : List Row) × (found ≡ Some (codes "plan", rows))

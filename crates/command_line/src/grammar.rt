@@ -261,7 +261,10 @@ fn serve_command<'a>(alloc: Global) -> Result<Command<'a>, AllocError>
     let command = with_files(alloc, command)?;
     let command = with_logs(alloc, command)?;
     let command = with_status(alloc, command)?;
-    with_patience(alloc, command)
+    let command = with_patience(alloc, command)?;
+    let sync =
+        "Have each file that is received written to the device before its 226, which takes the device's time";
+    with_flag(alloc, command, "sync", sync)
 }
 
 fn plan_command<'a>(alloc: Global) -> Result<Command<'a>, AllocError>

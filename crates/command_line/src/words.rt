@@ -44,6 +44,8 @@ pub struct ServeFiles<'a> {
     pub status: Option<&'a str>,
     /// The server shows what it does at this port of 127.0.0.1.
     pub status_port: Option<u16>,
+    /// The server has each file that is received written to the device before it says that it is there.
+    pub syncs: bool,
 }
 
 /// A command of `ftpd`, with the words after it.
@@ -205,6 +207,7 @@ fn given<'a>(name: &str, inner: &ArgMatches<'a>, numbers: Numbers) -> Option<Wor
                 log_form: word_of(inner, "log-form"),
                 status: word_of(inner, "status"),
                 status_port: numbers.status_port,
+                syncs: has_flag(inner, "sync"),
             },
             patience: numbers.patience,
         }),

@@ -35,6 +35,8 @@ pub(crate) struct AskedService {
     pub status: Option<(String, String)>,
     /// The port of the status page, if any.
     pub status_port: Option<u16>,
+    /// Each file that is received is written to the device before its end is told.
+    pub syncs: bool,
     pub patience: Patience,
 }
 
@@ -113,6 +115,7 @@ impl<W: TextWriter> Server<W> for Asked {
             log_form,
             status,
             status_port: files.status_port,
+            syncs: files.syncs,
             patience,
         });
         Ok(())

@@ -41,11 +41,15 @@ fn open_folder(
     machine: &HostRuntime,
     folder: &str,
     leaves: &LeaveSign,
+    syncs: bool,
 ) -> Result<FolderStore, ServeFault> {
     let error = LastFault::new(machine.alloc())?;
     let sign = leaves.another()?;
     match DirStore::new(*machine, folder, error.another()?) {
-        Ok(store) => Ok(RecordedStore::with_fault(machine.alloc(), store.left_by(sign), error)),
+        Ok(store) => {
+            let store = store.left_by(sign).syncing(syncs);
+            Ok(RecordedStore::with_fault(machine.alloc(), store, error))
+        }
         Err(StoreFault::Memory) => Err(ServeFault::Memory),
         Err(_) => Err(ServeFault::Store),
     }
@@ -57,10 +61,11 @@ fn open_folders(
     folder: &str,
     leaves: &LeaveSign,
     connections: u16,
+    syncs: bool,
 ) -> Result<Vec<FolderStore>, ServeFault> {
     let mut stores = Vec::new(machine.alloc());
     for _ in 0..connections {
-        let store = open_folder(machine, folder, leaves)?;
+        let store = open_folder(machine, folder, leaves, syncs)?;
         if stores.push(store).is_err() {
             return Err(ServeFault::Memory);
         }
@@ -88,6 +93,8 @@ struct ServedConfig {
     numbers: ServerNumbers,
     store: ServedStore,
     limits: Limits,
+    /// A folder has the octets of each file that is received written to the device.
+    syncs: bool,
 }
 
 /// Serves a configuration: its store is in memory, or a folder of the machine.
@@ -109,6 +116,7 @@ where
         numbers,
         store,
         limits,
+        syncs,
     } = config;
     match store {
         ServedStore::Memory(store) => {
@@ -126,8 +134,9 @@ where
         }
         ServedStore::Folder(folder) => {
             let leaves = LeaveSign::new(machine.alloc())?;
-            let store = open_folder(machine, folder.as_str(), &leaves)?;
-            let own_stores = open_folders(machine, folder.as_str(), &leaves, numbers.max_cons)?;
+            let store = open_folder(machine, folder.as_str(), &leaves, syncs)?;
+            let own_stores =
+                open_folders(machine, folder.as_str(), &leaves, numbers.max_cons, syncs)?;
             let signs = leaving(signs, leaves);
             let service = Service {
                 terms,
@@ -186,7 +195,11 @@ fn cells(
 }
 
 /// The parts of a configuration that a server takes, and the names that it knows by numbers.
-fn known_of(alloc: Global, config: Config) -> Result<(ServedConfig, Known), AllocError> {
+fn known_of(
+    alloc: Global,
+    config: Config,
+    syncs: bool,
+) -> Result<(ServedConfig, Known), AllocError> {
     let Config {
         settings,
         numbers,
@@ -205,6 +218,7 @@ fn known_of(alloc: Global, config: Config) -> Result<(ServedConfig, Known), Allo
         numbers,
         store,
         limits,
+        syncs,
     };
     Ok((served, known))
 }
@@ -346,6 +360,7 @@ where
         log: _,
         status,
         page,
+        syncs,
         patience,
     } = means;
     let (lines, transfers) = offered_lines(log, is_logged)?;
@@ -359,7 +374,7 @@ where
     let notes = Notes::new(Logged::new(*machine, Level::Info, queued), form, transfers);
     notes.note_warnings(warnings.as_str());
     let handler = StatusKeeper::new(*rt, notes, facts, kept);
-    let (config, known) = known_of(rt.alloc(), config)?;
+    let (config, known) = known_of(rt.alloc(), config, syncs)?;
     let own = OwnMeans {
         config: if reload.is_some() { Some(path) } else { None },
         status,

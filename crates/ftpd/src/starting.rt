@@ -31,6 +31,8 @@ pub(crate) struct Means {
     pub log: Option<LogFile>,
     pub status: Option<StatusFile>,
     pub page: Option<PageSocket>,
+    /// Each file that is received is written to the device before its end is told.
+    pub syncs: bool,
     pub patience: Patience,
 }
 
@@ -292,6 +294,7 @@ where
         log_form,
         status,
         status_port,
+        syncs,
         patience,
     } = service;
     let form = part(form_named(log_form), ServeFault::LogForm)?;
@@ -324,6 +327,7 @@ where
         status: part(status_at(machine, status), ServeFault::StatusFile)?,
         page: part(page_at(rt, status_port), ServeFault::StatusPort)?,
         log: part(log_at(machine, transfer_log), ServeFault::TransferLog)?,
+        syncs,
         patience,
     };
     Ok(Prepared { means, ready })

@@ -58,6 +58,7 @@ const NO_FILES: ServeFiles<'static> = ServeFiles {
     log_form: None,
     status: None,
     status_port: None,
+    syncs: false,
 };
 
 /// Checks that these words are those of `serve` for `office.toml`, with those files and that patience.
@@ -156,6 +157,12 @@ fn words_on_a_server(rt: HostRuntime) {
         "08080",
     ];
     serves(&rt, &words, shown, usual);
+    let synced = ServeFiles {
+        syncs: true,
+        ..NO_FILES
+    };
+    serves(&rt, &["serve", config, "--sync"], synced, usual);
+    serves(&rt, &["serve", "--sync", config], synced, usual);
 }
 
 // Words that ask for the transfers of a running server.

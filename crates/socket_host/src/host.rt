@@ -1,6 +1,6 @@
 //! The host of a control session.
 
-ghost use Rattle.std.specs.Prelude.{◌≡◌, ◌<◌, IfErr, IfNone, IfOk, IfSome, MatchResult, OnErr, [], false, length, option_map, string_bytes, true};
+ghost use Rattle.std.specs.Prelude.{◌≡◌, ◌<◌, IfErr, IfNone, IfOk, IfSome, OnErr, [], false, length, option_map, string_bytes, true};
 ghost use Rattle.std.specs.declared.alloc.Global.{Global};
 ghost use Rattle.control_session.specs.Calls.{reads_within};
 ghost use Rattle.control_session.specs.Rows.{IsRow};
@@ -12,14 +12,15 @@ ghost use Rattle.session_table.specs.Steps.{asks_floors};
 ghost use Rattle.session_table.specs.Views.{is_closed};
 ghost use Rattle.socket_host.specs.Cuts.{cause_of_cut};
 ghost use Rattle.socket_host.specs.Records.{cause_with, ends_file, ends_listing, is_end, is_text, job_kind, path_of};
-ghost use Rattle.socket_host.specs.Refusals.{is_refusal, refusal_of, says_refusal};
 ghost use Rattle.socket_host.specs.Standing.{Follows};
 ghost use Rattle.socket_host.specs.Texts.{is_without_port, last_reply, time_out_reply};
 ghost use Rattle.socket_host.specs.Doing.{SocketDoes, Stays, kept_users};
 ghost use Rattle.socket_host.specs.Lending.{LentFor, RefusedFor};
 
 use crate::control::ControlSocket;
+use crate::keeping::PortWatch;
 use crate::moments::millis_since_1970;
+use crate::refusals::{is_refused, refusal_of};
 use crate::side::SocketSide;
 use crate::standing::Standing;
 use crate::waiting::{is_due, is_life, passed_limit};
@@ -34,10 +35,9 @@ use rate_floors::Floors;
 use recorded_store::{Recorder, StoreRecord};
 use server_house::{
     BegunTransfer, ClientSession, EndCause, HeldTerms, House, OwnRuns, ServerHooks, ServerRuntime,
-    SessionEvent, SessionRefusal, ShutdownStage, StoreNote, TransferKind, TransferRecord,
-    copy_settings,
+    SessionEvent, ShutdownStage, StoreNote, TransferKind, TransferRecord, copy_settings,
 };
-use session_table::{Action, Answer, End, HookCall, Input, Job, Refusal, Settings, Text};
+use session_table::{Action, End, HookCall, Input, Job, Settings, Text};
 use std::alloc::{AllocError, Global};
 use std::time::Duration;
 use std::{io, thread};
@@ -100,36 +100,6 @@ fn cause_with(cause: Option<EndCause>, is_refused: bool) -> Option<EndCause>
         Some(cause) => Some(cause),
         None if is_refused => Some(EndCause::Refused),
         None => None,
-    }
-}
-
-// Returns whether an action is a reply that refuses.
-fn is_refusal<R, K>(action: &Action<Global, R, K>) -> bool
-    ensures refusal { result ≡ is_refusal action.now }
-{
-    matches!(action, Action::Say(Answer::Refusal(_)))
-}
-
-// Returns whether an action of a step is a reply that refuses.
-fn says_refusal<R, K>(actions: &[Action<Global, R, K>]) -> bool
-    ensures refusal { result ≡ says_refusal actions.now }
-{
-    for action in actions {
-        if is_refusal(action) {
-            return true;
-        }
-    }
-    false
-}
-
-// Returns whether a step was made that says a refusal.
-fn is_refused<R, K>(made: &Result<Vec<Action<Global, R, K>>, NoStep<Global, K>>) -> bool
-    ensures refused { MatchResult made.now
-        (λ actions. result ≡ says_refusal actions.items) (λ why. result ≡ false) }
-{
-    match made {
-        Ok(actions) => says_refusal(actions),
-        Err(_) => false,
     }
 }
 
@@ -215,20 +185,6 @@ fn ends_listing<K>(event: &Option<Input<Global, K>>, kind: TransferKind) -> bool
     }
 }
 
-// The refusal of a reply that ends a session, if an action is such a reply.
-fn refusal_of<R, K>(action: &Action<Global, R, K>) -> Option<SessionRefusal>
-    ensures refusal { result ≡ refusal_of action.now }
-{
-    match action {
-        Action::Say(Answer::Refusal(Refusal::TooManyLogins)) => Some(SessionRefusal::TooManyLogins),
-        Action::Say(Answer::Refusal(Refusal::NoGuarantee)) => Some(SessionRefusal::NoGuarantee),
-        Action::Say(Answer::Refusal(Refusal::TooManyHeldLines)) => {
-            Some(SessionRefusal::TooManyHeldLines)
-        }
-        _ => None,
-    }
-}
-
 // A transfer that was begun, at `since` in microseconds.
 #[derive(Clone, Copy)]
 struct Begun {
@@ -258,6 +214,8 @@ pub struct SocketHost<'h, R, S: Store<Global>, H: Drop, B: PartsName, T> {
     // the session, as the owner's handler knows it
     own: ClientSession,
     waits: Waits,
+    // when the port that is kept was looked after
+    watch: PortWatch,
     // the last transfer that was begun
     begun: Begun,
     // the path of the last file that was opened, if it is known
@@ -291,6 +249,7 @@ where
         ensures own { result.own ≡ own }
     {
         let SessionNeeds { held, no_floors } = needs;
+        let now = micros(rt);
         SocketHost {
             rt,
             house,
@@ -298,7 +257,8 @@ where
             socket,
             side,
             own,
-            waits: Waits::new(micros(rt)),
+            waits: Waits::new(now),
+            watch: PortWatch::new(now),
             begun: Begun {
                 since: 0,
                 kind: TransferKind::Listed,
@@ -321,6 +281,7 @@ where
             side,
             own: _,
             waits: _,
+            watch: _,
             begun: _,
             path: _,
             is_wrong: _,
@@ -634,9 +595,23 @@ where
         let is_busy = self.side.is_busy();
         let piece = self.socket.read(is_busy, buffer)?;
         if is_life(is_busy, piece) {
-            self.waits.hear(micros(self.rt));
+            let now = micros(self.rt);
+            self.waits.hear(now);
+            self.watch.hear(now);
         }
         Ok(piece)
+    }
+
+    // Looks after the port that the session keeps, each second.
+    fn tend_port(&mut self)
+        ensures standing { self.new.standing ≡ self.old.standing }
+        ensures payer { self.new.side.run.payer ≡ self.old.side.run.payer }
+    {
+        let now = micros(self.rt);
+        if self.watch.is_due(now) {
+            let is_silent = self.watch.is_silent(now);
+            self.side.tend_kept(is_silent);
+        }
     }
 
     // Passes on the events of the data side after the end of the control connection.
@@ -745,6 +720,7 @@ where
             let _ = self.socket.write(reply, &self.house.ending);
             return Ok(Piece::AtEnd);
         }
+        self.tend_port();
         if self.side.rest() {
             return Ok(Piece::Nothing);
         }

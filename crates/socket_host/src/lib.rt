@@ -16,6 +16,7 @@ mod host;
 mod keeping;
 mod moments;
 mod ports;
+mod refusals;
 mod replying;
 mod run;
 mod running;

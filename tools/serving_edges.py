@@ -285,6 +285,28 @@ def a_kept_passive_port():
         server.ended()
 
 
+def a_kept_port_of_a_silent_client():
+    """Who connects to a port that is kept is closed within seconds, while the client is silent; after ten seconds the port is closed."""
+    with Server(sessions=1, server="max_cons = 2", passive=2) as server:
+        client = Client(server)
+        port = client.passive_port()
+        client.says("RETR f", "150 Opening data connection")
+        same(Data(port).whole(), b"a\nb", "the file")
+        client.says(None, "226 Transfer complete")
+        strangers = [Data(port) for _ in range(10)]
+        begun = time.monotonic()
+        for stranger in strangers:
+            want(is_unread(stranger), "a stranger got octets")
+        taken = time.monotonic() - begun
+        want(taken < 8, f"strangers were closed after {taken:.1f} seconds")
+        want(not is_closed("127.0.0.1", port), "the port is closed while its client may still want it")
+        time.sleep(12)
+        until(lambda: is_closed("127.0.0.1", port), "the end of the kept port")
+        same(client.retrieve("f"), b"a\nb", "the file")
+        client.quit()
+        server.ended()
+
+
 def a_listing_delays_nobody():
     """While a session lists many entries of a folder, another has its own calls answered."""
     with Server(sessions=2, root="folder", files={"f": b"abc", "big": None}) as server:
@@ -406,6 +428,7 @@ ROWS = [
     it_listens_at_its_address_alone,
     time_outs_are_set,
     a_kept_passive_port,
+    a_kept_port_of_a_silent_client,
     a_listing_delays_nobody,
     a_brief_download_wakes_no_lane,
     files_of_any_length,

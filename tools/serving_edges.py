@@ -10,7 +10,7 @@ import struct
 import threading
 import time
 
-from serving_kit import SECONDS, Client, Data, Server, same, until, want
+from serving_kit import SECONDS, Client, Data, Server, is_unread, same, until, want
 
 # The second address of this machine's loop.
 OTHER = "127.0.0.2"
@@ -222,14 +222,6 @@ def time_outs_are_set():
             client.says(None, "226 Transfer complete")
         client.quit()
         server.ended()
-
-
-def is_unread(data):
-    """Whether a data connection is closed without an octet."""
-    try:
-        return data.whole() == b""
-    except ConnectionResetError:
-        return True
 
 
 def a_kept_passive_port():

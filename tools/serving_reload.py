@@ -5,6 +5,7 @@ import time
 
 from serving_drain import drained
 from serving_kit import SECONDS, Client, Server, same, until, want
+from serving_limits import is_served
 
 RATE = 2_000_000
 MUCH = 400_000_000
@@ -13,7 +14,7 @@ USERS = {"ann": "", "bob": ""}
 
 def text_of(server, rate=RATE, users=None, more="", head=""):
     """The text of a configuration for a server: its own address, ports and folder, with a rate and users."""
-    table = f'version = 1\n[server]\nroot = "{server.folder}"\nport = {server.port}\nsessions = 0\nlanes = 16\nrate = {rate}\n'
+    table = f'version = {2 if more else 1}\n[server]\nroot = "{server.folder}"\nport = {server.port}\nsessions = 0\nlanes = 16\nrate = {rate}\n'
     ports = f"passive_first = {server.port + 1}\npassive_last = {server.port + server.passive}\n"
     rows = "".join(
         f'[[user]]\nname = "{name}"\npassword = "secret"\nhome = "/"\nperms = "elradfmw"\n{lines}\n' for name, lines in (USERS if users is None else users).items()
@@ -108,7 +109,7 @@ def fewer_connections_than_there_are():
                 same(clients[-1].retrieve("f"), b"a\nb", "a client who was there")
                 clients.pop().quit()
                 until(lambda: server.noted().count("disconnect\n") >= 3 - len(clients), "one who has left")
-            Client(server).quit()
+            until(lambda: is_served(server), "a place")
             for client in clients:
                 client.quit()
             server.stop()
@@ -175,8 +176,9 @@ def who_is_taken_out_keeps_their_rates():
         both = pairs["ann"] + pairs["bob"]
         moved_in(both, 1.5)
         server.reloaded(text_of(server, 0, {"cleo": ""}))
-        moved_in(both, 1)
         for name, rate in (("ann", 200_000), ("bob", 100_000)):
+            # (what waits is read first)
+            moved_in(both, 1)
             had = moved_in(pairs[name], 3)
             want(had < 3 * rate * 1.1 + 131_072, f"{had} octets of {name} in three seconds, out of the file, under {rate}")
         server.reloaded(text_of(server, 0, limits, group))

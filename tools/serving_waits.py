@@ -26,8 +26,8 @@ ALONE = """exec unshare -rn sh -c 'ip link set lo up; exec "$@"' sh "$@\""""
 HANGS = "the machine holds no call back (strace), so this row is left out"
 
 
-def ends(server, sign=Server.stop, tracer=None):
-    """Gives a server a sign, and wants that it ends promptly, settled."""
+def ends(server, sign=Server.stop, tracer=None, status=0):
+    """Gives a server a sign, and wants that it ends promptly, settled, with a status."""
     begun = time.monotonic()
     sign(server)
     until(lambda: is_over(server), "the end of the process")
@@ -36,7 +36,7 @@ def ends(server, sign=Server.stop, tracer=None):
     if tracer:
         # (what is left of a thread that it holds goes with it)
         tracer.kill()
-    server.ended()
+    server.ended(status)
 
 
 def is_over(server):
@@ -185,7 +185,7 @@ def a_transfer_log_that_is_a_pipe():
         other = Server(sessions=0, words=["--transfer-log", "pipe"])
         os.mkfifo(f"{other.place}/pipe")
         status, output, noted = other.run()
-        wanted = "the transfer log pipe could not be opened: Operation not supported (os error 95)\nftpd: TransferLog\n"
+        wanted = "pipe is no transfer log: move it away, or state another path\nftpd: TransferLog\n"
         same((status, output, noted), (1, "", wanted), "a log that is a pipe")
         transferred(server, 1)
         until(lambda: lines_of(f"{server.place}/log") == 1, "the first line")
@@ -208,7 +208,9 @@ def a_transfer_log_that_hangs():
                 client.retrieve("f" * 200)
             client.quit()
             until(lambda: server.noted().count("sent ") == 400, "all notes")
-            ends(server)
+            # (lines are lost, which is told)
+            ends(server, status=1)
+            want(re.search(r"lines of the transfer log dropped: \d+\nftpd: TransferLog\n$", server.noted()), "the note of the lines that are lost")
     finally:
         os.close(reader)
         os.close(writer)

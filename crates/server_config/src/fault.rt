@@ -10,7 +10,7 @@ use crate::group_problem::GroupProblem;
 use crate::similar::similar_to;
 use crate::store_problem::StoreProblem;
 use crate::user_problem::UserProblem;
-use config_file::{Fault, Header, KeyFault, Problem, TableName};
+use config_file::{Fault, Header, KeyFault, KeyKind, MAX_RATE, Problem, TableName};
 use std::alloc::{AllocError, Global};
 use std::fmt;
 use thiserror::Error;
@@ -53,7 +53,7 @@ pub enum ConfigFault {
         error: toml::de::Error,
     },
     /// A key is unknown, missing, of the wrong kind or out of range.
-    #[error("{header}: {}: {problem}{}", Shown(.key.name.as_str()), Hint(.key.similar))]
+    #[error("{header}: {}: {problem}{}", Shown(.key.name.as_str()), Hint(.key, *.problem))]
     Key {
         header: OwnedHeader,
         key: OwnedKey,
@@ -156,16 +156,33 @@ impl fmt::Display for OwnedHeader {
     }
 }
 
-/// A hint at a key that may have been meant.
+/// A hint at a key that may have been meant, or at how a number is written.
 #[derive(Clone, Copy)]
-struct Hint(Option<&'static str>);
+struct Hint<'a>(&'a OwnedKey, Problem);
 
-impl fmt::Display for Hint {
+impl fmt::Display for Hint<'_> {
     fn fmt<W: fmt::Write>(&self, f: &mut fmt::Formatter<W>) -> fmt::Result {
-        match self.0 {
-            Some(similar) => write!(f, "; a similar key is {similar}"),
-            None => Ok(()),
+        let Hint(key, problem) = self;
+        if let Some(similar) = key.similar {
+            return write!(f, "; a similar key is {similar}");
         }
+        match problem {
+            Problem::WrongKind(KeyKind::Number { high, .. }) => {
+                f.write_str(number_hint(key.name.as_str(), *high))
+            }
+            _ => Ok(()),
+        }
+    }
+}
+
+/// The manner in which the number of a key is written that is at most `high`.
+fn number_hint(key: &str, high: u64) -> &'static str {
+    if high != MAX_RATE {
+        "; write it in digits, without quotes and without a point"
+    } else if key == "capacity" {
+        "; write octets in digits, as 1_048_576"
+    } else {
+        "; write octets a second in digits, as 6_250_000 for 50 Mbit/s"
     }
 }
 

@@ -1,6 +1,6 @@
 """A second reading of configurations: the tables of docs/configuration.md as data, and the first fault of a document.
 
-`first_fault` judges what `tomllib` made of a file, and answers the two lines that the program is wanted to tell, or nothing
+`first_fault` judges what `tomllib` made of a file's text, and answers the two lines that the program is wanted to tell, or nothing
 where the file is a configuration. Nothing here knows how the program goes about it.
 """
 import re
@@ -306,10 +306,20 @@ def store_fault(document):
             entries[path] = None if text is None else len(text.encode())
 
 
-def first_fault(document):
+def line_of(text, told):
+    """The line of the table's header, by the text alone: that of this row among the lines that begin with it after blanks."""
+    place = re.match(r"(\[server\]|\[\[(?:group|user|dir|file)\]\])(?: ([0-9]+))?[ :]", told)
+    if not place:
+        return ""
+    lines = [number for number, line in enumerate(text.split("\n"), 1) if line.lstrip(" \t").startswith(place[1])]
+    row = int(place[2] or 1)
+    return f"line {lines[row - 1]}: " if row <= len(lines) else ""
+
+
+def first_fault(text, document):
     """The first fault of what a file states, or nothing."""
     for judged in (tables_fault, groups_fault, users_fault, store_fault):
         for found in judged(document):
             if found:
-                return found
+                return Fault(line_of(text, found.told) + found.told, found.name)
     return None

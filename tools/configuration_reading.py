@@ -1,6 +1,6 @@
 """A second reading of configurations: the tables of docs/configuration.md as data, and the first fault of a document.
 
-`first_fault` judges what `tomllib` made of a file, and answers the two lines that the program is wanted to tell, or nothing
+`first_fault` judges what `tomllib` made of a file's text, and answers the two lines that the program is wanted to tell, or nothing
 where the file is a configuration. Nothing here knows how the program goes about it.
 """
 import re
@@ -11,12 +11,17 @@ LONGEST_NAME, LONGEST_PATH = 255, 4096
 # How many characters of a name or a key are shown.
 LONGEST_SHOWN = 64
 LETTERS = set("elradfmw")
+# Letters of another server, and what is told of them.
+FOREIGN_LETTERS = {
+    "M": "; M is for changed modes, and files have none here", "T": "; T is for stated times of change, and they are not stated here",
+}
 # By how many letters a key may be mistyped, so that another is told.
 MOST_EDITS = 2
 ROOT = ()
 
-# What a key may hold: the words for it, whether a value is of the kind, and whether one of the kind is within its range.
-Kind = namedtuple("Kind", "words fits is_within")
+# What a key may hold: the words for it, whether a value is of the kind, whether one of the kind is within its range, and how it is
+# written, which is told where a value is of another kind.
+Kind = namedtuple("Kind", "words fits is_within hint", defaults=[""])
 # A key with no default must be there.
 Key = namedtuple("Key", "kind is_needed")
 # Where a fault is, and what is the matter there.
@@ -40,8 +45,8 @@ def is_address(text):
     return len(parts) == 4 and all(re.fullmatch("0|[1-9][0-9]{0,2}", it) and int(it) < 256 for it in parts)
 
 
-def number(low, high):
-    return Kind(f"a number from {low} to {high}", is_number, lambda value: low <= value <= high)
+def number(low, high, hint="; write it in digits, without quotes and without a point"):
+    return Kind(f"a number from {low} to {high}", is_number, lambda value: low <= value <= high, hint)
 
 
 def always(_value):
@@ -54,7 +59,9 @@ FLAG = Kind("true or false", lambda value: isinstance(value, bool), always)
 ADDRESS = Kind('an IPv4 address, as "127.0.0.1"', is_text, is_address)
 TABLE = Kind("a table", lambda value: isinstance(value, dict), always)
 ROWS = Kind("tables in double brackets", lambda value: isinstance(value, list), always)
-PORT, RATE, VERSION = number(1, 65535), number(0, MAX_RATE), number(1, 2)
+PORT, VERSION = number(1, 65535), number(1, 2)
+RATE = number(0, MAX_RATE, "; write octets a second in digits, as 6_250_000 for 50 Mbit/s")
+OCTETS = number(0, MAX_RATE, "; write octets in digits, as 1_048_576")
 MOMENT = number(0, 253402300799)
 
 
@@ -68,7 +75,7 @@ def may(kind):
 
 TOP = {"version": must(VERSION), "server": must(TABLE), "group": may(ROWS), "user": may(ROWS), "dir": may(ROWS), "file": may(ROWS)}
 SERVER = {
-    "address": may(ADDRESS), "port": may(PORT), "root": must(LINE), "capacity": may(RATE), "banner": may(LINE),
+    "address": may(ADDRESS), "port": may(PORT), "root": must(LINE), "capacity": may(OCTETS), "banner": may(LINE),
     "max_cons": may(number(1, 512)), "max_cons_per_address": may(number(0, 512)), "max_login_attempts": may(number(1, 100)),
     "permit_foreign_addresses": may(FLAG), "permit_privileged_ports": may(FLAG), "masquerade_address": may(ADDRESS),
     "passive_first": must(PORT), "passive_last": must(PORT), "lanes": may(number(1, 64)), "sessions": may(number(0, 2 ** 32)),
@@ -111,7 +118,7 @@ def key_fault(place, key, problem, name):
 def fault_at(place, key, kind, value):
     """The fault of a value at a key, or nothing."""
     if not kind.fits(value):
-        return key_fault(place, key, f"of the wrong kind; it must be {kind.words}", "WrongKind")
+        return key_fault(place, key, f"of the wrong kind; it must be {kind.words}{kind.hint}", "WrongKind")
     if not kind.is_within(value):
         return key_fault(place, key, f"out of range; it must be {kind.words}", "OutOfRange")
     return None
@@ -134,7 +141,10 @@ LATEST = {
 
 
 def similar_to(key, keys):
-    """What is told of the first key that is most similar to one, where few letters lead there."""
+    """What is told of the first key whose last words are this one, or else of the most similar, where few letters lead there."""
+    for it in keys:
+        if it.endswith("_" + key):
+            return f"; a similar key is {it}"
     most = min(MOST_EDITS, len(key) - 1)
     edits = {it: edits_between(key, it) for it in keys}
     near = {it: count for it, count in edits.items() if 0 < count <= most}
@@ -230,7 +240,7 @@ def refusal_of(letters, path):
     """Why letters with a path are refused, or nothing."""
     strays = [it for it in letters if it not in LETTERS]
     if strays:
-        return f"{quoted(strays[0])} is no permission letter; the letters are {' '.join(sorted(LETTERS))}"
+        return f"{quoted(strays[0])} is no permission letter; the letters are {' '.join(sorted(LETTERS))}{FOREIGN_LETTERS.get(strays[0], '')}"
     return "not a path" if path_of(path) is None else None
 
 
@@ -296,10 +306,20 @@ def store_fault(document):
             entries[path] = None if text is None else len(text.encode())
 
 
-def first_fault(document):
+def line_of(text, told):
+    """The line of the table's header, by the text alone: that of this row among the lines that begin with it after blanks."""
+    place = re.match(r"(\[server\]|\[\[(?:group|user|dir|file)\]\])(?: ([0-9]+))?[ :]", told)
+    if not place:
+        return ""
+    lines = [number for number, line in enumerate(text.split("\n"), 1) if line.lstrip(" \t").startswith(place[1])]
+    row = int(place[2] or 1)
+    return f"line {lines[row - 1]}: " if row <= len(lines) else ""
+
+
+def first_fault(text, document):
     """The first fault of what a file states, or nothing."""
     for judged in (tables_fault, groups_fault, users_fault, store_fault):
         for found in judged(document):
             if found:
-                return found
+                return Fault(line_of(text, found.told) + found.told, found.name)
     return None

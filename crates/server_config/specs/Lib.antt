@@ -1,6 +1,7 @@
 pub mod Configs
 pub mod Faults
 pub mod Groups
+pub mod HeaderLines
 pub mod Migrated
 pub mod Numbers
 pub mod RateRows

@@ -3,6 +3,7 @@
 ghost use Rattle.std.specs.Prelude.{◌≡◌, IfErr, IfOk, Some, length};
 ghost use Rattle.toml.specs.Parse.{parse_document};
 ghost use Rattle.toml.specs.View.{table_view};
+ghost use Rattle.server_config.specs.HeaderLines.{HasLine};
 ghost use Rattle.server_config.specs.Configs.{IsMadeOf, IsConfig, IsConfigText};
 ghost use Rattle.server_config.specs.Refused.{IsFaultOf, IsFaultOfTables, IsFaultOfText};
 
@@ -41,6 +42,7 @@ pub struct Config {
 pub(crate) fn read_document(alloc: Global, octets: &[u8]) -> Result<Table, ConfigFault>
     ensures document { IfOk result (λ table. parse_document octets.now ≡ Some (table_view table)) }
     ensures refused { IfErr result (IsFaultOfText octets.now) }
+    ensures line { IfErr result (HasLine octets.now) }
 {
     match toml::table_from_slice(alloc, octets) {
         Ok(table) => Ok(table),
@@ -48,27 +50,28 @@ pub(crate) fn read_document(alloc: Global, octets: &[u8]) -> Result<Table, Confi
     }
 }
 
-/// The configuration that the tables of a file make.
-fn made_of(alloc: Global, tables: &Tables) -> Result<Config, ConfigFault>
+/// The configuration that the tables of a file make, whose text is `octets`.
+fn made_of(alloc: Global, octets: &[u8], tables: &Tables) -> Result<Config, ConfigFault>
     requires paired { length tables.now.overrides.items ≡ length tables.now.users.items }
     ensures made { IfOk result (IsMadeOf tables.now) }
     ensures refused { IfErr result (IsFaultOfTables tables.now) }
+    ensures line { IfErr result (HasLine octets.now) }
 {
     let (groups, users) = (tables.groups.as_slice(), tables.users.as_slice());
     let names = group_names(alloc, groups)?;
     let rows = match read_rows(alloc, groups, users) {
         Ok(rows) => rows,
-        Err(fault) => return Err(of_groups(alloc, fault)),
+        Err(fault) => return Err(of_groups(alloc, octets, fault)),
     };
     let overrides = tables.overrides.as_slice();
     let authorizer = match make_users(alloc, users, overrides, rows.users.as_slice()) {
         Ok(authorizer) => authorizer,
-        Err(fault) => return Err(of_users(alloc, fault)),
+        Err(fault) => return Err(of_users(alloc, octets, fault)),
     };
     let (dirs, files) = (tables.dirs.as_slice(), tables.files.as_slice());
     let store = match make_store(alloc, &tables.server, dirs, files) {
         Ok(store) => store,
-        Err(fault) => return Err(of_store(alloc, fault)),
+        Err(fault) => return Err(of_store(alloc, octets, fault)),
     };
     Ok(Config {
         settings: settings_of(alloc, &tables.server)?,
@@ -80,15 +83,20 @@ fn made_of(alloc: Global, tables: &Tables) -> Result<Config, ConfigFault>
     })
 }
 
-/// The configuration that a document states.
+/// The configuration that a document states, whose text is `octets`.
 #[tactic(auto, using(crate::proofs::Refusing::key_refused))]
-pub(crate) fn config_of(alloc: Global, document: &Table) -> Result<Config, ConfigFault>
+pub(crate) fn config_of(
+    alloc: Global,
+    octets: &[u8],
+    document: &Table,
+) -> Result<Config, ConfigFault>
     ensures config { IfOk result (IsConfig (table_view document.now)) }
     ensures refused { IfErr result (IsFaultOf (table_view document.now)) }
+    ensures line { IfErr result (HasLine octets.now) }
 {
     match read_tables(alloc, document) {
-        Ok(tables) => made_of(alloc, &tables),
-        Err(fault) => Err(of_key(alloc, fault)),
+        Ok(tables) => made_of(alloc, octets, &tables),
+        Err(fault) => Err(of_key(alloc, octets, fault)),
     }
 }
 
@@ -98,8 +106,9 @@ impl Config {
     pub fn read(alloc: Global, octets: &[u8]) -> Result<Config, ConfigFault>
         ensures config { IfOk result (IsConfigText octets.now) }
         ensures refused { IfErr result (IsFaultOfText octets.now) }
+        ensures line { IfErr result (HasLine octets.now) }
     {
         let document = read_document(alloc, octets)?;
-        config_of(alloc, &document)
+        config_of(alloc, octets, &document)
     }
 }

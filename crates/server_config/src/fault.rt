@@ -4,13 +4,15 @@ ghost use Rattle.std.specs.Prelude.{◌≡◌, IfErr, IfOk};
 ghost use Rattle.config_file.specs.Lists.{place_of};
 ghost use Rattle.server_config.specs.Refused.{IsAt, IsKeyFault, owned_place, ReportsGroup, ReportsKey, ReportsStore, ReportsText, ReportsUser};
 ghost use Rattle.server_config.specs.Faults.{name_of};
+ghost use Rattle.server_config.specs.HeaderLines.{HasLine, IsAtLine, line_of};
 ghost use Rattle.server_config.specs.declared.fault.ConfigFault.TheVariants.{Memory};
 
 use crate::group_problem::GroupProblem;
+use crate::headers::{head_of, header_line};
 use crate::similar::similar_to;
 use crate::store_problem::StoreProblem;
 use crate::user_problem::UserProblem;
-use config_file::{Fault, Header, KeyFault, Problem, TableName};
+use config_file::{Fault, Header, KeyFault, KeyKind, MAX_RATE, Problem, TableName};
 use std::alloc::{AllocError, Global};
 use std::fmt;
 use thiserror::Error;
@@ -27,6 +29,9 @@ pub struct OwnedHeader {
     /// The name that the row states; of an override, the name of its user; of a directory or a file that
     /// cannot be made, its path.
     pub name: Option<String>,
+    /// The line of the text that has the table's header, from 1; none for the keys above all tables, for overrides, and
+    /// for a header in another spelling.
+    pub line: Option<usize>,
 }
 
 /// A key of a file, and the one that may have been meant if it is unknown.
@@ -53,7 +58,7 @@ pub enum ConfigFault {
         error: toml::de::Error,
     },
     /// A key is unknown, missing, of the wrong kind or out of range.
-    #[error("{header}: {}: {problem}{}", Shown(.key.name.as_str()), Hint(.key.similar))]
+    #[error("{header}: {}: {problem}{}", Shown(.key.name.as_str()), Hint(.key, *.problem))]
     Key {
         header: OwnedHeader,
         key: OwnedKey,
@@ -145,6 +150,9 @@ impl fmt::Display for Shown<'_> {
 
 impl fmt::Display for OwnedHeader {
     fn fmt<W: fmt::Write>(&self, f: &mut fmt::Formatter<W>) -> fmt::Result {
+        if let Some(line) = self.line {
+            write!(f, "line {line}: ")?;
+        }
         write!(f, "{}", self.table)?;
         if self.row > 0 {
             write!(f, " {}", self.row)?;
@@ -156,21 +164,69 @@ impl fmt::Display for OwnedHeader {
     }
 }
 
-/// A hint at a key that may have been meant.
+/// A hint at a key that may have been meant, or at how a number is written.
 #[derive(Clone, Copy)]
-struct Hint(Option<&'static str>);
+struct Hint<'a>(&'a OwnedKey, Problem);
 
-impl fmt::Display for Hint {
+impl fmt::Display for Hint<'_> {
     fn fmt<W: fmt::Write>(&self, f: &mut fmt::Formatter<W>) -> fmt::Result {
-        match self.0 {
-            Some(similar) => write!(f, "; a similar key is {similar}"),
-            None => Ok(()),
+        let Hint(key, problem) = self;
+        if let Some(similar) = key.similar {
+            return write!(f, "; a similar key is {similar}");
+        }
+        match problem {
+            Problem::WrongKind(KeyKind::Number { high, .. }) => {
+                f.write_str(number_hint(key.name.as_str(), *high))
+            }
+            Problem::Missing(_) => f.write_str(missing_hint(key.name.as_str())),
+            Problem::Unknown => f.write_str(other_place(key.name.as_str())),
+            _ => Ok(()),
         }
     }
 }
 
-fn owned(alloc: Global, header: Header) -> Result<OwnedHeader, AllocError>
+/// The line that most files without a key lack.
+fn missing_hint(key: &str) -> &'static str {
+    match key {
+        "version" => "; write version = 2 in the first line",
+        _ => "",
+    }
+}
+
+/// The place of a setting that is no key of any table.
+fn other_place(key: &str) -> &'static str {
+    match key {
+        "override" => "; write [[user.override]] after the [[user]] that it is for",
+        "tls" => "; there is no TLS but that of a proxy before the server",
+        "umask" => "; it is that of the process, as UMask= of a unit",
+        _ => "",
+    }
+}
+
+/// The manner in which the number of a key is written that is at most `high`.
+fn number_hint(key: &str, high: u64) -> &'static str {
+    if high != MAX_RATE {
+        "; write it in digits, without quotes and without a point"
+    } else if key == "capacity" {
+        "; write octets in digits, as 1_048_576"
+    } else {
+        "; write octets a second in digits, as 6_250_000 for 50 Mbit/s"
+    }
+}
+
+/// The line of a text that has the header of a table.
+fn line_of(octets: &[u8], header: Header) -> Option<usize>
+    ensures line { result ≡ line_of octets.now header.entry.table header.entry.row }
+{
+    match head_of(header.table) {
+        Some(head) => header_line(octets, head, header.row),
+        None => None,
+    }
+}
+
+fn owned(alloc: Global, octets: &[u8], header: Header) -> Result<OwnedHeader, AllocError>
     ensures place { IfOk result (λ owned. owned_place owned ≡ place_of header.entry) }
+    ensures line { IfOk result (IsAtLine octets.now) }
 {
     let name = match header.name {
         Some(name) => Some(String::from_str(alloc, name)?),
@@ -180,6 +236,7 @@ fn owned(alloc: Global, header: Header) -> Result<OwnedHeader, AllocError>
         table: header.table,
         row: header.row,
         name,
+        line: line_of(octets, header),
     })
 }
 
@@ -212,18 +269,20 @@ fn place_of(octets: &[u8], count: usize) -> TextPlace {
 
 fn key_fault(
     alloc: Global,
+    octets: &[u8],
     header: Header,
     key: &str,
     problem: Problem,
 ) -> Result<ConfigFault, AllocError>
     ensures reported { IfOk result (IsKeyFault (place_of header.entry) key.now problem) }
+    ensures line { IfOk result (HasLine octets.now) }
 {
     let similar = match problem {
         Problem::Unknown => similar_to(alloc, header.table, key)?,
         _ => None,
     };
     Ok(ConfigFault::Key {
-        header: owned(alloc, header)?,
+        header: owned(alloc, octets, header)?,
         key: OwnedKey {
             name: String::from_str(alloc, key)?,
             similar,
@@ -233,23 +292,29 @@ fn key_fault(
 }
 
 /// Makes the header and the problem of a fault.
-fn located<P: Drop>(alloc: Global, fault: Fault<P>) -> Result<(OwnedHeader, P), ConfigFault>
+fn located<P: Drop>(
+    alloc: Global,
+    octets: &[u8],
+    fault: Fault<P>,
+) -> Result<(OwnedHeader, P), ConfigFault>
     ensures at { IfOk result (λ found. IsAt fault.entry found.0 found.1) }
+    ensures line { IfOk result (λ found. IsAtLine octets.now found.0) }
     ensures memory { IfErr result (λ why. why ≡ Memory) }
 {
     match fault {
-        Fault::At { header, problem } => Ok((owned(alloc, header)?, problem)),
+        Fault::At { header, problem } => Ok((owned(alloc, octets, header)?, problem)),
         Fault::Memory => Err(ConfigFault::Memory),
     }
 }
 
 /// The fault of a table's key.
-pub(crate) fn of_key(alloc: Global, fault: Fault<KeyFault>) -> ConfigFault
+pub(crate) fn of_key(alloc: Global, octets: &[u8], fault: Fault<KeyFault>) -> ConfigFault
     ensures reported { ReportsKey fault.entry result }
+    ensures line { HasLine octets.now result }
 {
     match fault {
         Fault::At { header, problem } => {
-            match key_fault(alloc, header, problem.key, problem.problem) {
+            match key_fault(alloc, octets, header, problem.key, problem.problem) {
                 Ok(fault) => fault,
                 Err(_) => ConfigFault::Memory,
             }
@@ -259,30 +324,33 @@ pub(crate) fn of_key(alloc: Global, fault: Fault<KeyFault>) -> ConfigFault
 }
 
 /// The fault of groups.
-pub(crate) fn of_groups(alloc: Global, fault: Fault<GroupProblem>) -> ConfigFault
+pub(crate) fn of_groups(alloc: Global, octets: &[u8], fault: Fault<GroupProblem>) -> ConfigFault
     ensures reported { ReportsGroup fault.entry result }
+    ensures line { HasLine octets.now result }
 {
-    match located(alloc, fault) {
+    match located(alloc, octets, fault) {
         Ok((header, problem)) => ConfigFault::BadGroup { header, problem },
         Err(memory) => memory,
     }
 }
 
 /// The fault of users.
-pub(crate) fn of_users(alloc: Global, fault: Fault<UserProblem>) -> ConfigFault
+pub(crate) fn of_users(alloc: Global, octets: &[u8], fault: Fault<UserProblem>) -> ConfigFault
     ensures reported { ReportsUser fault.entry result }
+    ensures line { HasLine octets.now result }
 {
-    match located(alloc, fault) {
+    match located(alloc, octets, fault) {
         Ok((header, problem)) => ConfigFault::BadUser { header, problem },
         Err(memory) => memory,
     }
 }
 
 /// The fault of a store.
-pub(crate) fn of_store(alloc: Global, fault: Fault<StoreProblem>) -> ConfigFault
+pub(crate) fn of_store(alloc: Global, octets: &[u8], fault: Fault<StoreProblem>) -> ConfigFault
     ensures reported { ReportsStore fault.entry result }
+    ensures line { HasLine octets.now result }
 {
-    match located(alloc, fault) {
+    match located(alloc, octets, fault) {
         Ok((header, problem)) => ConfigFault::BadStore { header, problem },
         Err(memory) => memory,
     }

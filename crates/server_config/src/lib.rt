@@ -18,7 +18,7 @@
 //!
 //! `config` joins the parts. `fault` is the first refusal with its place, and `group_problem`,
 //! `user_problem` and `store_problem` say what is wrong there; `similar` finds the key that may have
-//! been meant. `migration` prints a file in version 2, unless it is too deep (`depth`). `numbers` is a
+//! been meant, `headers` the line of a table. `migration` prints a file in version 2, unless it is too deep (`depth`). `numbers` is a
 //! law: a user has one number in all parts.
 //!
 //! docs/configuration.md has each key with its kind, its range and its default, and the order of the faults.
@@ -30,6 +30,7 @@ mod fault;
 mod group_names;
 mod group_problem;
 mod groups;
+mod headers;
 mod limits;
 mod migration;
 mod numbers;

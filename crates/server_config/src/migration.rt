@@ -60,7 +60,7 @@ pub fn migrate(alloc: Global, octets: &[u8]) -> Result<String, ConfigFault>
     ensures refused { IfErr result (IsUnmigrated octets.now) }
 {
     let mut document = read_document(alloc, octets)?;
-    let _config = config_of(alloc, &document)?;
+    let _config = config_of(alloc, octets, &document)?;
     set_version(alloc, &mut document)?;
     print(alloc, &document)
 }

@@ -14,7 +14,7 @@ use thiserror::Error;
 #[derive(Clone, Copy, Debug, PartialEq, Eq, Error)]
 pub enum UserProblem {
     /// The first character of the stated letters that is no permission letter.
-    #[error("{0:?} is no permission letter; the letters are {letters}", letters = AllLetters)]
+    #[error("{}", StrayLetter(*.0))]
     BadLetter(char),
     /// The authorizer's refusal, if it is not for a letter.
     #[error("{0}")]
@@ -36,6 +36,31 @@ impl fmt::Display for AllLetters {
             }
         }
         Ok(())
+    }
+}
+
+/// A character that is no permission letter.
+#[derive(Clone, Copy)]
+struct StrayLetter(char);
+
+impl fmt::Display for StrayLetter {
+    fn fmt<W: fmt::Write>(&self, f: &mut fmt::Formatter<W>) -> fmt::Result {
+        let letter = self.0;
+        let hint = letter_hint(letter);
+        write!(
+            f,
+            "{letter:?} is no permission letter; the letters are {}{hint}",
+            AllLetters
+        )
+    }
+}
+
+/// The use of a letter that is one of other servers alone.
+fn letter_hint(character: char) -> &'static str {
+    match character {
+        'M' => "; M is for changed modes, and files have none here",
+        'T' => "; T is for stated times of change, and they are not stated here",
+        _ => "",
     }
 }
 

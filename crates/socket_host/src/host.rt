@@ -602,7 +602,7 @@ where
         Ok(piece)
     }
 
-    // Looks after the port that the session keeps, each second.
+    // Looks after the ports of the session, each second.
     fn tend_port(&mut self)
         ensures standing { self.new.standing ≡ self.old.standing }
         ensures payer { self.new.side.run.payer ≡ self.old.side.run.payer }
@@ -610,7 +610,7 @@ where
         let now = micros(self.rt);
         if self.watch.is_due(now) {
             let is_silent = self.watch.is_silent(now);
-            self.side.tend_kept(is_silent);
+            self.side.tend_ports(is_silent);
         }
     }
 

@@ -1,11 +1,30 @@
 //! The passive ports of a server, for one of its sessions.
 
+ghost use Rattle.std.specs.Prelude.{◌≡◌, IfSome};
+
 use passive_ports::{PortHost, RestingPorts};
 use server_config::ServerNumbers;
-use server_house::{OwnAddress, listen};
+use server_house::{OwnAddress, PeerConnection, accept_from, listen};
 use std::io;
 use std::net::{Net, TcpListener, TcpStream};
 use std::sync::{Mutex, Wait};
+
+/// Crowds of strangers, each as large as one call of `accept_from` closes, behind which a client is looked for at once.
+/// The machine has queues of 128 connections, unless it is told otherwise.
+const CROWDS: u32 = 9;
+
+/// The connection of this peer, or of anybody if no peer is given, that waits at a listener, behind strangers, who are
+/// closed.
+pub(crate) fn early_of(listener: &TcpListener, peer: Option<[u8; 4]>) -> Option<PeerConnection>
+    ensures peer { IfSome result (λ connection. connection.peer ≡ peer) }
+{
+    for _ in 0..CROWDS {
+        if let Some(connection) = accept_from(listener, peer) {
+            return Some(connection);
+        }
+    }
+    None
+}
 
 /// The passive ports behind their lock, and the numbers of the server that listens on them.
 #[derive(Drop)]

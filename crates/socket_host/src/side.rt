@@ -12,7 +12,7 @@ ghost use Rattle.transfer_ticket.specs.Views.{owner_view};
 ghost use Rattle.transfer_ticket.specs.declared.view.TicketView.TheVariants.{Idle};
 
 use crate::keeping::KeptPort;
-use crate::ports::SharedPorts;
+use crate::ports::{SharedPorts, early_of};
 use crate::run::{SessionRun, Taken};
 use crate::running::{Prepared, Running, is_brief, is_upload, over};
 use event_word::{has_passed, micros};
@@ -20,8 +20,8 @@ use ftp_wire::HostPort;
 use lent_parts::PartsName;
 use passive_ports::{MOST_TRIES, open_passive};
 use server_house::{
-    DataConnection, EndCause, House, LaneEnds, Outgoing, OwnRuns, Progress, ServerRuntime,
-    SessionEnd, SessionJob, TransferEnd, accept_from, empty_queue, socket_address,
+    DataConnection, EndCause, House, LaneEnds, Outgoing, OwnRuns, PeerConnection, Progress,
+    ServerRuntime, SessionEnd, SessionJob, TransferEnd, accept_from, empty_queue, socket_address,
 };
 use session_table::{End, Input, Job};
 use std::alloc::Global;
@@ -107,6 +107,8 @@ pub struct SocketSide<'h, R, S: Store<Global>, H: Drop, B: PartsName, T> {
     session: u32,
     run: SessionRun<'h, S>,
     prepared: Prepared,
+    // the client's connection, if it came to the port that is listened on before its transfer was begun
+    early: Option<PeerConnection>,
     // the port of the transfer before, if it is kept for the next
     kept: KeptPort,
     // the reason for the last end that was made or taken, unless it is that all was moved
@@ -152,6 +154,7 @@ where
             session,
             run: SessionRun::new(owner),
             prepared: Prepared::Nothing,
+            early: None,
             kept: KeptPort::new(&house.numbers, wanted),
             cause: None,
             moved: 0,
@@ -169,6 +172,7 @@ where
         ensures kept { self.new.kept ≡ self.old.kept }
         ensures payer { self.new.run.payer ≡ self.old.run.payer }
     {
+        self.early = None;
         let before = mem::replace(&mut self.prepared, Prepared::Nothing);
         match before {
             Prepared::Listening(listener, port) => self.close_port(listener, port),
@@ -206,9 +210,29 @@ where
         None
     }
 
-    /// Closes the connections that wait at the port that is kept, which nobody has asked for. Closes the port too if the
-    /// client is silent, or if others come faster than they are closed.
-    pub fn tend_kept(&mut self, is_silent: bool)
+    // Takes the client's connection from the queue of the port that is listened on, once it has come, so that strangers
+    // do not keep it out while its transfer is not begun. All others are closed.
+    fn welcome(&mut self)
+        ensures prepared { self.new.prepared ≡ self.old.prepared }
+        ensures running { self.new.run.running ≡ self.old.run.running }
+        ensures ready { self.new.ready ≡ self.old.ready }
+        ensures cause { self.new.cause ≡ self.old.cause }
+        ensures kept { self.new.kept ≡ self.old.kept }
+        ensures payer { self.new.run.payer ≡ self.old.run.payer }
+    {
+        if let Prepared::Listening(listener, _) = &self.prepared {
+            if self.early.is_none() {
+                self.early = early_of(listener, self.wanted);
+            } else {
+                empty_queue(listener);
+            }
+        }
+    }
+
+    /// Takes the client's connection, if it has come early, and closes all others that wait at the port that is listened
+    /// on, and at the one that is kept, which nobody has asked for. Closes that one too if the client is silent, or if
+    /// others come faster than they are closed.
+    pub fn tend_ports(&mut self, is_silent: bool)
         ensures silent { IsTrue is_silent → self.new.kept ≡ without_port self.old.kept }
         ensures kept { (self.new.kept ≡ self.old.kept)
             ⊎ (self.new.kept ≡ without_port self.old.kept) }
@@ -218,6 +242,7 @@ where
         ensures cause { self.new.cause ≡ self.old.cause }
         ensures payer { self.new.run.payer ≡ self.old.run.payer }
     {
+        self.welcome();
         if let Some((port, listener)) = self.take_kept() {
             if is_silent {
                 self.close_port(listener, port);
@@ -396,6 +421,21 @@ where
         self.run.running = over(End::NoConnection, job);
     }
 
+    // The client's connection at a port: that which came early, or else one that has come by now.
+    fn arrived(&mut self, listener: &TcpListener) -> Option<PeerConnection>
+        ensures prepared { self.new.prepared ≡ self.old.prepared }
+        ensures running { self.new.run.running ≡ self.old.run.running }
+        ensures ready { self.new.ready ≡ self.old.ready }
+        ensures cause { self.new.cause ≡ self.old.cause }
+        ensures kept { self.new.kept ≡ self.old.kept }
+        ensures payer { self.new.run.payer ≡ self.old.run.payer }
+    {
+        match mem::replace(&mut self.early, None) {
+            Some(connection) => Some(connection),
+            None => accept_from(listener, self.wanted),
+        }
+    }
+
     // Checks once, at this moment, whether the client has connected to its port. The port is then kept, if ports are.
     fn await_client(
         &mut self,
@@ -412,7 +452,7 @@ where
         ensures kept { Keeps self.old.kept (listener, port) self.new.run.running self.new.kept }
         ensures payer { self.new.run.payer ≡ self.old.run.payer }
     {
-        match accept_from(&listener, self.wanted) {
+        match self.arrived(&listener) {
             Some(connection) => {
                 let closed = self.kept.keep(listener, port);
                 self.close(closed);
@@ -723,6 +763,7 @@ where
             session: _,
             run,
             prepared: _,
+            early: _,
             kept: _,
             cause: _,
             moved: _,

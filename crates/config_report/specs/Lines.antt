@@ -59,9 +59,13 @@ abbrev pub part_line : List ℕ → ℕ → ℕ → List ℕ
 part_line head down up =
     if nat_eq down 0 && nat_eq up 0 then [] else left 24 head ++ rate_columns down up
 
+abbrev pub user_line : UserTable → List ℕ
+user_line user =
+    codes "user " ++ left 19 user.name.now ++ rate_columns user.down_rate user.up_rate
+
 abbrev pub user_rates : UserTable → List ℕ
 user_rates user =
-    codes "user " ++ left 19 user.name.now ++ rate_columns user.down_rate user.up_rate
+    user_line user
     ++ part_line (codes "  each session") user.session_down_rate user.session_up_rate
     ++ part_line (codes "  guaranteed to each") user.session_down_floor user.session_up_floor
 

@@ -2,7 +2,7 @@
 
 ghost use Rattle.std.specs.Prelude.{◌≡◌, ◌++◌, IfOk, OnOk, string_bytes};
 ghost use Rattle.std.specs.List.{flat_map};
-ghost use Rattle.config_report.specs.Lines.{both_line, group_rates, megabits_column, part_line, rate_column, rate_columns, rates_head, report_text, server_rates, user_rates, warning_line, warning_row, ways_line};
+ghost use Rattle.config_report.specs.Lines.{both_line, group_rates, megabits_column, part_line, rate_column, rate_columns, rates_head, report_text, server_rates, user_line, user_rates, warning_line, warning_row, ways_line};
 
 use crate::seen::SeenUser;
 use crate::server_lines::write_server;
@@ -111,12 +111,19 @@ fn write_group(text: &mut String, group: &GroupTable) -> Result<(), AllocError>
     write_rates(text, group.down_rate, group.up_rate)
 }
 
+fn write_user_line(text: &mut String, user: &UserTable) -> Result<(), AllocError>
+    ensures line { OnOk result
+        (string_bytes text.new ≡ string_bytes text.old ++ user_line user.now) }
+{
+    write!(text, "user {:<19}", user.name)?;
+    write_rates(text, user.down_rate, user.up_rate)
+}
+
 fn write_user_rates(text: &mut String, user: &UserTable) -> Result<(), AllocError>
     ensures lines { OnOk result
         (string_bytes text.new ≡ string_bytes text.old ++ user_rates user.now) }
 {
-    write!(text, "user {:<19}", user.name)?;
-    write_rates(text, user.down_rate, user.up_rate)?;
+    write_user_line(text, user)?;
     write_part(
         text,
         "  each session",
@@ -128,7 +135,8 @@ fn write_user_rates(text: &mut String, user: &UserTable) -> Result<(), AllocErro
         "  guaranteed to each",
         user.session_down_floor,
         user.session_up_floor,
-    )
+    )?;
+    Ok(())
 }
 
 fn write_groups(text: &mut String, groups: &[GroupTable]) -> Result<(), AllocError>

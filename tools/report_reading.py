@@ -165,15 +165,21 @@ def of_server(stated):
     yield f"serves {root}{held if stated.in_memory else ''}"
 
 
-def rates(head, *found):
-    return f"{head:<24}" + "".join(f"{rate or '-':>14}" for rate in found)
+def megabits(rate):
+    """A rate in Mbit/s, with two decimals, rounded down."""
+    hundredths = rate * 8 // 10 ** 4
+    return f"{hundredths // 100}.{hundredths % 100:02}" if rate else "-"
+
+
+def rates(head, down, up):
+    return f"{head:<24}" + "".join(f"{rate or '-':>14}" for rate in (down, up)) + "".join(f"{megabits(rate):>12}" for rate in (down, up))
 
 
 def of_rates(stated):
     server = stated.server
-    yield rates("octets a second", "down", "up")
+    yield f"{'octets a second':<24}{'down':>14}{'up':>14}{'Mbit/s down':>12}{'Mbit/s up':>12}"
     yield rates("server", server["down_rate"], server["up_rate"])
-    yield rates("both ways together", server["rate"])
+    yield f"{'both ways together':<24}{server['rate'] or '-':>14}{'':>14}{megabits(server['rate']):>12}"
     for group in stated.groups:
         yield rates(f"group {group['name']:<18}", group["down_rate"], group["up_rate"])
     for user in stated.users:

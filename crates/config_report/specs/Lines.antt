@@ -1,5 +1,5 @@
 -- The lines of the report on a configuration.
-use Rattle.std.specs.Prelude.{ℕ, ◌&&◌, if◌then◌else◌, nat_eq, List, [], ◌∷◌, ◌++◌, codes}
+use Rattle.std.specs.Prelude.{ℕ, ◌/◌, ◌%◌, ◌&&◌, if◌then◌else◌, nat_eq, List, [], ◌∷◌, ◌++◌, codes}
 use Rattle.std.specs.Fmt.{decimal}
 use Rattle.std.specs.List.{flat_map}
 use Rattle.config_file.specs.declared.stated.ServerTable.{ServerTable}
@@ -19,20 +19,33 @@ use Rattle.config_report.specs.declared.warning.Warning.TheVariants.{NearlyMemor
 abbrev pub rate_column : ℕ → List ℕ
 rate_column rate = if nat_eq rate 0 then right 14 (codes "-") else number 14 rate
 
--- two rates, down and up, which end the line
+-- hundredths of a Mbit/s as a number with two decimals in its column
+abbrev pub hundredths_column : ℕ → List ℕ
+hundredths_column n =
+    number 9 (n / 100) ++ codes "." ++ decimal (n / 10 % 10) ++ decimal (n % 10)
+
+-- a rate in Mbit/s, rounded down, a hundredth of which is 1,250 octets a second; none is a dash
+abbrev pub megabits_column : ℕ → List ℕ
+megabits_column rate =
+    if nat_eq rate 0 then right 12 (codes "-") else hundredths_column (rate / 1250)
+
+-- two rates, down and up, in octets and in Mbit/s, which end the line
 abbrev pub rate_columns : ℕ → ℕ → List ℕ
-rate_columns down up = rate_column down ++ rate_column up ++ 10 ∷ []
+rate_columns down up =
+    rate_column down ++ rate_column up ++ megabits_column down ++ megabits_column up ++ 10 ∷ []
 
 abbrev pub rates_head : List ℕ
 rates_head =
-    10 ∷ left 24 (codes "octets a second") ++ right 14 (codes "down") ++ right 14 (codes "up") ++ 10
-    ∷ []
+    10 ∷ left 24 (codes "octets a second") ++ right 14 (codes "down") ++ right 14 (codes "up")
+    ++ right 12 (codes "Mbit/s down") ++ right 12 (codes "Mbit/s up") ++ 10 ∷ []
 
 abbrev pub ways_line : ServerTable → List ℕ
 ways_line server = left 24 (codes "server") ++ rate_columns server.down_rate server.up_rate
 
 abbrev pub both_line : ServerTable → List ℕ
-both_line server = left 24 (codes "both ways together") ++ rate_column server.rate ++ 10 ∷ []
+both_line server =
+    left 24 (codes "both ways together") ++ rate_column server.rate ++ right 14 []
+    ++ megabits_column server.rate ++ 10 ∷ []
 
 abbrev pub server_rates : ServerTable → List ℕ
 server_rates server = rates_head ++ ways_line server ++ both_line server
@@ -46,9 +59,13 @@ abbrev pub part_line : List ℕ → ℕ → ℕ → List ℕ
 part_line head down up =
     if nat_eq down 0 && nat_eq up 0 then [] else left 24 head ++ rate_columns down up
 
+abbrev pub user_line : UserTable → List ℕ
+user_line user =
+    codes "user " ++ left 19 user.name.now ++ rate_columns user.down_rate user.up_rate
+
 abbrev pub user_rates : UserTable → List ℕ
 user_rates user =
-    codes "user " ++ left 19 user.name.now ++ rate_columns user.down_rate user.up_rate
+    user_line user
     ++ part_line (codes "  each session") user.session_down_rate user.session_up_rate
     ++ part_line (codes "  guaranteed to each") user.session_down_floor user.session_up_floor
 

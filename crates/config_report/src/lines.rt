@@ -2,7 +2,7 @@
 
 ghost use Rattle.std.specs.Prelude.{◌≡◌, ◌++◌, IfOk, OnOk, string_bytes};
 ghost use Rattle.std.specs.List.{flat_map};
-ghost use Rattle.config_report.specs.Lines.{both_line, group_rates, part_line, rate_column, rate_columns, rates_head, report_text, server_rates, user_rates, warning_line, warning_row, ways_line};
+ghost use Rattle.config_report.specs.Lines.{both_line, group_rates, megabits_column, part_line, rate_column, rate_columns, rates_head, report_text, server_rates, user_line, user_rates, warning_line, warning_row, ways_line};
 
 use crate::seen::SeenUser;
 use crate::server_lines::write_server;
@@ -10,6 +10,9 @@ use crate::user_lines::{write_users, write_users_head};
 use crate::warning::Warning;
 use config_file::{GroupTable, ServerTable, Tables, UserTable};
 use std::alloc::{AllocError, Global};
+
+/// A hundredth of a Mbit/s, in octets a second.
+const HUNDREDTH: u64 = 1250;
 
 /// Writes a rate in its column; a dash for none.
 fn write_rate(text: &mut String, rate: u64) -> Result<(), AllocError>
@@ -23,13 +26,29 @@ fn write_rate(text: &mut String, rate: u64) -> Result<(), AllocError>
     }
 }
 
-/// Writes two rates in their columns, and ends the line.
+/// Writes a rate in Mbit/s in its column, with two decimals, rounded down; a dash for none.
+fn write_megabits(text: &mut String, rate: u64) -> Result<(), AllocError>
+    ensures column { OnOk result
+        (string_bytes text.new ≡ string_bytes text.old ++ megabits_column rate) }
+{
+    let hundredths = rate / HUNDREDTH;
+    let (whole, tens, ones) = (hundredths / 100, hundredths / 10 % 10, hundredths % 10);
+    if rate > 0 {
+        write!(text, "{whole:>9}.{tens}{ones}")
+    } else {
+        write!(text, "{:>12}", "-")
+    }
+}
+
+/// Writes two rates in their columns, in octets and in Mbit/s, and ends the line.
 fn write_rates(text: &mut String, down: u64, up: u64) -> Result<(), AllocError>
     ensures columns { OnOk result
         (string_bytes text.new ≡ string_bytes text.old ++ rate_columns down up) }
 {
     write_rate(text, down)?;
     write_rate(text, up)?;
+    write_megabits(text, down)?;
+    write_megabits(text, up)?;
     text.push('\n')
 }
 
@@ -50,8 +69,8 @@ fn write_rates_head(text: &mut String) -> Result<(), AllocError>
 {
     writeln!(
         text,
-        "\n{:<24}{:>14}{:>14}",
-        "octets a second", "down", "up"
+        "\n{:<24}{:>14}{:>14}{:>12}{:>12}",
+        "octets a second", "down", "up", "Mbit/s down", "Mbit/s up"
     )
 }
 
@@ -69,6 +88,8 @@ fn write_both(text: &mut String, server: &ServerTable) -> Result<(), AllocError>
 {
     write!(text, "{:<24}", "both ways together")?;
     write_rate(text, server.rate)?;
+    write!(text, "{:>14}", "")?;
+    write_megabits(text, server.rate)?;
     text.push('\n')
 }
 
@@ -90,12 +111,19 @@ fn write_group(text: &mut String, group: &GroupTable) -> Result<(), AllocError>
     write_rates(text, group.down_rate, group.up_rate)
 }
 
+fn write_user_line(text: &mut String, user: &UserTable) -> Result<(), AllocError>
+    ensures line { OnOk result
+        (string_bytes text.new ≡ string_bytes text.old ++ user_line user.now) }
+{
+    write!(text, "user {:<19}", user.name)?;
+    write_rates(text, user.down_rate, user.up_rate)
+}
+
 fn write_user_rates(text: &mut String, user: &UserTable) -> Result<(), AllocError>
     ensures lines { OnOk result
         (string_bytes text.new ≡ string_bytes text.old ++ user_rates user.now) }
 {
-    write!(text, "user {:<19}", user.name)?;
-    write_rates(text, user.down_rate, user.up_rate)?;
+    write_user_line(text, user)?;
     write_part(
         text,
         "  each session",
@@ -107,7 +135,8 @@ fn write_user_rates(text: &mut String, user: &UserTable) -> Result<(), AllocErro
         "  guaranteed to each",
         user.session_down_floor,
         user.session_up_floor,
-    )
+    )?;
+    Ok(())
 }
 
 fn write_groups(text: &mut String, groups: &[GroupTable]) -> Result<(), AllocError>

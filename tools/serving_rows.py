@@ -1,4 +1,5 @@
 """What clients may rely on: rows of `tools/serving`, each with servers of its own."""
+import contextlib
 import ftplib
 import io
 import os
@@ -532,6 +533,26 @@ def crowds_of_strangers_on_a_passive_port():
         server.ended()
 
 
+def a_crowd_before_the_transfer():
+    """Two hundred strangers at a passive port do not keep its client out, whose connection comes before its transfer is begun; and the transfer takes it."""
+    with Server(sessions=1, root="folder", files={"f": b"a\nb"}) as server, contextlib.ExitStack() as crowd:
+        client = Client(server)
+        for _ in range(2):
+            port = client.passive_port()
+            for _ in range(200):
+                stranger = crowd.enter_context(socket.socket())
+                stranger.setblocking(False)
+                stranger.bind(("127.0.0.2", 0))
+                stranger.connect_ex(("127.0.0.1", port))
+            data = Data(port)
+            time.sleep(3)
+            client.says("RETR f", "150 Opening data connection")
+            same(data.whole(), b"a\nb", "the file")
+            client.says(None, "226 Transfer complete")
+        client.quit()
+        server.ended()
+
+
 def a_client_that_drips():
     """A client that reads its replies and sends its lines an octet at a time is served as any other."""
     with Server(sessions=1, root="folder", files={"f": b"a\nb"}) as server:
@@ -879,6 +900,7 @@ ROWS = [
     a_lost_control_connection,
     a_lost_data_connection,
     crowds_of_strangers_on_a_passive_port,
+    a_crowd_before_the_transfer,
     a_client_that_drips,
     a_stranger_on_a_passive_port,
     active_connections,

@@ -9,11 +9,11 @@ use std::io;
 use std::net::{Net, TcpListener, TcpStream};
 use std::sync::{Mutex, Wait};
 
-/// Crowds of strangers, each as large as one call of `accept_from` closes, behind which a client is looked for at once.
+/// Number of calls of `accept_from` in one look for a client, each of which closes at most as many strangers as it may.
 /// The machine has queues of 128 connections, unless it is told otherwise.
 const CROWDS: u32 = 9;
 
-/// The connection of this peer, or of anybody if no peer is given, that waits at a listener, behind strangers, who are
+/// The connection of this peer, or of anybody if no peer is given, that waits at a listener. Strangers before it are
 /// closed.
 pub(crate) fn early_of(listener: &TcpListener, peer: Option<[u8; 4]>) -> Option<PeerConnection>
     ensures peer { IfSome result (λ connection. connection.peer ≡ peer) }

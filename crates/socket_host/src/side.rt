@@ -421,7 +421,7 @@ where
         self.run.running = over(End::NoConnection, job);
     }
 
-    // The client's connection at a port: that which came early, or else one that has come by now.
+    // The client's connection at a port: that which came early, or one that has come by now.
     fn arrived(&mut self, listener: &TcpListener) -> Option<PeerConnection>
         ensures prepared { self.new.prepared ≡ self.old.prepared }
         ensures running { self.new.run.running ≡ self.old.run.running }

@@ -1,0 +1,6 @@
+pub mod Kinds
+pub mod Lines
+pub mod Moments
+pub mod Names
+pub mod Numbers
+pub mod Words

@@ -6,8 +6,8 @@ use Rattle.log_lines.specs.declared.kind.Kind.{Kind}
 
 -- one of two words: whether it is the first
 abbrev pub letter_of : Octets → Octets → Octets → Option Bool
-letter_of yes no word =
-    if bytes_eq word yes then Some true else if bytes_eq word no then Some false else None
+letter_of first second word =
+    if bytes_eq word first then Some true else if bytes_eq word second then Some false else None
 
 abbrev pub stated_kind : Option Bool → Option Bool → Option Bool → Option Kind
 stated_kind form direction access =
@@ -31,10 +31,14 @@ kind_taken (form ∷ action ∷ direction ∷ access ∷ more) =
     option_map (λ kind. (kind, more)) (kind_of form action direction access)
 kind_taken words = None
 
--- completion-status `c` or `i` after service-name, authentication-method and
--- authenticated-user-id, which end a line
-abbrev pub ending_of : List Octets → Option Bool
-ending_of (service ∷ method ∷ id ∷ status ∷ []) =
+-- completion-status `c` or `i`, after service-name, authentication-method and
+-- authenticated-user-id
+abbrev pub status_of : Octets → Octets → Octets → Octets → Option Bool
+status_of service method id status =
     if bytes_eq service (codes "ftp") && bytes_eq method (codes "0") && bytes_eq id (codes "*")
     then letter_of (codes "c") (codes "i") status else None
+
+-- these four end a line
+abbrev pub ending_of : List Octets → Option Bool
+ending_of (service ∷ method ∷ id ∷ status ∷ []) = status_of service method id status
 ending_of words = None

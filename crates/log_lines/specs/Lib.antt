@@ -3,4 +3,5 @@ pub mod Lines
 pub mod Moments
 pub mod Names
 pub mod Numbers
+pub mod ReadBack
 pub mod Words

@@ -1,10 +1,10 @@
 //! The words of one letter, and those that are always the same.
 
 ghost use Rattle.std.specs.Prelude.{◌≡◌, option_map};
-ghost use Rattle.log_lines.specs.Kinds.{ending_of, kind_of, kind_taken, letter_of};
+ghost use Rattle.log_lines.specs.Kinds.{ending_of, kind_of, kind_taken, letter_of, status_of};
 ghost use Rattle.log_lines.specs.Words.{words_left};
 
-use crate::word::next_word;
+use crate::word::{ends, next_word};
 
 /// What a transfer was: its type, its direction and its access.
 #[derive(Clone, Copy)]
@@ -15,19 +15,19 @@ pub(crate) struct Kind {
 }
 
 /// Reads one of two words: whether it is the first.
-pub(crate) fn read_letter(word: &str, yes: &str, no: &str) -> Option<bool>
-    ensures letter { result ≡ letter_of yes.now no.now word.now }
+pub(crate) fn read_letter(word: &str, first: &str, second: &str) -> Option<bool>
+    ensures letter { result ≡ letter_of first.now second.now word.now }
 {
-    if word == yes {
+    if word == first {
         return Some(true);
     }
-    if word == no { Some(false) } else { None }
+    if word == second { Some(false) } else { None }
 }
 
 /// Reads transfer-type, special-action-flag, direction and access-mode, and returns them with the words after them.
 pub(crate) fn read_kind(rest: Option<&str>) -> Option<(Kind, Option<&str>)>
     ensures kind { option_map (λ x. (x.0, words_left 32 x.1)) result
-        ≡ kind_taken (words_left 32 rest) }
+        ≡ kind_taken (words_left 32 rest.entry) }
 {
     let (form, rest) = next_word(rest)?;
     let (action, rest) = next_word(rest)?;
@@ -50,17 +50,26 @@ fn kind_of(form: &str, action: &str, direction: &str, access: &str) -> Option<Ki
     })
 }
 
+fn status_of(service: &str, method: &str, id: &str, status: &str) -> Option<bool>
+    ensures status { result ≡ status_of service.now method.now id.now status.now }
+{
+    if service != "ftp" || method != "0" || id != "*" {
+        return None;
+    }
+    read_letter(status, "c", "i")
+}
+
 /// Reads service-name, authentication-method, authenticated-user-id and completion-status, which end a line: whether the
 /// transfer was complete.
 pub(crate) fn read_ending(rest: Option<&str>) -> Option<bool>
-    ensures ending { result ≡ ending_of (words_left 32 rest) }
+    ensures ending { result ≡ ending_of (words_left 32 rest.entry) }
 {
     let (service, rest) = next_word(rest)?;
     let (method, rest) = next_word(rest)?;
     let (id, rest) = next_word(rest)?;
     let (status, rest) = next_word(rest)?;
-    if rest.is_some() || service != "ftp" || method != "0" || id != "*" {
+    if !ends(rest, ' ') {
         return None;
     }
-    read_letter(status, "c", "i")
+    status_of(service, method, id, status)
 }

@@ -2,11 +2,13 @@
 #![tactic(auto)]
 
 mod kind;
+mod law;
 mod line;
 mod moment;
 mod name;
 mod number;
 mod word;
 
+pub use law::written_is_read;
 pub use line::{LogLine, read_line};
 pub use moment::{LogDay, LogMoment, read_day};

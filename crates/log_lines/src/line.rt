@@ -35,6 +35,7 @@ pub struct LogLine<'t> {
 }
 
 // The seconds, the address, the octets and the path of a transfer.
+#[derive(Clone, Copy)]
 struct SizeWords<'t> {
     seconds: u64,
     address: &'t str,
@@ -64,7 +65,7 @@ fn size_of<'t>(
 
 fn read_size(rest: Option<&str>) -> Option<(SizeWords<'_>, Option<&str>)>
     ensures size { option_map (λ x. (size_view x.0, words_left 32 x.1)) result
-        ≡ size_taken (words_left 32 rest) }
+        ≡ size_taken (words_left 32 rest.entry) }
 {
     let (seconds, rest) = next_word(rest)?;
     let (address, rest) = next_word(rest)?;
@@ -76,7 +77,7 @@ fn read_size(rest: Option<&str>) -> Option<(SizeWords<'_>, Option<&str>)>
 
 fn read_name(rest: Option<&str>) -> Option<(&str, Option<&str>)>
     ensures name { option_map (λ x. (x.0.now, words_left 32 x.1)) result
-        ≡ name_taken (words_left 32 rest) }
+        ≡ name_taken (words_left 32 rest.entry) }
 {
     let (word, rest) = next_word(rest)?;
     if is_name(word) {
@@ -87,7 +88,7 @@ fn read_name(rest: Option<&str>) -> Option<(&str, Option<&str>)>
 }
 
 fn read_words(rest: Option<&str>) -> Option<LogLine<'_>>
-    ensures line { option_map line_view result ≡ line_of_words (words_left 32 rest) }
+    ensures line { option_map line_view result ≡ line_of_words (words_left 32 rest.entry) }
 {
     let (ended, rest) = read_moment(rest)?;
     let (size, rest) = read_size(rest)?;

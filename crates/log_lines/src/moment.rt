@@ -5,7 +5,7 @@ ghost use Rattle.log_lines.specs.Moments.{clock_at, clock_of, day_of, is_day, is
 ghost use Rattle.log_lines.specs.Words.{parts, words_left};
 
 use crate::number::{read_four, read_two};
-use crate::word::{cut_at, next_word};
+use crate::word::{cut_at, ends, next_word};
 use jiff_core::civil::Date;
 use transfer_log::day_name;
 
@@ -132,7 +132,7 @@ fn moment_of(weekday: &str, month: &str, day: &str, clock: &str, year: &str) -> 
 /// Reads the moment that words begin with, and returns it with the words after it.
 pub(crate) fn read_moment(rest: Option<&str>) -> Option<(LogMoment, Option<&str>)>
     ensures moment { option_map (λ x. (x.0, words_left 32 x.1)) result
-        ≡ moment_taken (words_left 32 rest) }
+        ≡ moment_taken (words_left 32 rest.entry) }
 {
     let (weekday, rest) = next_word(rest)?;
     let (month, rest) = next_word(rest)?;
@@ -150,7 +150,7 @@ pub fn read_day(word: &str) -> Option<LogDay>
     let (year, rest) = cut_at(word, '-');
     let (month, rest) = cut_at(rest?, '-');
     let (day, rest) = cut_at(rest?, '-');
-    if rest.is_some() {
+    if !ends(rest, '-') {
         return None;
     }
     let year = read_four(year.as_bytes());

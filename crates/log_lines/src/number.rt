@@ -1,23 +1,33 @@
 //! Numbers as they are written: without a sign, and without a needless leading zero.
 
 ghost use Rattle.std.specs.Prelude.{◌≡◌, ◌<◌, IfSome};
+ghost use Rattle.std.specs.Char.{is_ascii_digit};
+ghost use Rattle.std.specs.List.{list_all};
 ghost use Rattle.log_lines.specs.Numbers.{four_of, is_numeral, number_of, two_of};
 
-fn is_numeral(word: &str) -> bool
+fn are_digits(word: &[u8]) -> bool
+    ensures digits { result ≡ list_all is_ascii_digit word.now }
+{
+    word.iter().all(|octet| octet.is_ascii_digit())
+}
+
+fn is_numeral(word: &[u8]) -> bool
     ensures numeral { result ≡ is_numeral word.now }
 {
-    let octets = word.as_bytes();
-    if octets.is_empty() || (octets.len() > 1 && octets[0] == b'0') {
+    if word.is_empty() {
         return false;
     }
-    octets.iter().all(|octet| octet.is_ascii_digit())
+    if word.len() > 1 && word[0] == b'0' {
+        return false;
+    }
+    are_digits(word)
 }
 
 /// Reads a number below 2^64.
 pub(crate) fn read_number(word: &str) -> Option<u64>
     ensures number { result ≡ number_of word.now }
 {
-    if is_numeral(word) {
+    if is_numeral(word.as_bytes()) {
         word.parse().ok()
     } else {
         None

@@ -1,0 +1,4 @@
+use Rattle.log_lines.proofs.law.written_is_read.Goals as goal
+
+pub returns : goal.returns
+returns c = ?

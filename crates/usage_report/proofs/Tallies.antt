@@ -1,0 +1,51 @@
+-- Sums with one more transfer.
+use Rattle.std.proofs.Common.{◌≡◌, ◌∙◌, ◌+◌, ℕ, Bool, true, false, cond, List, [], ◌∷◌, ◌++◌, Option, Some, None, length, filter, refl, sym, ap, rules, arith}
+use Rattle.std.specs.List.{sum_by}
+use Rattle.std.specs.Option.{unwrap_or}
+use Rattle.std.specs.Prelude.{bytes_eq}
+use Rattle.std.proofs.lemmas.List.{append-nil, length-append}
+use Rattle.std.proofs.lemmas.List.Elements.{filter-append}
+use Rattle.std.proofs.lemmas.List.Sums.{sum_by-append}
+use Rattle.log_lines.specs.Lines.{Line}
+use Rattle.log_lines.specs.Words.{Octets}
+use Rattle.usage_report.specs.Keys.{key_of}
+use Rattle.usage_report.specs.Sums.{no_tally, plus, row_of, tally_of}
+use Rattle.usage_report.specs.Usages.{with_key}
+use Rattle.usage_report.specs.declared.key.UsageKey.{UsageKey}
+use Rattle.usage_report.specs.declared.tally.Tally.{Tally}
+
+same_tally : (a b c x y z : ℕ) → a ≡ x → b ≡ y → c ≡ z
+    → ◌≡◌ {A = Tally} (record { transfers = a; octets = b; seconds = c }) (record { transfers = x; octets = y; seconds = z })
+same_tally a b c x y z one two three = rw (one, two, three) refl
+
+sum_more : (f : Line → ℕ) (lines : List Line) (line : Line) → sum_by f (lines ++ line ∷ []) ≡ sum_by f lines + f line
+sum_more f lines line = sum_by-append f lines (line ∷ []) ∙ ap (λ (n : ℕ). sum_by f lines + n) (omega arith)
+
+pub tally_more : (lines : List Line) (line : Line) → tally_of (lines ++ line ∷ []) ≡ plus (tally_of lines) line
+tally_more lines line =
+    same_tally _ _ _ _ _ _
+    (length-append lines (line ∷ []))
+    (sum_more (λ l. l.size.octets) lines line)
+    (sum_more (λ l. l.size.seconds) lines line)
+
+pub row_more : (lines : List Line) (line : Line) → row_of (lines ++ line ∷ []) ≡ Some (plus (unwrap_or (row_of lines) no_tally) line)
+row_more [] line = ap Some (tally_more [] line)
+row_more (first ∷ lines) line = ap Some (tally_more (first ∷ lines) line)
+
+-- the row of a key, with one more transfer
+pub rows_more : (by : UsageKey) (key : Octets) (lines : List Line) (line : Line) (row : Option Tally)
+    → row ≡ row_of (with_key by key lines)
+    → cond (bytes_eq key (key_of by line)) (Some (plus (unwrap_or row no_tally) line)) row
+    ≡ row_of (with_key by key (lines ++ line ∷ []))
+rows_more by key lines line row is =
+    go (bytes_eq key (key_of by line)) refl
+    ∙ sym (ap row_of (filter-append (λ l. bytes_eq key (key_of by l)) lines (line ∷ [])))
+  where
+    go : (b : Bool) → bytes_eq key (key_of by line) ≡ b
+        → cond (bytes_eq key (key_of by line)) (Some (plus (unwrap_or row no_tally) line)) row
+        ≡ row_of (with_key by key lines ++ cond (bytes_eq key (key_of by line)) (line ∷ []) [])
+    go true e =
+        rw e
+        (ap (λ (r : Option Tally). Some (plus (unwrap_or r no_tally) line)) is
+        ∙ sym (row_more (with_key by key lines) line))
+    go false e = rw e (is ∙ sym (ap row_of (append-nil (with_key by key lines))))

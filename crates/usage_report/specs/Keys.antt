@@ -1,0 +1,26 @@
+-- What transfers are summed by.
+use Rattle.std.specs.Prelude.{ℕ, ◌+◌, ◌/◌, ◌%◌, List, [], ◌∷◌, ◌++◌, codes}
+use Rattle.log_lines.specs.Lines.{Line}
+use Rattle.log_lines.specs.Words.{Octets}
+use Rattle.log_lines.specs.declared.moment.LogMoment.{LogMoment}
+use Rattle.usage_report.specs.declared.key.UsageKey.{UsageKey}
+use Rattle.usage_report.specs.declared.key.UsageKey.TheVariants.{User, File, Hour, Address}
+
+-- the last two, and the last four, digits of a number
+abbrev pub two_digits : ℕ → Octets
+two_digits n = (48 + n / 10 % 10) ∷ (48 + n % 10) ∷ []
+
+abbrev pub four_digits : ℕ → Octets
+four_digits n = two_digits (n / 100 % 100) ++ two_digits (n % 100)
+
+-- the hour of a moment, as `YYYY-MM-DD hh`: its texts are in the order of time
+abbrev pub hour_text : LogMoment → Octets
+hour_text moment =
+    four_digits moment.day.year ++ codes "-" ++ two_digits moment.day.month ++ codes "-"
+    ++ two_digits moment.day.day ++ codes " " ++ two_digits moment.hour
+
+abbrev pub key_of : UsageKey → Line → Octets
+key_of User line = line.user
+key_of File line = line.size.path
+key_of Hour line = hour_text line.ended
+key_of Address line = line.size.address

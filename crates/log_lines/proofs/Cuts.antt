@@ -4,7 +4,7 @@ use Rattle.std.specs.List.{AllByRecursion, onto_first}
 use Rattle.std.proofs.lemmas.List.Splits.{length-slice_split, slice_split-cons_no, slice_split-cons_yes}
 use Rattle.std.proofs.lemmas.Option.{same_Some}
 use Rattle.std.proofs.lemmas.Str.Pattern.{IsSplitOnceResult, split_parts}
-use Rattle.log_lines.specs.Words.{parts}
+use Rattle.log_lines.specs.Words.{parts, words_left}
 
 -- an octet that is not the mark
 abbrev pub IsOther : ℕ → ℕ → Type 0
@@ -51,3 +51,9 @@ some_part mark text = go (parts mark text) refl (omega (arith, length-slice_spli
     go : (ps : List (List ℕ)) → parts mark text ≡ ps → 0 < length (parts mark text) → (first : List ℕ) × (more : List (List ℕ)) × (parts mark text ≡ first ∷ more)
     go [] is some = absurd (let none : length (parts mark text) ≡ 0 = ap length is in omega arith)
     go (first ∷ more) is some = (first, more, is)
+
+pub some_left : (mark : ℕ) (rest : Option (Bor (List ℕ))) (text : Bor (List ℕ)) → rest ≡ Some text
+    → (first : List ℕ) × (more : List (List ℕ)) × (words_left mark rest ≡ first ∷ more)
+some_left mark rest text is =
+    let part = some_part mark text.now in
+    (part.0, part.1, ap (words_left mark) is ∙ part.2)

@@ -67,12 +67,15 @@ sized : (one other : Bool) (os oo : Option ℕ) (s o : ℕ) (address path : Octe
 sized one other os oo s o address path a b c d = rw (a, b, c, d) refl
 
 -- what the line says, word by word
-abbrev pub words_of : FileTransfer → Date → List Octets
-words_of t date =
-    day_name (weekday_of date) ∷ month_name date.month ∷ two_digits date.day ∷ clock_word (reported_moment t)
+abbrev pub rest_words : FileTransfer → Date → List Octets
+rest_words t date =
+    month_name date.month ∷ two_digits date.day ∷ clock_word (reported_moment t)
     ∷ four_digits (unsigned_abs date.year) ∷ decimal (whole_seconds t.micros) ∷ ipv4_text t.peer ∷ decimal t.octets
     ∷ field_text t.path.now ∷ form_word t.is_text ∷ codes "_" ∷ way_word t.is_sent ∷ access_word (is_public t.user.now)
     ∷ field_text t.user.now ∷ codes "ftp" ∷ codes "0" ∷ codes "*" ∷ status_word t.is_whole ∷ []
+
+abbrev pub words_of : FileTransfer → Date → List Octets
+words_of t date = day_name (weekday_of date) ∷ rest_words t date
 
 -- the ranges of a transfer's numbers, and that its texts are UTF-8
 pub record IsFine (t : FileTransfer) : Type 0 where
@@ -111,11 +114,7 @@ ftp_fine = visible_word (codes "ftp") ((omega arith, omega arith), ((omega arith
 pub first_fine : (date : Date) → IsWord (day_name (weekday_of date))
 first_fine date = visible_word (day_name (weekday_of date)) (day_name_visible (weekday_of date))
 
-pub rest_fine : (t : FileTransfer) (date : Date) → IsFine t
-    → AllByRecursion IsWord (month_name date.month ∷ two_digits date.day ∷ clock_word (reported_moment t)
-    ∷ four_digits (unsigned_abs date.year) ∷ decimal (whole_seconds t.micros) ∷ ipv4_text t.peer ∷ decimal t.octets
-    ∷ field_text t.path.now ∷ form_word t.is_text ∷ codes "_" ∷ way_word t.is_sent ∷ access_word (is_public t.user.now)
-    ∷ field_text t.user.now ∷ codes "ftp" ∷ codes "0" ∷ codes "*" ∷ status_word t.is_whole ∷ [])
+pub rest_fine : (t : FileTransfer) (date : Date) → IsFine t → AllByRecursion IsWord (rest_words t date)
 rest_fine t date fine = (
   visible_word (month_name date.month) (month_visible date.month date.month_in.0 date.month_in.1),
   (

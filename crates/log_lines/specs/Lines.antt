@@ -19,7 +19,7 @@ pub record Size : Type 0 where
   pub octets : ℕ
   pub path : Octets
 
--- what a line says of a transfer
+-- the fields of a line
 pub record Line : Type 0 where
   pub ended : LogMoment
   pub size : Size
@@ -75,7 +75,7 @@ line_of_words words =
 abbrev pub line_of : Octets → Option Line
 line_of text = if is_utf8 text then line_of_words (parts 32 text) else None
 
--- what a line that was read says
+-- the fields of a line that was read
 abbrev pub line_view : LogLine → Line
 line_view line = record {
   ended = line.ended;

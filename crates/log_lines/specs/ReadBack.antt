@@ -1,10 +1,10 @@
--- What the server writes is read back.
-use Rattle.std.specs.Prelude.{◌≡◌, ℕ, ◌/◌, ◌%◌, Bool, ◌||◌, List, ◌++◌, Option, Some, codes, unsigned_abs}
+-- The lines that the server writes are read back.
+use Rattle.std.specs.Prelude.{◌≡◌, ℕ, ◌<◌, ◌^◌, ◌/◌, ◌%◌, Bool, ◌||◌, List, ◌++◌, Option, Some, codes, slice_index, unsigned_abs}
 use Rattle.std.specs.Net.Text.{ipv4_text}
-use Rattle.std.specs.Str.{bytes_eq}
+use Rattle.std.specs.Str.{IsUtf8, bytes_eq}
 use Rattle.jiff_core.specs.declared.civil.date.Date.{Date}
 use Rattle.ftp_reply.specs.Dates.{FallsOn}
-use Rattle.transfer_log.specs.Lines.{reported_moment, whole_seconds}
+use Rattle.transfer_log.specs.Lines.{IsTransferLine, reported_moment, whole_seconds}
 use Rattle.transfer_log.specs.Names.{field_text}
 use Rattle.transfer_log.specs.declared.line.FileTransfer.{FileTransfer}
 use Rattle.log_lines.specs.Lines.{Line, line_of}
@@ -24,7 +24,7 @@ moment_on date seconds = record {
   second = seconds % 60;
 }
 
--- what the line of a transfer says, by the day of its end
+-- the fields of the line of a transfer, by the day of its end
 abbrev pub recorded : FileTransfer → Date → Line
 recorded transfer date = record {
   ended = moment_on date (reported_moment transfer);
@@ -50,3 +50,17 @@ pub record IsReadBack (transfer : FileTransfer) (text : List ℕ) : Type 0 where
   pub line : List ℕ
   pub ends : text ≡ line ++ codes "\n"
   pub said : line_of line ≡ Some (recorded transfer date)
+
+-- a transfer that a program has: its numbers are of their types, and its texts UTF-8
+pub record IsHeld (transfer : FileTransfer) : Type 0 where
+  pub micros : transfer.micros < 2 ^ 64
+  pub octets : transfer.octets < 2 ^ 64
+  pub peer : (i : ℕ) → slice_index transfer.peer i < 256
+  pub path : IsUtf8 transfer.path.now
+  pub user : IsUtf8 transfer.user.now
+
+-- the line of a transfer, as the server writes it, is read as what is recorded of it
+abbrev pub WhatIsWrittenIsRead : Type 0
+WhatIsWrittenIsRead =
+    (transfer : FileTransfer) (text : List ℕ) → IsHeld transfer → IsTransferLine transfer text
+    → IsReadBack transfer text

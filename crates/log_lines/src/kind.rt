@@ -6,7 +6,7 @@ ghost use Rattle.log_lines.specs.Words.{words_left};
 
 use crate::word::{ends, next_word};
 
-/// What a transfer was: its type, its direction and its access.
+/// The type of a transfer, its direction and its access.
 #[derive(Clone, Copy)]
 pub(crate) struct Kind {
     pub(crate) is_text: bool,

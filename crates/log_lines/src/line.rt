@@ -11,7 +11,7 @@ use crate::number::read_number;
 use crate::word::next_word;
 use std::str::from_utf8;
 
-/// What a line of a transfer log says.
+/// The fields of a line of a transfer log.
 #[derive(Clone, Copy, Debug)]
 pub struct LogLine<'t> {
     /// The second of the end.

@@ -1,5 +1,5 @@
 -- What is seen, with one more line.
-use Rattle.std.proofs.Common.{◌≡◌, ◌∙◌, ◌+◌, ℕ, Bool, true, false, cond, List, [], ◌∷◌, ◌++◌, map, append_assoc, Option, Some, None, length, filter, refl, sym, ap, subst, rules, arith}
+use Rattle.std.proofs.Common.{◌≡◌, ◌∙◌, ◌+◌, ℕ, Bool, true, false, cond, List, [], ◌∷◌, ◌++◌, map, append_assoc, Option, Some, None, Result, Ok, Err, OnOk, length, filter, refl, sym, ap, subst, rules, arith}
 use Rattle.std.specs.BTreeMap.{get_by_text}
 use Rattle.std.specs.List.{count_by, filter_map}
 use Rattle.std.proofs.lemmas.List.{append-nil}
@@ -8,12 +8,12 @@ use Rattle.std.proofs.lemmas.List.Sums.{sum_by-append}
 use Rattle.log_lines.specs.Lines.{Line}
 use Rattle.log_lines.specs.Words.{Octets}
 use Rattle.log_lines.specs.declared.moment.LogDay.{LogDay}
-use Rattle.usage_report.specs.Sums.{plus, row_of, tally_of}
+use Rattle.usage_report.specs.Adding.{plus, row_of, tally_of}
 use Rattle.usage_report.specs.Usages.{HasSeen, IsCounted, IsUsageOf, counted, is_on, is_unread, with_key}
 use Rattle.usage_report.specs.declared.key.UsageKey.{UsageKey}
-use Rattle.usage_report.specs.declared.tally.Tally.{Tally}
+use Rattle.usage_report.specs.declared.adding.Sums.{Sums}
 use Rattle.usage_report.specs.declared.usage.Usage.{Usage}
-use Rattle.usage_report.proofs.Tallies.{rows_more, tally_more}
+use Rattle.usage_report.proofs.Added.{rows_more, tally_more}
 
 counted_more : (day : Option LogDay) (seen more : List (Option Line)) → counted day (seen ++ more) ≡ counted day seen ++ counted day more
 counted_more day seen more =
@@ -44,6 +44,10 @@ unread_some seen line =
 unread_none : (seen : List (Option Line)) → count_by is_unread (seen ++ None ∷ []) ≡ count_by is_unread seen + 1
 unread_none seen = sum_by-append (λ (l : Option Line). cond (is_unread l) 1 0) seen (None ∷ [])
 
+pub on_ok : {E : Type 0} (r : Result (Unit {0}) E) (P Q : Type 0) → (P → Q) → OnOk r P → OnOk r Q
+on_ok (Ok u) P Q f p = f p
+on_ok (Err e) P Q f p = p
+
 -- sums that are the same of the same transfers
 kept : (usage : Usage) (seen after : List (Option Line)) → IsUsageOf usage seen
     → counted usage.day after ≡ counted usage.day seen → count_by is_unread after ≡ count_by is_unread seen
@@ -71,11 +75,11 @@ seen_on before after line on is = record {
         rows = λ key.
             subst (λ (b : UsageKey). get_by_text after.rows key ≡ row_of (with_key b key (counted after.day (seen ++ Some line ∷ [])))) (sym is.by)
             (subst (λ (d : Option LogDay). get_by_text after.rows key ≡ row_of (with_key before.by key (counted d (seen ++ Some line ∷ [])))) (sym is.day)
-            (is.rows key ∙ rows_more before.by key (counted before.day seen) line (get_by_text before.rows key) (was.rows key)
+            (is.rows key ∙ rows_more before.by key (counted before.day seen) line (get_by_text before.rows) was.rows
             ∙ ap (λ (lines : List Line). row_of (with_key before.by key lines)) (sym now)));
         total =
             subst (λ (d : Option LogDay). after.total ≡ tally_of (counted d (seen ++ Some line ∷ []))) (sym is.day)
-            (is.total ∙ ap (λ (t : Tally). plus t line) was.total ∙ sym (tally_more (counted before.day seen) line) ∙ ap tally_of (sym now));
+            (is.total ∙ ap (λ (t : Sums). plus t line) was.total ∙ sym (tally_more (counted before.day seen) line) ∙ ap tally_of (sym now));
         unread = is.unread ∙ was.unread ∙ sym (unread_some seen line);
       };
 }

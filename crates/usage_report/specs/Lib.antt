@@ -1,3 +1,3 @@
 pub mod Keys
-pub mod Sums
+pub mod Adding
 pub mod Usages

@@ -1,13 +1,14 @@
 -- What the lines of logs add up to.
-use Rattle.std.specs.Prelude.{◌≡◌, ℕ, ◌-◌, ◌==◌, ◌&&◌, Bool, true, false, bytes_eq, nat_eq, if◌then◌else◌, List, [], ◌∷◌, ◌++◌, filter, length, slice_index, take, Option, Some, None}
-use Rattle.std.specs.BTreeMap.{get_by_text}
+use Rattle.std.specs.Prelude.{◌≡◌, ℕ, ◌-◌, ◌==◌, ◌&&◌, Bool, true, false, bytes_eq, nat_eq, if◌then◌else◌, List, [], ◌∷◌, ◌++◌, filter, length, slice_index, take, Option, Some, None, String}
+use Rattle.std.specs.BTreeMap.{BTreeMap, get_by_text}
+use Rattle.std.specs.declared.alloc.Global.{Global}
 use Rattle.std.specs.List.{count_by, filter_map}
 use Rattle.std.specs.Option.{unwrap_or}
 use Rattle.log_lines.specs.Lines.{Line}
 use Rattle.log_lines.specs.Words.{Octets, parts}
 use Rattle.log_lines.specs.declared.moment.LogDay.{LogDay}
 use Rattle.usage_report.specs.Keys.{key_of}
-use Rattle.usage_report.specs.Sums.{no_tally, plus, row_of, tally_of}
+use Rattle.usage_report.specs.Adding.{no_tally, plus, row_of, tally_of}
 use Rattle.usage_report.specs.declared.key.UsageKey.{UsageKey}
 use Rattle.usage_report.specs.declared.usage.Usage.{Usage}
 
@@ -39,7 +40,7 @@ counted day seen = filter (is_on day) (filter_map (λ line. line) seen)
 
 -- those of one key
 abbrev pub with_key : UsageKey → Octets → List Line → List Line
-with_key by key lines = filter (λ line. bytes_eq key (key_of by line)) lines
+with_key by key lines = filter (λ line. bytes_eq (key_of by line) key) lines
 
 abbrev pub is_unread : Option Line → Bool
 is_unread None = true
@@ -59,14 +60,17 @@ pub record HasSeen (before after : Usage) (more : List (Option Line)) : Type 0 w
   pub day : after.day ≡ before.day
   pub sums : (seen : List (Option Line)) → IsUsageOf before seen → IsUsageOf after (seen ++ more)
 
+-- the transfer is added to the row of the key
+abbrev pub IsRowAdded : BTreeMap (String Global) Sums → BTreeMap (String Global) Sums → Octets → Line → Type 0
+IsRowAdded before after key line =
+    (other : Octets) → get_by_text after other
+    ≡ (if bytes_eq key other then Some (plus (unwrap_or (get_by_text before key) no_tally) line)
+    else get_by_text before other)
+
 -- the transfer is added to the row of its key, and to the total
 pub record IsCounted (before after : Usage) (line : Line) : Type 0 where
   pub by : after.by ≡ before.by
   pub day : after.day ≡ before.day
   pub unread : after.unread ≡ before.unread
   pub total : after.total ≡ plus before.total line
-  pub rows : (key : Octets)
-      → get_by_text after.rows key
-      ≡ (if bytes_eq key (key_of before.by line)
-      then Some (plus (unwrap_or (get_by_text before.rows key) no_tally) line)
-      else get_by_text before.rows key)
+  pub rows : IsRowAdded before.rows after.rows (key_of before.by line) line

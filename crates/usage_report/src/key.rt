@@ -1,13 +1,13 @@
-//! What transfers are summed by.
+//! The keys by which transfers are added up.
 
 ghost use Rattle.std.specs.Prelude.{◌≡◌, ◌++◌, IfOk, OnOk, string_bytes};
 ghost use Rattle.log_lines.specs.Lines.{line_view};
-ghost use Rattle.usage_report.specs.Keys.{hour_text, key_of, two_digits, four_digits};
+ghost use Rattle.usage_report.specs.Keys.{day_text, hour_text, key_of, two_digits, four_digits};
 
-use log_lines::{LogLine, LogMoment};
+use log_lines::{LogDay, LogLine, LogMoment};
 use std::alloc::{AllocError, Global};
 
-/// What transfers are summed by.
+/// A key by which transfers are added up.
 #[derive(Clone, Copy, Debug, PartialEq, Eq)]
 pub enum UsageKey {
     User,
@@ -33,17 +33,25 @@ fn push_four(text: &mut String, n: u16) -> Result<(), AllocError>
     push_two(text, (n % 100) as u8)
 }
 
+// `YYYY-MM-DD`
+fn push_day(text: &mut String, day: LogDay) -> Result<(), AllocError>
+    ensures appended { OnOk result
+        (string_bytes text.new ≡ string_bytes text.old ++ day_text day) }
+{
+    push_four(text, day.year)?;
+    text.push_str("-")?;
+    push_two(text, day.month)?;
+    text.push_str("-")?;
+    push_two(text, day.day)
+}
+
 // `YYYY-MM-DD hh`
 fn push_hour(text: &mut String, moment: &LogMoment) -> Result<(), AllocError>
     ensures appended { OnOk result
         (string_bytes text.new ≡ string_bytes text.old ++ hour_text moment.now) }
 {
-    push_four(text, moment.day.year)?;
-    text.push('-')?;
-    push_two(text, moment.day.month)?;
-    text.push('-')?;
-    push_two(text, moment.day.day)?;
-    text.push(' ')?;
+    push_day(text, moment.day)?;
+    text.push_str(" ")?;
     push_two(text, moment.hour)
 }
 

@@ -1,18 +1,20 @@
 //! The sums over the lines of logs.
 
-ghost use Rattle.std.specs.Prelude.{◌≡◌, ◌∷◌, [], OnOk, Some, map};
+ghost use Rattle.std.specs.Prelude.{◌≡◌, ◌∷◌, [], None, OnOk, Some, map, string_bytes, unwrap_or};
+ghost use Rattle.std.specs.BTreeMap.{get_by_text};
 ghost use Rattle.log_lines.specs.Lines.{line_of, line_view};
 ghost use Rattle.log_lines.specs.Words.{parts};
-ghost use Rattle.usage_report.specs.Usages.{HasSeen, IsCounted, IsUsageOf, is_on_day, lines_in, without_end};
+ghost use Rattle.usage_report.specs.Adding.{no_tally};
+ghost use Rattle.usage_report.specs.Usages.{HasSeen, IsCounted, IsRowAdded, IsUsageOf, is_on_day, lines_in, without_end};
 
+use crate::adding::{Sums, plus};
 use crate::key::{UsageKey, key_of};
-use crate::tally::{Tally, plus};
 use log_lines::{LogDay, LogLine, read_line};
-use std::alloc::{AllocError, AllocFailed, Global};
+use std::alloc::{AllocError, Global};
 use std::collections::BTreeMap;
 use thiserror::Error;
 
-/// Why the sums cannot be made.
+/// The reason for which sums cannot be made.
 #[derive(Clone, Copy, Debug, PartialEq, Eq, Drop, Error)]
 pub enum UsageFault {
     #[error("a sum is not below 2^64")]
@@ -28,15 +30,15 @@ impl From<AllocError> for UsageFault {
 }
 
 /// Sums over transfers, by a key.
-#[derive(Debug, Drop)]
+#[derive(Drop)]
 pub struct Usage {
     pub by: UsageKey,
     /// The day of the transfers that are counted; all are, if it is `None`.
     pub day: Option<LogDay>,
     /// The sums of each key that has a transfer.
-    pub rows: BTreeMap<String, Tally>,
+    pub rows: BTreeMap<String, Sums>,
     /// The sums of all.
-    pub total: Tally,
+    pub total: Sums,
     /// The number of lines that are not of the form of a transfer log.
     pub unread: u64,
 }
@@ -60,6 +62,32 @@ fn without_end(text: &[u8]) -> &[u8]
     }
 }
 
+/// The sums of a key.
+fn row_at(rows: &BTreeMap<String, Sums>, key: &str) -> Sums
+    ensures row { result ≡ unwrap_or (get_by_text rows.now key.now) no_tally }
+{
+    rows.get(key).copied().unwrap_or(Sums::NONE)
+}
+
+// Adds a transfer to the row of a key.
+fn add_row(
+    rows: &mut BTreeMap<String, Sums>,
+    key: String,
+    line: &LogLine<'_>,
+) -> Result<(), UsageFault>
+    ensures row { OnOk result
+        (IsRowAdded rows.old rows.new (string_bytes key.entry) (line_view line.now)) }
+{
+    let row = row_at(rows, key.as_str());
+    let Some(row) = plus(row, line) else {
+        return Err(UsageFault::TooMuch);
+    };
+    match rows.insert(key, row) {
+        Ok(_) => Ok(()),
+        Err(_) => Err(UsageFault::Memory),
+    }
+}
+
 impl Usage {
     /// The sums of no lines.
     pub fn new(alloc: Global, by: UsageKey, day: Option<LogDay>) -> Usage
@@ -71,7 +99,7 @@ impl Usage {
             by,
             day,
             rows: BTreeMap::new(alloc),
-            total: Tally::NONE,
+            total: Sums::NONE,
             unread: 0,
         }
     }
@@ -80,11 +108,11 @@ impl Usage {
     fn count(&mut self, alloc: Global, line: &LogLine<'_>) -> Result<(), UsageFault>
         ensures counted { OnOk result (IsCounted self.old self.new (line_view line.now)) }
     {
-        let total = plus(self.total, line).ok_or(UsageFault::TooMuch)?;
+        let Some(total) = plus(self.total, line) else {
+            return Err(UsageFault::TooMuch);
+        };
         let key = key_of(alloc, self.by, line)?;
-        let row = self.rows.get(key.as_str()).copied().unwrap_or(Tally::NONE);
-        let row = plus(row, line).ok_or(UsageFault::TooMuch)?;
-        self.rows.insert(key, row)?;
+        add_row(&mut self.rows, key, line)?;
         self.total = total;
         Ok(())
     }
@@ -100,15 +128,22 @@ impl Usage {
         }
     }
 
+    fn take_unread(&mut self) -> Result<(), UsageFault>
+        ensures seen { OnOk result (HasSeen self.old self.new (None ∷ [])) }
+    {
+        let Some(unread) = self.unread.checked_add(1) else {
+            return Err(UsageFault::TooMuch);
+        };
+        self.unread = unread;
+        Ok(())
+    }
+
     fn take_line(&mut self, alloc: Global, line: &[u8]) -> Result<(), UsageFault>
         ensures seen { OnOk result (HasSeen self.old self.new (line_of line.now ∷ [])) }
     {
         match read_line(line) {
             Some(line) => self.take_read(alloc, &line),
-            None => {
-                self.unread = self.unread.checked_add(1).ok_or(UsageFault::TooMuch)?;
-                Ok(())
-            }
+            None => self.take_unread(),
         }
     }
 

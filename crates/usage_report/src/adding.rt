@@ -2,13 +2,13 @@
 
 ghost use Rattle.std.specs.Prelude.{◌≡◌, MatchOption, false, true};
 ghost use Rattle.log_lines.specs.Lines.{line_view};
-ghost use Rattle.usage_report.specs.Sums.{fits, plus};
+ghost use Rattle.usage_report.specs.Adding.{fits, plus};
 
 use log_lines::LogLine;
 
 /// The sums of some transfers.
 #[derive(Clone, Copy, Debug, PartialEq, Eq)]
-pub struct Tally {
+pub struct Sums {
     /// Their number.
     pub transfers: u64,
     /// The octets that they moved.
@@ -17,9 +17,9 @@ pub struct Tally {
     pub seconds: u64,
 }
 
-impl Tally {
+impl Sums {
     /// The sums of no transfers.
-    pub const NONE: Tally = Tally {
+    pub const NONE: Sums = Sums {
         transfers: 0,
         octets: 0,
         seconds: 0,
@@ -27,13 +27,13 @@ impl Tally {
 }
 
 /// The sums with one more transfer, if each is below 2^64.
-pub(crate) fn plus(tally: Tally, line: &LogLine<'_>) -> Option<Tally>
-    ensures sums { MatchOption result (fits (plus tally (line_view line.now)) ≡ false)
-        (λ sums. (sums ≡ plus tally (line_view line.now)) × (fits sums ≡ true)) }
+pub(crate) fn plus(sums: Sums, line: &LogLine<'_>) -> Option<Sums>
+    ensures sums { MatchOption result (fits (plus sums.entry (line_view line.now)) ≡ false)
+        (λ more. (more ≡ plus sums.entry (line_view line.now)) × (fits more ≡ true)) }
 {
-    Some(Tally {
-        transfers: tally.transfers.checked_add(1)?,
-        octets: tally.octets.checked_add(line.octets)?,
-        seconds: tally.seconds.checked_add(line.seconds)?,
+    Some(Sums {
+        transfers: sums.transfers.checked_add(1)?,
+        octets: sums.octets.checked_add(line.octets)?,
+        seconds: sums.seconds.checked_add(line.seconds)?,
     })
 }

@@ -44,6 +44,13 @@ unread_some seen line =
 unread_none : (seen : List (Option Line)) → count_by is_unread (seen ++ None ∷ []) ≡ count_by is_unread seen + 1
 unread_none seen = sum_by-append (λ (l : Option Line). cond (is_unread l) 1 0) seen (None ∷ [])
 
+-- three texts, one after another
+pub three : (old one more all a b c : List ℕ) → one ≡ old ++ a → more ≡ one ++ b → all ≡ more ++ c → all ≡ old ++ (a ++ b ++ c)
+three old one more all a b c first second third =
+    third
+    ∙ ap (λ (xs : List ℕ). xs ++ c) (second ∙ ap (λ (xs : List ℕ). xs ++ b) first ∙ append_assoc old a b)
+    ∙ append_assoc old (a ++ b) c
+
 pub on_ok : {E : Type 0} (r : Result (Unit {0}) E) (P Q : Type 0) → (P → Q) → OnOk r P → OnOk r Q
 on_ok (Ok u) P Q f p = f p
 on_ok (Err e) P Q f p = p

@@ -1,4 +1,4 @@
--- What transfers are summed by.
+-- The keys by which transfers are added up.
 use Rattle.std.specs.Prelude.{ℕ, ◌+◌, ◌/◌, ◌%◌, List, [], ◌∷◌, ◌++◌, codes}
 use Rattle.log_lines.specs.Lines.{Line}
 use Rattle.log_lines.specs.Words.{Octets}

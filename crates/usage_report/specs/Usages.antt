@@ -1,4 +1,4 @@
--- What the lines of logs add up to.
+-- The sums over the lines of logs.
 use Rattle.std.specs.Prelude.{◌≡◌, ℕ, ◌-◌, ◌==◌, ◌&&◌, Bool, true, false, bytes_eq, nat_eq, if◌then◌else◌, List, [], ◌∷◌, ◌++◌, filter, length, slice_index, take, Option, Some, None, String}
 use Rattle.std.specs.BTreeMap.{BTreeMap, get_by_text}
 use Rattle.std.specs.declared.alloc.Global.{Global}
@@ -10,6 +10,7 @@ use Rattle.log_lines.specs.declared.moment.LogDay.{LogDay}
 use Rattle.usage_report.specs.Keys.{key_of}
 use Rattle.usage_report.specs.Adding.{no_tally, plus, row_of, tally_of}
 use Rattle.usage_report.specs.declared.key.UsageKey.{UsageKey}
+use Rattle.usage_report.specs.declared.adding.Sums.{Sums}
 use Rattle.usage_report.specs.declared.usage.Usage.{Usage}
 
 abbrev pub is_same_day : LogDay → LogDay → Bool
@@ -54,14 +55,15 @@ pub record IsUsageOf (usage : Usage) (seen : List (Option Line)) : Type 0 where
   pub total : usage.total ≡ tally_of (counted usage.day seen)
   pub unread : usage.unread ≡ count_by is_unread seen
 
--- what is seen is what was seen before and more, by the same key and of the same day
+-- more lines are seen than before, by the same key and of the same day
 pub record HasSeen (before after : Usage) (more : List (Option Line)) : Type 0 where
   pub by : after.by ≡ before.by
   pub day : after.day ≡ before.day
   pub sums : (seen : List (Option Line)) → IsUsageOf before seen → IsUsageOf after (seen ++ more)
 
 -- the transfer is added to the row of the key
-abbrev pub IsRowAdded : BTreeMap (String Global) Sums → BTreeMap (String Global) Sums → Octets → Line → Type 0
+abbrev pub IsRowAdded : BTreeMap (String Global) Sums → BTreeMap (String Global) Sums → Octets
+    → Line → Type 0
 IsRowAdded before after key line =
     (other : Octets) → get_by_text after other
     ≡ (if bytes_eq key other then Some (plus (unwrap_or (get_by_text before key) no_tally) line)

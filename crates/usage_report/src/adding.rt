@@ -28,8 +28,8 @@ impl Sums {
 
 /// The sums with one more transfer, if each is below 2^64.
 pub(crate) fn plus(sums: Sums, line: &LogLine<'_>) -> Option<Sums>
-    ensures sums { MatchOption result (fits (plus sums.entry (line_view line.now)) ≡ false)
-        (λ more. (more ≡ plus sums.entry (line_view line.now)) × (fits more ≡ true)) }
+    ensures added { MatchOption result (fits (plus sums (line_view line.now)) ≡ false)
+        (λ more. (more ≡ plus sums (line_view line.now)) × (fits more ≡ true)) }
 {
     Some(Sums {
         transfers: sums.transfers.checked_add(1)?,

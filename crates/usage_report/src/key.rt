@@ -1,6 +1,6 @@
 //! The keys by which transfers are added up.
 
-ghost use Rattle.std.specs.Prelude.{◌≡◌, ◌++◌, IfOk, OnOk, string_bytes};
+ghost use Rattle.std.specs.Prelude.{◌≡◌, ◌++◌, IfOk, OnOk, codes, string_bytes};
 ghost use Rattle.log_lines.specs.Lines.{line_view};
 ghost use Rattle.usage_report.specs.Keys.{day_text, hour_text, key_of, two_digits, four_digits};
 
@@ -45,13 +45,19 @@ fn push_day(text: &mut String, day: LogDay) -> Result<(), AllocError>
     push_two(text, day.day)
 }
 
+fn push_blank(text: &mut String) -> Result<(), AllocError>
+    ensures appended { OnOk result (string_bytes text.new ≡ string_bytes text.old ++ codes " ") }
+{
+    text.push_str(" ")
+}
+
 // `YYYY-MM-DD hh`
 fn push_hour(text: &mut String, moment: &LogMoment) -> Result<(), AllocError>
     ensures appended { OnOk result
         (string_bytes text.new ≡ string_bytes text.old ++ hour_text moment.now) }
 {
     push_day(text, moment.day)?;
-    text.push_str(" ")?;
+    push_blank(text)?;
     push_two(text, moment.hour)
 }
 

@@ -37,6 +37,9 @@ pub enum ServeFault {
     /// cannot be read again.
     #[error("ReloadFile")]
     ReloadFile,
+    /// The end file was there at the start, or could never be noticed.
+    #[error("EndFile")]
+    EndFile,
     /// Two of the paths that are stated are those of one file.
     #[error("OnePath")]
     OnePath,

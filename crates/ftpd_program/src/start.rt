@@ -22,6 +22,10 @@ pub enum StartFault {
     ReloadFileThere { path: String },
     /// The reload file of this path could not be noticed, because its folder is not there, or is closed (`ReloadFile`).
     ReloadFileUnseen { path: String, reason: io::Error },
+    /// There is something at the path of the end file (`EndFile`).
+    EndFileThere { path: String },
+    /// The end file of this path could not be noticed, because its folder is not there, or is closed (`EndFile`).
+    EndFileUnseen { path: String, reason: io::Error },
     /// There is something at the path of the ready file (`ReadyFile`).
     ReadyFileThere { path: String },
     /// The ready file of this path could not be made (`ReadyFile`).
@@ -55,6 +59,7 @@ impl fmt::Display for StartFault {
             StartFault::StopFileThere { path }
             | StartFault::DrainFileThere { path }
             | StartFault::ReloadFileThere { path }
+            | StartFault::EndFileThere { path }
             | StartFault::ReadyFileThere { path } => {
                 write!(f, "{path} is there already: remove it")
             }
@@ -66,6 +71,9 @@ impl fmt::Display for StartFault {
             }
             StartFault::ReloadFileUnseen { path, reason } => {
                 write!(f, "the reload file {path} could not be noticed: {reason}")
+            }
+            StartFault::EndFileUnseen { path, reason } => {
+                write!(f, "the end file {path} could not be noticed: {reason}")
             }
             StartFault::ReadyFileUnmade { path, reason } => {
                 write!(f, "the ready file {path} could not be made: {reason}")

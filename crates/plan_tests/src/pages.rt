@@ -151,6 +151,7 @@ fn status_of(groups: Vec<GroupStatus>, transfers: Vec<TransferStatus>) -> Status
         ended_moved: 90,
         ended: 1,
         rounds: HELD,
+        waits: 0,
         failed_logins: 7,
         refused: 8,
         transfers,

@@ -31,7 +31,7 @@ const TRANSFERS: &str = "\"transfers\":[\
 \"session_rate\":800000,\"size\":null,\"user\":\"bob\",\"user_rate\":null,\"waiting\":true}],";
 
 /// Its end.
-const END: &str = "\"unit\":\"octets\",\"users\":3,\"version\":1}\n";
+const END: &str = "\"unit\":\"octets\",\"users\":3,\"version\":1,\"waits\":3}\n";
 
 const NO_ROUNDS: HeldRounds = HeldRounds {
     server: 0,
@@ -152,6 +152,7 @@ fn with_lists(groups: Vec<GroupStatus>, transfers: Vec<TransferStatus>) -> Statu
         },
         failed_logins: 1,
         refused: 0,
+        waits: 3,
         transfers,
     }
 }

@@ -140,7 +140,7 @@ status_has s = (
                         (
                           refl,
                           (
-                            rate_fits s.line.both,
+                            refl, (rate_fits s.line.both,
                             (
                               rate_fits s.line.down,
                               (
@@ -149,7 +149,7 @@ status_has s = (
                               ),
                             ),
                           ),
-                        ),
+                        )),
                       ),
                     ),
                   ),
@@ -314,5 +314,6 @@ same s r peers is = record {
   rounds = sym is.rounds;
   failed_logins = sym is.failed_logins;
   refused = sym is.refused;
+  waits = sym is.waits;
   transfers = transfers_back s.transfers.items r.transfers.items peers is.transfers;
 }

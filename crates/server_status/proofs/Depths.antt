@@ -79,5 +79,5 @@ status_depth s =
     let groups = items_low 2 (map group_data s.groups.items) (groups_low s.groups.items) in
     let transfers = items_low 2 (map transfer_data s.transfers.items) (transfers_low s.transfers.items) in
     let are = shallow 3 (within (status_data s))
-    (zero_low, (zero_low, (zero_low, (zero_low, (omega (arith, groups), (one_low, (zero_low, (zero_low, (line_low s, (zero_low, (zero_low, (zero_low, (zero_low, (zero_low, (omega (arith, transfers), (zero_low, (zero_low, (zero_low, tt)))))))))))))))))) in
+    (zero_low, (zero_low, (zero_low, (zero_low, (omega (arith, groups), (one_low, (zero_low, (zero_low, (line_low s, (zero_low, (zero_low, (zero_low, (zero_low, (zero_low, (omega (arith, transfers), (zero_low, (zero_low, (zero_low, (zero_low, tt))))))))))))))))))) in
     omega (arith, are)

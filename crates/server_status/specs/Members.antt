@@ -52,12 +52,13 @@ moment_members status members =
 -- who is there
 abbrev pub client_members : Status → Members → Members
 client_members status members =
-    put (codes "refused") (count_data status.refused)
+    put (codes "waits") (count_data status.waits)
+    (put (codes "refused") (count_data status.refused)
     (put (codes "failed_logins") (count_data status.failed_logins)
     (put (codes "lanes") (count_data status.lanes)
     (put (codes "max_sessions") (count_data status.max_sessions)
     (put (codes "sessions") (count_data status.sessions)
-    (put (codes "users") (count_data status.users) members)))))
+    (put (codes "users") (count_data status.users) members))))))
 
 -- the totals
 abbrev pub total_members : Status → Members → Members

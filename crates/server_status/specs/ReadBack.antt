@@ -79,6 +79,7 @@ pub record IsSame (a b : Status) : Type 0 where
   pub rounds : a.rounds ≡ b.rounds
   pub failed_logins : a.failed_logins ≡ b.failed_logins
   pub refused : a.refused ≡ b.refused
+  pub waits : a.waits ≡ b.waits
   pub transfers : AreSame IsSameTransfer a.transfers.items b.transfers.items
 
 -- four octets

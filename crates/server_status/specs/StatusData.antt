@@ -110,7 +110,8 @@ status_data status =
     (member (codes "transfers") (array (items_of (map transfer_data status.transfers.items)))
     (member (codes "unit") (string (codes "octets"))
     (member (codes "users") (count_data status.users)
-    (member (codes "version") (count_data 1) no_members))))))))))))))))))
+    (member (codes "version") (count_data 1)
+    (member (codes "waits") (count_data status.waits) no_members)))))))))))))))))))
 
 -- ---- texts
 

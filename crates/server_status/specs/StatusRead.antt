@@ -119,6 +119,7 @@ pub record HasMembers (d : Data) (s : Status) : Type 0 where
   pub rounds : s.rounds ≡ held_in (member_in (codes "held") (Some d))
   pub failed_logins : s.failed_logins ≡ count_in (codes "failed_logins") (Some d)
   pub refused : s.refused ≡ count_in (codes "refused") (Some d)
+  pub waits : s.waits ≡ count_in (codes "waits") (Some d)
   pub transfers : AreOf IsTransferOf (list_in (codes "transfers") (Some d)) s.transfers.items
 
 -- ---- whole values

@@ -31,6 +31,7 @@ status_rows =
     ∷ own (codes "lanes") (codes "lanes") Number
     ∷ own (codes "failed_logins") (codes "failed_logins") Number
     ∷ own (codes "refused") (codes "refused") Number
+    ∷ own (codes "waits") (codes "waits") Number
     ∷ own (codes "issued") (codes "issued") Number
     ∷ own (codes "ended_granted") (codes "ended_granted") Number
     ∷ own (codes "ended_moved") (codes "ended_moved") Number

@@ -34,7 +34,7 @@ pub(crate) struct Member(
 pub(crate) static VERSION: [Member; 1] = [Member("version", None, "version", Kind::Number)];
 
 /// The members of a status.
-pub(crate) static STATUS: [Member; 24] = [
+pub(crate) static STATUS: [Member; 25] = [
     Member("unit", None, "unit", Kind::Unit),
     Member("started", None, "started", Kind::Number),
     Member("micros", None, "micros", Kind::Number),
@@ -44,6 +44,7 @@ pub(crate) static STATUS: [Member; 24] = [
     Member("lanes", None, "lanes", Kind::Number),
     Member("failed_logins", None, "failed_logins", Kind::Number),
     Member("refused", None, "refused", Kind::Number),
+    Member("waits", None, "waits", Kind::Number),
     Member("issued", None, "issued", Kind::Number),
     Member("ended_granted", None, "ended_granted", Kind::Number),
     Member("ended_moved", None, "ended_moved", Kind::Number),

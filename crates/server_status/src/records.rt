@@ -232,6 +232,7 @@ fn with_lists(value: &Value, groups: Vec<GroupStatus>, transfers: Vec<TransferSt
         rounds: held(member(row, "held")),
         failed_logins: count(row, "failed_logins"),
         refused: count(row, "refused"),
+        waits: count(row, "waits"),
         transfers,
     }
 }

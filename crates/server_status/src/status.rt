@@ -107,6 +107,9 @@ pub struct Status {
     /// Number of wrong passwords, and of refused connections.
     pub failed_logins: u64,
     pub refused: u64,
+    /// Number of calls of the machine that the end of the server waits for, as it was told last: each ten seconds while the
+    /// server ends. 0 while it does not end.
+    pub waits: u64,
     /// The transfers that wait for a lane or run, by the number of their session.
     pub transfers: Vec<TransferStatus>,
 }

@@ -25,7 +25,7 @@ fn put_moment(
     put(map, alloc, "micros", Value::from(status.micros))
 }
 
-/// Puts the numbers of users, of clients and of lanes, and of those that were refused.
+/// Puts the numbers of users, of clients and of lanes, of those that were refused, and of what an end waits for.
 fn put_clients(
     map: &mut Map<String, Value>,
     alloc: Global,
@@ -44,7 +44,8 @@ fn put_clients(
         "failed_logins",
         Value::from(status.failed_logins),
     )?;
-    put(map, alloc, "refused", Value::from(status.refused))
+    put(map, alloc, "refused", Value::from(status.refused))?;
+    put(map, alloc, "waits", Value::from(status.waits))
 }
 
 /// Puts the totals.

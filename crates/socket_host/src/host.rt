@@ -17,10 +17,12 @@ ghost use Rattle.socket_host.specs.Lending.{LentFor, RefusedFor};
 use crate::control::ControlSocket;
 use crate::judging::{
     asks_floors, cause_of_cut, cause_with, ends_file, ends_listing, entrant, is_end, is_line,
-    is_refused, is_text, is_without_port, kind_of, refusal_of,
+    is_text, is_without_port, kind_of,
 };
+use crate::keeping::PortWatch;
 use crate::last_replies::{CROWDED, last_reply, time_out_reply};
 use crate::moments::millis_since_1970;
+use crate::refusals::{is_refused, refusal_of};
 use crate::side::SocketSide;
 use crate::standing::Standing;
 use crate::waiting::{is_due, is_life, passed_limit};
@@ -34,8 +36,7 @@ use rate_floors::Floors;
 use recorded_store::{Recorder, StoreRecord};
 use server_house::{
     BegunTransfer, ClientSession, EndCause, HeldTerms, House, OwnRuns, ServerHooks, ServerRuntime,
-    SessionEvent, SessionRefusal, ShutdownStage, StoreNote, TransferKind, TransferRecord,
-    copy_settings,
+    SessionEvent, SessionRefusal, ShutdownStage, StoreNote, TransferKind, TransferRecord, copy_settings,
 };
 use session_table::{Action, HookCall, Input, Job, Settings, Text};
 use std::alloc::{AllocError, Global};
@@ -84,6 +85,8 @@ pub struct SocketHost<'h, R, S: Store<Global>, H: Drop, B: PartsName, T> {
     // the session, as the owner's handler knows it
     own: ClientSession,
     waits: Waits,
+    // when the port that is kept was looked after
+    watch: PortWatch,
     // the last transfer that was begun
     begun: Begun,
     // the path of the last file that was opened, if it is known
@@ -117,6 +120,7 @@ where
         ensures own { result.own ≡ own }
     {
         let SessionNeeds { held, no_floors } = needs;
+        let now = micros(rt);
         SocketHost {
             rt,
             house,
@@ -124,7 +128,8 @@ where
             socket,
             side,
             own,
-            waits: Waits::new(micros(rt)),
+            waits: Waits::new(now),
+            watch: PortWatch::new(now),
             begun: Begun {
                 since: 0,
                 kind: TransferKind::Listed,
@@ -147,6 +152,7 @@ where
             side,
             own: _,
             waits: _,
+            watch: _,
             begun: _,
             path: _,
             is_wrong: _,
@@ -547,9 +553,23 @@ where
         let is_busy = self.side.is_busy();
         let piece = self.socket.read(is_busy, buffer)?;
         if is_life(is_busy, piece) {
-            self.waits.hear(micros(self.rt));
+            let now = micros(self.rt);
+            self.waits.hear(now);
+            self.watch.hear(now);
         }
         Ok(piece)
+    }
+
+    // Looks after the port that the session keeps, each second.
+    fn tend_port(&mut self)
+        ensures standing { self.new.standing ≡ self.old.standing }
+        ensures payer { self.new.side.run.payer ≡ self.old.side.run.payer }
+    {
+        let now = micros(self.rt);
+        if self.watch.is_due(now) {
+            let is_silent = self.watch.is_silent(now);
+            self.side.tend_kept(is_silent);
+        }
     }
 
     // Passes on the events of the data side after the end of the control connection.
@@ -665,6 +685,7 @@ where
             self.write_last(reply);
             return Ok(Piece::AtEnd);
         }
+        self.tend_port();
         if self.side.rest() {
             return Ok(Piece::Nothing);
         }

@@ -1,20 +1,19 @@
 //! What a host sees in the inputs and actions of its session.
 
-ghost use Rattle.std.specs.Prelude.{◌≡◌, IfNone, IfSome, MatchResult, None, false};
+ghost use Rattle.std.specs.Prelude.{◌≡◌, IfNone, IfSome, None, false};
 ghost use Rattle.control_session.specs.Sides.{given_of, is_line};
 ghost use Rattle.session_table.specs.Steps.{asks_floors};
 ghost use Rattle.socket_host.specs.Cuts.{cause_of_cut};
 ghost use Rattle.socket_host.specs.Entrants.{entrant};
 ghost use Rattle.socket_host.specs.Records.{cause_with, ends_file, ends_listing, is_end, is_text, job_kind};
-ghost use Rattle.socket_host.specs.Refusals.{is_refusal, refusal_of, says_refusal};
 ghost use Rattle.socket_host.specs.Texts.{is_without_port};
 
 use crate::standing::number_of;
 use authorizer::Authorizer;
-use control_session::{NoStep, Session};
+use control_session::Session;
 use ftp_terms::DataType;
-use server_house::{EndCause, SessionRefusal, TransferKind};
-use session_table::{Action, Answer, End, HookCall, Input, Job, Refusal};
+use server_house::{EndCause, TransferKind};
+use session_table::{End, HookCall, Input, Job};
 use std::alloc::Global;
 
 /// The reason for which the transfer was cut whose end is the last event of its session, if it was.
@@ -44,36 +43,6 @@ pub(crate) fn cause_with(cause: Option<EndCause>, is_refused: bool) -> Option<En
         Some(cause) => Some(cause),
         None if is_refused => Some(EndCause::Refused),
         None => None,
-    }
-}
-
-/// Returns whether an action is a reply that refuses.
-pub(crate) fn is_refusal<R, K>(action: &Action<Global, R, K>) -> bool
-    ensures refusal { result ≡ is_refusal action.now }
-{
-    matches!(action, Action::Say(Answer::Refusal(_)))
-}
-
-/// Returns whether an action of a step is a reply that refuses.
-pub(crate) fn says_refusal<R, K>(actions: &[Action<Global, R, K>]) -> bool
-    ensures refusal { result ≡ says_refusal actions.now }
-{
-    for action in actions {
-        if is_refusal(action) {
-            return true;
-        }
-    }
-    false
-}
-
-/// Returns whether a step was made that says a refusal.
-pub(crate) fn is_refused<R, K>(made: &Result<Vec<Action<Global, R, K>>, NoStep<Global, K>>) -> bool
-    ensures refused { MatchResult made.now
-        (λ actions. result ≡ says_refusal actions.items) (λ why. result ≡ false) }
-{
-    match made {
-        Ok(actions) => says_refusal(actions),
-        Err(_) => false,
     }
 }
 
@@ -167,20 +136,6 @@ pub(crate) fn ends_listing<K>(event: &Option<Input<Global, K>>, kind: TransferKi
     match (event, kind) {
         (Some(Input::TransferEnded { .. }), TransferKind::Listed) => true,
         _ => false,
-    }
-}
-
-/// The refusal of a reply that ends a session, if an action is such a reply.
-pub(crate) fn refusal_of<R, K>(action: &Action<Global, R, K>) -> Option<SessionRefusal>
-    ensures refusal { result ≡ refusal_of action.now }
-{
-    match action {
-        Action::Say(Answer::Refusal(Refusal::TooManyLogins)) => Some(SessionRefusal::TooManyLogins),
-        Action::Say(Answer::Refusal(Refusal::NoGuarantee)) => Some(SessionRefusal::NoGuarantee),
-        Action::Say(Answer::Refusal(Refusal::TooManyHeldLines)) => {
-            Some(SessionRefusal::TooManyHeldLines)
-        }
-        _ => None,
     }
 }
 

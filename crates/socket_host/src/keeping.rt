@@ -1,12 +1,19 @@
 //! The passive port that a session keeps between its transfers.
 
-ghost use Rattle.std.specs.Prelude.{◌≡◌, None};
+ghost use Rattle.std.specs.Prelude.{◌≡◌, ◌+◌, ◌<◌, ◌↔◌, IsTrue, None, false};
 ghost use Rattle.socket_host.specs.Keeping.{closed_after, kept_after, may_keep, without_port};
 
+use event_word::has_passed;
 use server_config::ServerNumbers;
 use server_house::may_keep_ports;
 use std::mem;
 use std::net::TcpListener;
+
+/// Microseconds between two looks at the port that a session keeps.
+const LOOK: u64 = 1_000_000;
+
+/// Microseconds without a sign of its client after which a session keeps no port.
+const SILENCE: u64 = 10_000_000;
 
 /// The port that a session keeps, with its listener, if sessions keep ports.
 #[derive(Drop)]
@@ -46,5 +53,55 @@ impl KeptPort {
         ensures none { self.new ≡ without_port self.old }
     {
         mem::replace(&mut self.at, None)
+    }
+}
+
+/// When a session last looked after the port that it keeps, and last heard of its client, in microseconds of a monotonic
+/// clock.
+#[derive(Clone, Copy)]
+pub(crate) struct PortWatch {
+    looked: u64,
+    heard: u64,
+}
+
+impl PortWatch {
+    /// The watch of a session that begins now.
+    pub(crate) fn new(now: u64) -> PortWatch
+        ensures looked { result.looked ≡ now }
+        ensures heard { result.heard ≡ now }
+    {
+        PortWatch {
+            looked: now,
+            heard: now,
+        }
+    }
+
+    /// Notes a sign of life.
+    pub(crate) fn hear(&mut self, now: u64)
+        ensures heard { self.new.heard ≡ now }
+        ensures looked { self.new.looked ≡ self.old.looked }
+    {
+        self.heard = now;
+    }
+
+    /// Returns whether the port is to be looked after now: each second. That is noted.
+    pub(crate) fn is_due(&mut self, now: u64) -> bool
+        ensures due { IsTrue result ↔ (self.old.looked + 1000000 < now) }
+        ensures noted { IsTrue result → self.new.looked ≡ now }
+        ensures unchanged { result ≡ false → self.new ≡ self.old }
+        ensures heard { self.new.heard ≡ self.old.heard }
+    {
+        let is_due = has_passed(self.looked, now, LOOK);
+        if is_due {
+            self.looked = now;
+        }
+        is_due
+    }
+
+    /// Returns whether the client has been silent for so long that its session keeps no port.
+    pub(crate) fn is_silent(&self, now: u64) -> bool
+        ensures silent { IsTrue result ↔ (self.now.heard + 10000000 < now) }
+    {
+        has_passed(self.heard, now, SILENCE)
     }
 }

@@ -18,6 +18,7 @@ mod keeping;
 mod last_replies;
 mod moments;
 mod ports;
+mod refusals;
 mod replying;
 mod run;
 mod running;

@@ -1,6 +1,6 @@
 //! The data side of a session.
 
-ghost use Rattle.std.specs.Prelude.{◌≡◌, IfNone, IfSome, IsTrue, false, true};
+ghost use Rattle.std.specs.Prelude.{◌≡◌, ◌⊎◌, IfNone, IfSome, IsTrue, false, true};
 ghost use Rattle.server_house.specs.declared.cause.EndCause.TheVariants as cause;
 ghost use Rattle.session_table.specs.declared.inputs.End.TheVariants.{Aborted, NoConnection, NoMemory};
 ghost use Rattle.session_table.specs.declared.inputs.Input.TheVariants.{DataReady};
@@ -194,6 +194,7 @@ where
         ensures none { self.new.kept ≡ without_port self.old.kept }
         ensures prepared { self.new.prepared ≡ self.old.prepared }
         ensures running { self.new.run.running ≡ self.old.run.running }
+        ensures ready { self.new.ready ≡ self.old.ready }
         ensures cause { self.new.cause ≡ self.old.cause }
         ensures payer { self.new.run.payer ≡ self.old.run.payer }
     {
@@ -203,6 +204,27 @@ where
         }
         self.close_port(listener, port);
         None
+    }
+
+    /// Closes the connections that wait at the port that is kept, which nobody has asked for. Closes the port too if the
+    /// client is silent, or if others come faster than they are closed.
+    pub fn tend_kept(&mut self, is_silent: bool)
+        ensures silent { IsTrue is_silent → self.new.kept ≡ without_port self.old.kept }
+        ensures kept { (self.new.kept ≡ self.old.kept)
+            ⊎ (self.new.kept ≡ without_port self.old.kept) }
+        ensures prepared { self.new.prepared ≡ self.old.prepared }
+        ensures running { self.new.run.running ≡ self.old.run.running }
+        ensures ready { self.new.ready ≡ self.old.ready }
+        ensures cause { self.new.cause ≡ self.old.cause }
+        ensures payer { self.new.run.payer ≡ self.old.run.payer }
+    {
+        if let Some((port, listener)) = self.take_kept() {
+            if is_silent {
+                self.close_port(listener, port);
+            } else {
+                self.kept.at = Some((listener, port));
+            }
+        }
     }
 
     // Leases a port and listens on it. If none could be listened on, the error of the last is kept.

@@ -1,5 +1,5 @@
 -- What holds of each element of a list holds after one more is pushed.
-use Rattle.std.proofs.Common.{◌≡◌, ◌+◌, ℕ, zero, suc, List, [], ◌∷◌, ◌++◌, length, subst, Some}
+use Rattle.std.proofs.Common.{◌≡◌, ◌+◌, ℕ, zero, suc, List, [], ◌∷◌, ◌++◌, length, map, ap, refl, subst, Some}
 use Rattle.std.specs.Prelude.{slice_get}
 
 some_same : {X : Type 0} (x y : X) → Some x ≡ Some y → x ≡ y
@@ -10,3 +10,7 @@ pushed P [] x each last zero s is = subst (P 0) (some_same x s is) last
 pushed P [] x each last (suc i) s is = absurd (cc)
 pushed P (y ∷ xs) x each last zero s is = each 0 s is
 pushed P (y ∷ xs) x each last (suc i) s is = pushed (λ j. P (suc j)) xs x (λ j t e. each (suc j) t e) last i s is
+
+pub same_items : (xs : List ℕ) → map (λ x. x) xs ≡ xs
+same_items [] = refl
+same_items (x ∷ xs) = ap (λ (more : List ℕ). x ∷ more) (same_items xs)

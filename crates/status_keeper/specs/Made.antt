@@ -11,6 +11,8 @@ use Rattle.line_rates.specs.declared.ask.Way.TheVariants.{Down, Up}
 use Rattle.round_tally.specs.Counts.{all_rounds, held_sum, no_rounds}
 use Rattle.round_tally.specs.declared.held.HeldTally.{HeldTally}
 use Rattle.server_house.specs.declared.server_hooks.LaneLook.{LaneLook}
+use Rattle.server_house.specs.declared.server_hooks.ServerEvent.{ServerEvent}
+use Rattle.server_house.specs.declared.server_hooks.ServerEvent.TheVariants.{Waits}
 use Rattle.server_house.specs.declared.server_hooks.ServerLook.{ServerLook}
 use Rattle.server_house.specs.declared.server_hooks.TransferKind.{TransferKind}
 use Rattle.server_house.specs.declared.server_hooks.TransferKind.TheVariants.{Sent, Received, Listed}
@@ -24,6 +26,11 @@ use Rattle.server_status.specs.declared.status.TransferStatus.{TransferStatus}
 use Rattle.status_keeper.specs.declared.facts.Counts.{Counts}
 use Rattle.status_keeper.specs.declared.facts.KeptTransfer.{KeptTransfer}
 use Rattle.status_keeper.specs.declared.facts.StatusFacts.{StatusFacts}
+
+-- the calls of the machine that an end waits for, as this event or one before it told
+abbrev pub waits_after : ℕ → ServerEvent → ℕ
+waits_after before (Waits calls) = calls
+waits_after before _ = before
 
 abbrev pub way_of : TransferKind → Way
 way_of Sent = Down
@@ -133,4 +140,5 @@ pub record IsStatus (facts : StatusFacts) (ts : List KeptTransfer) (counts : Cou
   pub rounds : s.rounds ≡ rounds_of (rounds_with (all_rounds look.ended) look.lanes.now)
   pub failed_logins : s.failed_logins ≡ counts.failed_logins
   pub refused : s.refused ≡ counts.refused
+  pub waits : s.waits ≡ counts.waits
   pub transfers : AreRows facts look.lanes.now ts s.transfers.items

@@ -52,4 +52,6 @@ pub struct Counts {
     pub failed_logins: u64,
     /// Clients that were not served.
     pub refused: u64,
+    /// Calls of the machine that the end waits for, as it was told last.
+    pub waits: u64,
 }

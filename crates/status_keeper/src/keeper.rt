@@ -1,10 +1,12 @@
 //! The handler.
 
-ghost use Rattle.std.specs.Prelude.{◌≤◌, length};
+ghost use Rattle.std.specs.Prelude.{◌≡◌, ◌≤◌, length};
+ghost use Rattle.status_keeper.specs.Made.{waits_after};
 
 use crate::cell::StatusCell;
 use crate::facts::{Counts, KeptTransfer, StatusFacts};
 use crate::making::status_of;
+use crate::shown::shown_path;
 use server_house::{
     BegunTransfer, ClientSession, NotEnded, NotServed, ServerEvent, ServerHooks, ServerLook, SessionEvent,
     StoreNote, TransferRecord,
@@ -24,8 +26,8 @@ pub struct StatusKeeper<R, N> {
     counts: Counts,
 }
 
-fn copied(alloc: Global, text: Option<&str>) -> Option<String> {
-    String::from_str(alloc, text?).ok()
+fn path_of(alloc: Global, path: Option<&str>) -> Option<String> {
+    shown_path(alloc, path?).ok()
 }
 
 // A transfer of a session that has begun, to be kept.
@@ -41,10 +43,20 @@ fn kept(
         number: transfer.number,
         peer: session.peer,
         kind: transfer.kind,
-        path: copied(alloc, transfer.path),
+        path: path_of(alloc, transfer.path),
         size: transfer.size,
         since: transfer.since,
     })
+}
+
+// The calls of the machine that an end waits for, as this event or one before it told.
+fn waits_after(before: u64, event: ServerEvent) -> u64
+    ensures waits { result ≡ waits_after before event }
+{
+    match event {
+        ServerEvent::Waits(calls) => calls,
+        _ => before,
+    }
 }
 
 // The place of the transfer of a session.
@@ -89,6 +101,7 @@ impl<R: Wait + AllocGlobal, N> StatusKeeper<R, N> {
                 ended_moved: 0,
                 failed_logins: 0,
                 refused: 0,
+                waits: 0,
             },
         }
     }
@@ -130,6 +143,7 @@ impl<R: Wait + AllocGlobal + Drop, N: ServerHooks> ServerHooks for StatusKeeper<
     }
 
     fn on_server(&mut self, event: ServerEvent) {
+        self.counts.waits = waits_after(self.counts.waits, event);
         self.within.on_server(event);
     }
 

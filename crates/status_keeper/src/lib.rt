@@ -10,6 +10,7 @@ mod cell;
 mod facts;
 mod keeper;
 mod making;
+mod shown;
 
 pub use cell::StatusCell;
 pub use facts::{Counts, KeptTransfer, StatusFacts};

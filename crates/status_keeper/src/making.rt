@@ -236,6 +236,7 @@ pub fn status_of(
         rounds: rounds_of(rounds_with(look.ended.all_rounds(), look.lanes)),
         failed_logins: counts.failed_logins,
         refused: counts.refused,
+        waits: counts.waits,
         transfers: rows,
     })
 }

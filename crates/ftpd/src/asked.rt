@@ -39,8 +39,8 @@ pub(crate) struct AskedService {
     pub status_port: Option<u16>,
     /// Each file that is received is written to the device before its end is told.
     pub syncs: bool,
-    /// The greatest number of sessions in which one user is logged in; 0 is no limit.
-    pub user_sessions: u32,
+    /// The greatest number of sessions in which one user is logged in, as it is stated, if it is.
+    pub user_sessions: Option<String>,
     pub patience: Patience,
 }
 
@@ -100,6 +100,7 @@ impl<W: TextWriter> Server<W> for Asked {
         let ready_file = copied(alloc, files.ready_file)?;
         let transfer_log = copied(alloc, files.transfer_log)?;
         let log_form = copied(alloc, files.log_form)?;
+        let user_sessions = copied(alloc, files.user_sessions)?;
         let status = with_beside(alloc, files.status)?;
         let ReadConfig {
             path,
@@ -122,7 +123,7 @@ impl<W: TextWriter> Server<W> for Asked {
             status,
             status_port: files.status_port,
             syncs: files.syncs,
-            user_sessions: files.user_sessions,
+            user_sessions,
             patience,
         });
         Ok(())

@@ -8,7 +8,7 @@ use crate::sign_file::SignFile;
 use crate::stated_files::{FRONT, found_at, twin_of};
 use crate::status_file::StatusFile;
 use ftp_daemon::{Patience, ServeFault};
-use ftpd_program::{StartFault, is_free_for_log, is_free_for_status};
+use ftpd_program::{StartFault, is_free_for_log, is_free_for_status, stated_sessions};
 use line_queue::LogForm;
 use server_config::{Config, ServedStore};
 use std::net::{Net, TcpListener, TcpStream};
@@ -150,10 +150,7 @@ fn end_if_any(
     machine: &HostRuntime,
     path: Option<String>,
 ) -> Result<Option<(SignFile, String)>, Unprepared> {
-    let sign = part(
-        sign_if_any(machine, Sign::End, path),
-        ServeFault::EndFile,
-    )?;
+    let sign = part(sign_if_any(machine, Sign::End, path), ServeFault::EndFile)?;
     let Some(sign) = sign else {
         return Ok(None);
     };
@@ -201,6 +198,17 @@ fn form_named(name: Option<String>) -> Result<LogForm, StartFault> {
         "plain" => Ok(LogForm::Plain),
         "journal" => Ok(LogForm::Journal),
         _ => Err(StartFault::UnknownForm { word }),
+    }
+}
+
+/// Returns the number of sessions that a word states; 0, which is no limit, if none is stated. `Err` if it states none.
+fn sessions_in(word: Option<String>) -> Result<u32, StartFault> {
+    let Some(word) = word else {
+        return Ok(0);
+    };
+    match stated_sessions(word.as_str()) {
+        Some(sessions) => Ok(sessions),
+        None => Err(StartFault::NoSessions { word }),
     }
 }
 
@@ -328,6 +336,7 @@ where
         patience,
     } = service;
     let form = part(form_named(log_form), ServeFault::LogForm)?;
+    let user_sessions = part(sessions_in(user_sessions), ServeFault::UserSessions)?;
     let stop = part(
         sign_if_any(machine, Sign::Stop, stop_file),
         ServeFault::Stopped,

@@ -1,5 +1,6 @@
 //! The reason for which a server did not start, in the machine's words.
 
+use crate::session_limit::MOST_USER_SESSIONS;
 use config_report::is_nearly_memory;
 use std::{fmt, io};
 
@@ -42,6 +43,8 @@ pub enum StartFault {
     StatusUnwritten { path: String, reason: io::Error },
     /// This port of 127.0.0.1 cannot be listened on (`StatusPort`).
     StatusPortTaken { port: u16, reason: io::Error },
+    /// This is no number of sessions (`UserSessions`).
+    NoSessions { word: String },
     /// No form of notes has this name (`LogForm`).
     UnknownForm { word: String },
 }
@@ -106,6 +109,12 @@ impl fmt::Display for StartFault {
                 write!(
                     f,
                     "the status page cannot listen on 127.0.0.1:{port}: {reason}"
+                )
+            }
+            StartFault::NoSessions { word } => {
+                write!(
+                    f,
+                    "{word:?} is no number of sessions: it must be one from 0 to {MOST_USER_SESSIONS}, in digits"
                 )
             }
             StartFault::UnknownForm { word } => {

@@ -1,7 +1,7 @@
 -- Sessions that the owner of a server names.
 use Rattle.std.specs.Prelude.{ℕ, ◌≡◌, ◌<◌, List}
 use Rattle.std.specs.Str.Parse.{IsNumeral, digits_value}
-use Rattle.server_house.specs.declared.asked_session.TheConstants.{MOST_SESSIONS}
+use Rattle.server_house.specs.declared.asking.TheConstants.{MOST_SESSIONS}
 
 -- the text states that number of a session, in digits
 abbrev pub IsSession : List ℕ → ℕ → Type 0

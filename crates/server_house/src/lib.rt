@@ -10,7 +10,7 @@
 //! A listing and a file are read through one type, [`Served`], so that one board takes both.
 #![tactic(auto)]
 
-mod asked_session;
+mod asking;
 mod cause;
 mod connection;
 mod descriptors;
@@ -31,7 +31,7 @@ mod ticket;
 mod transfer_end;
 mod transfer_name;
 
-pub use asked_session::{MOST_SESSIONS, asked_session};
+pub use asking::{MOST_SESSIONS, asked_session};
 pub use cause::EndCause;
 pub use connection::{DataConnection, FIRST_WRITE};
 pub use descriptors::descriptors_for;

@@ -11,8 +11,8 @@ use crate::words::{CauseText, ServerText, SessionHead, SessionText, note_of, ref
 use line_queue::LogForm;
 use log::{Level, Log, log};
 use server_house::{
-    BegunTransfer, ClientSession, NotEnded, NotServed, ServerEvent, ServerHooks, ServerLook, SessionEvent,
-    StoreNote, TransferRecord,
+    BegunTransfer, ClientSession, NotEnded, NotServed, ServerEvent, ServerHooks, ServerLook,
+    SessionEvent, StoreNote, TransferRecord,
 };
 use session_table::HookCall;
 use std::alloc::Global;

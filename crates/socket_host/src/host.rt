@@ -36,7 +36,8 @@ use rate_floors::Floors;
 use recorded_store::{Recorder, StoreRecord};
 use server_house::{
     BegunTransfer, ClientSession, EndCause, HeldTerms, House, OwnRuns, ServerHooks, ServerRuntime,
-    SessionEvent, SessionRefusal, ShutdownStage, StoreNote, TransferKind, TransferRecord, copy_settings,
+    SessionEvent, SessionRefusal, ShutdownStage, StoreNote, TransferKind, TransferRecord,
+    copy_settings,
 };
 use session_table::{Action, HookCall, Input, Job, Settings, Text};
 use std::alloc::{AllocError, Global};
@@ -232,11 +233,7 @@ where
         ensures nobody { entrant ≡ None → result ≡ true }
     {
         match entrant {
-            Some(user) => self
-                .house
-                .logins
-                .lock(self.rt)
-                .enter(self.own.number, user),
+            Some(user) => self.house.logins.lock(self.rt).enter(self.own.number, user),
             None => true,
         }
     }

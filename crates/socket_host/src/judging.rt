@@ -138,4 +138,3 @@ pub(crate) fn ends_listing<K>(event: &Option<Input<Global, K>>, kind: TransferKi
         _ => false,
     }
 }
-

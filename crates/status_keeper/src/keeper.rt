@@ -8,8 +8,8 @@ use crate::facts::{Counts, KeptTransfer, StatusFacts};
 use crate::making::status_of;
 use crate::shown::shown_path;
 use server_house::{
-    BegunTransfer, ClientSession, NotEnded, NotServed, ServerEvent, ServerHooks, ServerLook, SessionEvent,
-    StoreNote, TransferRecord,
+    BegunTransfer, ClientSession, NotEnded, NotServed, ServerEvent, ServerHooks, ServerLook,
+    SessionEvent, StoreNote, TransferRecord,
 };
 use session_table::HookCall;
 use std::alloc::{AllocError, Global};

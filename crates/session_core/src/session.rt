@@ -105,20 +105,26 @@ impl<A: Allocator + Clone> Session<A> {
         }
     }
 
+    // The line whose turn it is at an input: a new one if no line waits, otherwise the first of those that wait.
+    fn in_turn<'s, K>(&'s self, input: &'s Input<A, K>) -> Option<&'s LineItem<A>>
+        ensures turn { option_map (λ item. item_of item.now) result
+            ≡ in_its_turn input.now self.now.held }
+    {
+        match input {
+            Input::Line(item) if self.held.is_empty() => Some(item),
+            Input::Held => self.held.first(),
+            _ => None,
+        }
+    }
+
     // Returns whether the line of an input is PASS in its turn with the password of the user who was named.
     fn is_right<K>(&self, users: &Authorizer<A>, input: &Input<A, K>) -> bool
         ensures right { result ≡ is_right users.now.users self.now.view.name
             (in_its_turn input.now self.now.held) }
     {
-        match input {
-            Input::Line(item) => {
-                self.held.is_empty() && is_right(users, self.state.name(), item)
-            }
-            Input::Held => match self.held.first() {
-                Some(item) => is_right(users, self.state.name(), item),
-                None => false,
-            },
-            _ => false,
+        match self.in_turn(input) {
+            Some(item) => is_right(users, self.state.name(), item),
+            None => false,
         }
     }
 

@@ -12,7 +12,7 @@ use virtual_tree::Store;
 pub enum EndSign {
     /// None.
     Nothing,
-    /// What was asked for cannot be read, for this reason; none if memory ran out.
+    /// The request cannot be read, for this reason; none if memory ran out.
     Unread(Option<String>),
     /// The sessions of these numbers, one in each line.
     Asked(String),
@@ -29,7 +29,7 @@ where
     house.handler.lock(rt).on_not_ended(why);
 }
 
-// Asks the session of a line to end. What is the number of no session that is there is told to the handler.
+// Asks the session of a line to end. If it is the number of no session that is there, the handler is told.
 fn end_session<R, S, H, B>(rt: &R, house: &House<S, H, B>, line: &str)
 where
     R: Wait,

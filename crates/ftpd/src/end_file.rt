@@ -13,7 +13,7 @@ pub(crate) struct EndFile {
     pub sign: SignFile,
     /// The thread that reads the file, and removes it.
     pub reader: Arc<ConfigReader>,
-    /// What is there could not be read or removed.
+    /// The file could not be read or removed.
     pub is_stuck: Mutex<bool>,
 }
 

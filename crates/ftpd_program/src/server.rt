@@ -40,7 +40,7 @@ pub enum ServeFault {
     /// The end file was there at the start, or could never be noticed.
     #[error("EndFile")]
     EndFile,
-    /// What is stated as a number of sessions is none.
+    /// The number of sessions that is stated is none.
     #[error("UserSessions")]
     UserSessions,
     /// Two of the paths that are stated are those of one file.

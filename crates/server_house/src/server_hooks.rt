@@ -60,9 +60,9 @@ pub enum SessionEvent {
 /// The reason for which no session ends, though the owner of a server asked for it.
 #[derive(Clone, Copy)]
 pub enum NotEnded<'a> {
-    /// What was asked for is the number of no session that is there.
+    /// This is the number of no session that is there.
     NoSession(&'a str),
-    /// What was asked for cannot be read, for this reason; none if memory ran out.
+    /// The request cannot be read, for this reason; none if memory ran out.
     Unread(Option<&'a str>),
 }
 

@@ -24,5 +24,6 @@ is_right users name _ = false
 -- the line in its turn is PASS with the right password.
 abbrev pub entering : {A K : Type 0} → Users → View → List Item → Input A K → Option (List ℕ)
 entering users view held reported =
-    if serves_lines view && (is_named view.stage && is_right users view.name (in_its_turn reported held))
+    if serves_lines view
+    && (is_named view.stage && is_right users view.name (in_its_turn reported held))
     then Some view.name else None

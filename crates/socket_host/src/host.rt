@@ -1,6 +1,6 @@
 //! The host of a control session.
 
-ghost use Rattle.std.specs.Prelude.{◌≡◌, ◌<◌, IfErr, IfOk, IfSome, None, OnErr, [], length, option_map, string_bytes, true};
+ghost use Rattle.std.specs.Prelude.{◌≡◌, ◌<◌, IfErr, IfOk, IfSome, OnErr, [], length, option_map, string_bytes, true};
 ghost use Rattle.std.specs.declared.alloc.Global.{Global};
 ghost use Rattle.control_session.specs.Calls.{reads_within};
 ghost use Rattle.control_session.specs.Rows.{IsRow};
@@ -208,55 +208,52 @@ where
         self.take_terms(newer, true);
     }
 
-    // The number of the user whom the step of an input would log in, by newer terms if there are any.
-    fn entrant(
-        &self,
-        session: &Session<Global>,
-        input: &Option<Input<Global, S::Sink>>,
-        newer: &Option<HeldTerms>,
-    ) -> Option<u32>
-        ensures line { IfSome input.now (λ input. IfSome result (λ _.
-            is_line (given_of input) ≡ true)) }
-    {
-        if !is_line(input) {
-            return None;
-        }
-        let terms = match newer {
-            Some(newest) => newest.terms(),
-            None => self.standing.terms(),
-        };
-        entrant(session, &terms.users, input)
-    }
-
-    // Takes a place among the sessions of a user who is about to be logged in, if anybody is. Returns whether there is one.
-    fn takes_place(&self, entrant: Option<u32>) -> bool
-        ensures nobody { entrant ≡ None → result ≡ true }
-    {
-        match entrant {
-            Some(user) => self.house.logins.lock(self.rt).enter(self.own.number, user),
-            None => true,
-        }
-    }
-
     // Leaves the place among the sessions of a user.
     fn leave_place(&self) {
         self.house.logins.lock(self.rt).leave(self.own.number);
     }
 
-    // Leaves the place of a user who was about to be logged in, and was not.
-    fn keep_place(&self, entrant: Option<u32>, is_inside: bool) {
-        if entrant.is_some() && !is_inside {
+    // Leaves the place that was taken for a step with PASS, if nobody is logged in after it.
+    fn keep_place(&self, was_pass: bool, session: &Session<Global>) {
+        if was_pass && !session.is_inside() {
             self.leave_place();
         }
     }
 
-    // Tells the client that its user is logged in as often as one user may be.
-    fn turn_away(&mut self)
+    // Takes a place among the sessions of a user. Returns whether there is one.
+    fn takes_place(&self, user: u32) -> bool {
+        self.house.logins.lock(self.rt).enter(self.own.number, user)
+    }
+
+    // Ends the session in the place of a step that would log a user in, by newer terms if there are any, who is logged in as
+    // often as one user may be. The client is told. Otherwise the session has a place among those of the user.
+    fn declines(
+        &mut self,
+        session: &Session<Global>,
+        input: &Option<Input<Global, S::Sink>>,
+        newer: &Option<HeldTerms>,
+    ) -> bool
+        ensures line { IfSome input.now (λ input.
+            result ≡ true → is_line (given_of input) ≡ true) }
         ensures standing { self.new.standing ≡ self.old.standing }
         ensures side { self.new.side ≡ self.old.side }
     {
+        if !is_line(input) {
+            return false;
+        }
+        let terms = match newer {
+            Some(newest) => newest.terms(),
+            None => self.standing.terms(),
+        };
+        let Some(user) = entrant(session, &terms.users, input) else {
+            return false;
+        };
+        if self.takes_place(user) {
+            return false;
+        }
         self.report(SessionEvent::Refused(SessionRefusal::TooManySessions));
         let _ = self.socket.write(CROWDED, &self.house.ending);
+        true
     }
 
     // The last reply to the client, if the session is to end now, other than for a limit of time.
@@ -531,6 +528,25 @@ where
         }
     }
 
+    // Ends the session in the place of a step for a line, if it is to end now or the step would log in a user who is logged
+    // in as often as one user may be. The client is told.
+    fn is_over(
+        &mut self,
+        session: &Session<Global>,
+        input: &Option<Input<Global, S::Sink>>,
+        newer: &Option<HeldTerms>,
+    ) -> bool
+        ensures line { IfSome input.now (λ input.
+            result ≡ true → is_line (given_of input) ≡ true) }
+        ensures stays { Stays self.old.standing self.new.standing }
+        ensures side { self.new.side ≡ self.old.side }
+    {
+        if self.ends_instead(input) {
+            return true;
+        }
+        self.declines(session, input, newer)
+    }
+
     // Tells the client that it has passed a limit of time.
     fn time_out(&mut self, why: TimeOut)
         ensures standing { self.new.standing ≡ self.old.standing }
@@ -620,18 +636,14 @@ where
         session: &mut Session<Global>,
         input: &mut Option<Input<Global, S::Sink>>,
     ) -> Result<Vec<Action<Global, S::Source, S::Sink>>, NoStep<Global, S::Sink>> {
-        if self.ends_instead(input) {
-            return Err(NoStep::Over);
-        }
         let newer = self.newer_terms();
-        let entrant = self.entrant(session, input, &newer);
-        if !self.takes_place(entrant) {
-            self.turn_away();
+        if self.is_over(session, input, &newer) {
             return Err(NoStep::Over);
         }
+        let is_pass = asks_floors(session, input);
         self.take_terms(newer, session.is_inside());
         let (made, record) = self.step_over(session, input);
-        self.keep_place(entrant, session.is_inside());
+        self.keep_place(is_pass, session);
         self.follow_store(record, is_refused(&made));
         self.report_made(&made);
         made

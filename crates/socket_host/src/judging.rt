@@ -1,4 +1,4 @@
-//! What a host sees in the inputs and actions of its session.
+//! Facts of the inputs and calls of a session that its host acts upon.
 
 ghost use Rattle.std.specs.Prelude.{◌≡◌, IfNone, IfSome, None, false};
 ghost use Rattle.control_session.specs.Sides.{given_of, is_line};

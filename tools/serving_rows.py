@@ -760,7 +760,7 @@ def notes():
         inside = ["connect", 'login "ann"', 'sent "/f"', 'received "/g"', 'not sent whole "/big": aborted by the client', 'logout "ann"', "disconnect"]
         # (the second may come before the place of the first is given back)
         wanted = [*inside, "connect", 'login failed "ann"', "disconnect"]
-        same([re.sub(r"#\d ", "#0 ", it) for it in server.notes_made(heads=True)], [f"127.0.0.1 #0 {it}" for it in wanted], "the notes")
+        same([re.sub(r"#\d+ ", "#0 ", it) for it in server.notes_made(heads=True)], [f"127.0.0.1 #0 {it}" for it in wanted], "the notes")
         few_ports = f"64 connections have fewer passive ports, {server.port + 1} to {server.port + 8}"
         same(server.warned(), [few_ports, "64 connections have fewer lanes, 16: while as many transfers run, listings and transfers of others wait"], "the warnings")
         want(not re.search("secret|wrong|sekret", server.noted()), "what is not to be noted")

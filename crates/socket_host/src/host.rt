@@ -280,11 +280,12 @@ where
         let _ = self.socket.write(reply, &self.house.ending);
     }
 
-    // Lets this many seconds pass, without a lock; ends early if the server ends.
+    // Lets this many seconds pass, without a lock; ends early if the server ends, or its owner has ended the session.
     fn delay(&self, seconds: u32) {
         let since = micros(self.rt);
         for _ in self.rt.forever() {
-            if is_due(self.is_ending(), since, micros(self.rt), seconds) {
+            let ends = self.is_ending() || self.is_ended();
+            if is_due(ends, since, micros(self.rt), seconds) {
                 return;
             }
             thread::sleep(self.rt, Duration::from_millis(LOOK));

@@ -2,6 +2,7 @@
 
 No contract says what a call does to the machine. Each row here is refused by a server in which such a call is made otherwise.
 """
+import contextlib
 import ctypes
 import os
 import random
@@ -10,7 +11,7 @@ import struct
 import threading
 import time
 
-from serving_kit import SECONDS, Client, Data, Server, same, until, want
+from serving_kit import PORTS_TO_HAND_OUT, SECONDS, Client, Data, Server, is_unread, same, until, want
 
 # The second address of this machine's loop.
 OTHER = "127.0.0.2"
@@ -42,6 +43,38 @@ def it_listens_at_its_address_alone():
         want(is_closed(OTHER, port), "a passive port at another address")
         same(client.retrieve("f"), b"a\nb", "the file")
         client.quit()
+        server.ended()
+
+
+def listened_at(server):
+    """The addresses and ports at which a server listens."""
+    inodes, found, at = set(), set(), f"/proc/{server.process.pid}/fd"
+    for number in os.listdir(at):
+        with contextlib.suppress(OSError):
+            inodes.add(os.readlink(f"{at}/{number}"))
+    for table in ("tcp", "tcp6"):
+        with open(f"/proc/{server.process.pid}/net/{table}", encoding="ascii") as rows:
+            for row in list(rows)[1:]:
+                words = row.split()
+                if words[3] == "0A" and f"socket:[{words[9]}]" in inodes:
+                    address, port = words[1].split(":")
+                    found.add((".".join(str(it) for it in reversed(bytes.fromhex(address))), int(port, 16)))
+    return found
+
+
+def it_listens_nowhere_else():
+    """All sockets at which the process listens are those of the configuration and its words: its port, that of its page, and one passive port for each session that has asked for one."""
+    page = PORTS_TO_HAND_OUT.take(1)
+    with Server(sessions=0, stop=True, words=["--status-port", str(page)]) as server:
+        own = {("127.0.0.1", server.port), ("127.0.0.1", page)}
+        same(listened_at(server), own, "before the first client")
+        one, two = Client(server), Client(server)
+        ports = {("127.0.0.1", one.passive_port()), ("127.0.0.1", two.passive_port())}
+        same(listened_at(server), own | ports, "with two passive ports")
+        one.quit()
+        two.quit()
+        until(lambda: listened_at(server) == own, "the passive ports are closed")
+        server.stop()
         server.ended()
 
 
@@ -224,14 +257,6 @@ def time_outs_are_set():
         server.ended()
 
 
-def is_unread(data):
-    """Whether a data connection is closed without an octet."""
-    try:
-        return data.whole() == b""
-    except ConnectionResetError:
-        return True
-
-
 def a_kept_passive_port():
     """With a port for each connection a session keeps its port for the next transfer. A connection that was made to it before is closed and not taken. A port of the client's own, and the end, give it back."""
     with Server(sessions=0, server="max_cons = 2", passive=2, stop=True) as server:
@@ -281,6 +306,28 @@ def a_kept_passive_port():
         same(Data(port).whole(), b"a\nb", "the file")
         client.says(None, "226 Transfer complete")
         want(is_closed("127.0.0.1", port), "a port that another session may need is kept")
+        client.quit()
+        server.ended()
+
+
+def a_kept_port_of_a_silent_client():
+    """Who connects to a port that is kept is closed within seconds, while the client is silent; after ten seconds the port is closed."""
+    with Server(sessions=1, server="max_cons = 2", passive=2) as server:
+        client = Client(server)
+        port = client.passive_port()
+        client.says("RETR f", "150 Opening data connection")
+        same(Data(port).whole(), b"a\nb", "the file")
+        client.says(None, "226 Transfer complete")
+        strangers = [Data(port) for _ in range(10)]
+        begun = time.monotonic()
+        for stranger in strangers:
+            want(is_unread(stranger), "a stranger got octets")
+        taken = time.monotonic() - begun
+        want(taken < 8, f"strangers were closed after {taken:.1f} seconds")
+        want(not is_closed("127.0.0.1", port), "the port is closed while its client may still want it")
+        time.sleep(12)
+        until(lambda: is_closed("127.0.0.1", port), "the end of the kept port")
+        same(client.retrieve("f"), b"a\nb", "the file")
         client.quit()
         server.ended()
 
@@ -404,8 +451,10 @@ def closed_streams_are_the_null_device():
 
 ROWS = [
     it_listens_at_its_address_alone,
+    it_listens_nowhere_else,
     time_outs_are_set,
     a_kept_passive_port,
+    a_kept_port_of_a_silent_client,
     a_listing_delays_nobody,
     a_brief_download_wakes_no_lane,
     files_of_any_length,

@@ -69,6 +69,14 @@ def same(found, wanted, what):
     want(found == wanted, f"{what}: {found!r}, wanted {wanted!r}")
 
 
+def is_unread(data):
+    """Whether a data connection is closed without an octet."""
+    try:
+        return data.whole() == b""
+    except ConnectionResetError:
+        return True
+
+
 def until(is_so, what, tries=TRIES):
     """Looks until it is so."""
     for _ in range(tries):

@@ -3,9 +3,11 @@ import contextlib
 import os
 import re
 import resource
+import shutil
 import signal
 import socket
 import subprocess
+import tempfile
 import time
 
 from serving_kit import SECONDS, SERVER, Client, Server, is_free, same, until, want
@@ -173,6 +175,32 @@ def the_silent_leave():
         same((notes.count("timed out without a login"), notes.count("timed out without a sign of life")), (5, 2), "notes of it")
 
 
+def a_clock_of_the_wall_that_jumps():
+    """Where each look at the clock of the wall is an hour early or an hour late, nobody is told to go, a rate is kept, and the next reload is taken."""
+    if not shutil.which("rustc"):
+        print("a_clock_of_the_wall_that_jumps: rustc is not at hand, so this row is left out")
+        return
+    words = ["--login-timeout", "600", "--idle-timeout", "600", "--transfer-log", "log"]
+    with tempfile.TemporaryDirectory() as room:
+        library = f"{room}/moving.so"
+        made = ["rustc", "--edition", "2021", "-O", "-C", "panic=abort", "--crate-type", "cdylib", "-o", library, f"{os.path.dirname(os.path.abspath(__file__))}/moving.rs"]
+        subprocess.run(made, check=True)
+        with Server(sessions=0, root="folder", files={"big": 300_000}, server="rate = 100000", stop=True, reload=True, words=words, before=f"export LD_PRELOAD={library}") as server:
+            silent, client = greeted_at(server), Client(server)
+            begun = time.monotonic()
+            same(len(client.retrieve("big")), 300_000, "the file")
+            want(2.5 < time.monotonic() - begun < 20, f"300,000 octets at 100,000 a second: {time.monotonic() - begun:.1f} s")
+            server.reloaded()
+            client.says("NOOP", "200 OK")
+            silent.says("NOOP", "200 OK")
+            server.stop()
+            client.says(None, "421 Server is ending")
+            server.ended()
+            with open(f"{server.place}/log", encoding="ascii") as it:
+                line = it.read()
+            want(2 <= int(line.split()[5]) <= 20, f"the seconds of the transfer: {line}")
+
+
 def a_wrong_password_takes_time():
     """The reply to one waits, for its session alone; the stop file ends the wait."""
     with Server(sessions=0, stop=True, words=["--login-delay", "1"]) as server:
@@ -330,6 +358,7 @@ ROWS = [
     few_files_are_noted,
     a_limit_of_file_sizes,
     the_silent_leave,
+    a_clock_of_the_wall_that_jumps,
     a_wrong_password_takes_time,
     the_address_of_a_port,
     reasons_are_noted,

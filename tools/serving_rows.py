@@ -9,7 +9,7 @@ import stat
 import threading
 import time
 
-from serving_kit import SECONDS, STEP, Client, Data, Refused, Server, same, together, until, want
+from serving_kit import SECONDS, STEP, Client, Data, Refused, Server, is_unread, same, together, until, want
 
 # How often each read and each look of the first two rows is tried, at STEP seconds each.
 FEW = 400
@@ -516,6 +516,37 @@ def a_lost_data_connection():
         same(server.notes_made()[2:4], [f'not sent whole "/big": {reset_by_peer}', f'not received whole "/up": {reset_by_peer}'], "the notes")
 
 
+def crowds_of_strangers_on_a_passive_port():
+    """As many strangers as are refused in one look, one fewer, one more, and many: the client that comes after them gets its file, and they get nothing."""
+    with Server(sessions=1, root="folder", files={"f": b"a\nb"}) as server:
+        client = Client(server)
+        for count in (1, 15, 16, 17, 40):
+            port = client.passive_port()
+            strangers = [Data(port, source="127.0.0.2") for _ in range(count)]
+            client.says("RETR f", "150 Opening data connection")
+            same(Data(port).whole(), b"a\nb", f"the file after {count} strangers")
+            client.says(None, "226 Transfer complete")
+            for stranger in strangers:
+                want(is_unread(stranger), "a stranger got octets")
+        client.quit()
+        server.ended()
+
+
+def a_client_that_drips():
+    """A client that reads its replies and sends its lines an octet at a time is served as any other."""
+    with Server(sessions=1, root="folder", files={"f": b"a\nb"}) as server:
+        client = Client(server)
+        port = client.passive_port()
+        for octet in b"RETR f\r\n":
+            client.socket.sendall(bytes([octet]))
+            time.sleep(0.02)
+        client.says(None, "150 Opening data connection")
+        same(Data(port).whole(), b"a\nb", "the file")
+        client.says(None, "226 Transfer complete")
+        client.quit()
+        server.ended()
+
+
 def a_stranger_on_a_passive_port():
     """A connection of another address is closed, and the client's own is waited for; a permitted one is taken."""
     with Server() as server:
@@ -847,6 +878,8 @@ ROWS = [
     a_quit_waits,
     a_lost_control_connection,
     a_lost_data_connection,
+    crowds_of_strangers_on_a_passive_port,
+    a_client_that_drips,
     a_stranger_on_a_passive_port,
     active_connections,
     a_stop_file,

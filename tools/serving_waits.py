@@ -4,6 +4,7 @@ A row that needs a name space of the network, or a system call that strace(1) ho
 line that says so.
 """
 import contextlib
+import json
 import os
 import pty
 import re
@@ -227,6 +228,11 @@ def a_terminal_that_nobody_reads():
         os.close(writer)
 
 
+def status_of(server):
+    with open(f"{server.place}/status.json", encoding="utf-8") as it:
+        return json.load(it)
+
+
 def what_the_end_waits_for():
     """A call of the machine that does not return is told ten seconds after the end began, and the end goes on once it has."""
     with Server(sessions=0, root="folder", files={"big": 30_000_000}, stop=True, words=["--login-delay", "0", "--status", "status.json"]) as server:
@@ -247,7 +253,31 @@ def what_the_end_waits_for():
             taken = time.monotonic() - begun
             want(9.5 < taken < 14, f"it was told after {taken:.1f} seconds")
             want(server.process.poll() is None, "it waits")
+            until(lambda: status_of(server)["waits"] == 1, "the status has it")
         server.ended()
+
+
+def files_on_the_device():
+    """With --sync the octets of a file are written to the device before the reply that it was received, and without it they are not."""
+    if not is_lent(["strace", "-o", "/dev/null", "true"]):
+        print("files_on_the_device: the machine shows no calls (strace), so this row is left out")
+        return
+    for words, count in (["--sync"], 1), ([], 0):
+        with Server(sessions=1, root="folder", files={}, words=words) as server:
+            trace = f"{server.place}/trace"
+            tracer = subprocess.Popen(["strace", "-f", "-qq", "-o", trace, "-e", "trace=fdatasync", "-p", str(server.process.pid)])
+            until(lambda: is_traced(server), "the tracer")
+            client = Client(server)
+            data = client.passive()
+            client.says("STOR up", "150 Opening data connection")
+            data.socket.sendall(b"new")
+            data.close()
+            client.says(None, "226 Transfer complete")
+            with open(trace, encoding="ascii") as it:
+                same(it.read().count("fdatasync("), count, f"calls with {words}")
+            client.quit()
+            tracer.wait(10)
+            server.ended()
 
 
 def a_page_with_silent_clients():
@@ -291,5 +321,6 @@ ROWS = [
     a_transfer_log_that_hangs,
     a_terminal_that_nobody_reads,
     what_the_end_waits_for,
+    files_on_the_device,
     a_page_with_silent_clients,
 ]

@@ -8,6 +8,8 @@ use Rattle.clap.specs.Walk.{Row, Rule, Text, Walk, answers_to, finished, first_o
 use Rattle.clap.specs.Simple.{Shape, built, label_of, names_of, new_shape}
 use Rattle.clap.specs.Words.{is_simple, subcommand_of, takes}
 use Rattle.clap.proofs.OnLiterals.{clap_on_literals}
+use Rattle.clap.specs.declared.builder.value_parser.Reading.TheVariants.{AsWritten}
+use Rattle.clap.specs.declared.parser.matches.ValueSource.TheVariants.{DefaultValue}
 use Rattle.command_line.proofs.CommandWalk.{Turns, Walks, and_then, by_level, ends, level, row, turn, valued, waiting_for}
 use Rattle.command_line.specs.Commands.{ftpd}
 use Rattle.command_line.specs.Given.{IsPlainWord, logged_words, ready_words, status_words}
@@ -455,6 +457,10 @@ timed_taken config login idle_time delay drain plain second third fourth fifth =
 
 -- ---- what the parser then holds of them
 
+-- that of the flag that is not there
+abbrev unsynced : Row
+unsynced = record { id = codes "sync"; values = codes "false" ∷ []; count = None; source = Some DefaultValue; reading = AsWritten }
+
 -- no number of seconds is stated
 abbrev pub AreUnstated : List Row → Type 0
 AreUnstated rows =
@@ -477,16 +483,16 @@ plain_entered : (config : Text) → subcommand_of ftpd (codes "serve" ∷ config
 unfolding clap_on_literals
 plain_entered config = refl
 
-plain_rows : (config : Text) → finished rules (valued [] (codes "CONFIG") config).held ≡ row (codes "CONFIG") config ∷ []
+plain_rows : (config : Text) → finished rules (valued [] (codes "CONFIG") config).held ≡ row (codes "CONFIG") config ∷ unsynced ∷ []
 unfolding clap_on_literals
 plain_rows config = refl
 
 pub serves : (config : Text) → IsPlainWord config → Serves config
 serves config plain =
     let walks = plain_walks config plain in
-    let end : rows_after rules [] (config ∷ []) ≡ row (codes "CONFIG") config ∷ [] = ap (λ (w : Walk). finished rules w.held) walks.leads ∙ plain_rows config in
+    let end : rows_after rules [] (config ∷ []) ≡ row (codes "CONFIG") config ∷ unsynced ∷ [] = ap (λ (w : Walk). finished rules w.held) walks.leads ∙ plain_rows config in
     record {
-      rows = row (codes "CONFIG") config ∷ [];
+      rows = row (codes "CONFIG") config ∷ unsynced ∷ [];
       taken = plain_taken config plain;
       entered = plain_entered config ∙ ap (λ (rows : List Row). Some (codes "serve", rows)) end;
       of = refl;
@@ -516,17 +522,17 @@ unfolding clap_on_literals
 timed_entered config login idle_time delay drain = refl
 
 timed_rows : (config login idle_time delay drain : Text) → finished rules (valued (row (codes "CONFIG") config ∷ row (codes "login-timeout") login ∷ row (codes "idle-timeout") idle_time ∷ row (codes "login-delay") delay ∷ []) (codes "drain-seconds") drain).held
-    ≡ row (codes "CONFIG") config ∷ row (codes "login-timeout") login ∷ row (codes "idle-timeout") idle_time ∷ row (codes "login-delay") delay ∷ row (codes "drain-seconds") drain ∷ []
+    ≡ row (codes "CONFIG") config ∷ row (codes "login-timeout") login ∷ row (codes "idle-timeout") idle_time ∷ row (codes "login-delay") delay ∷ row (codes "drain-seconds") drain ∷ unsynced ∷ []
 unfolding clap_on_literals
 timed_rows config login idle_time delay drain = refl
 
 pub serves_timed : (config login idle_time delay drain : Text) → IsPlainWord config → IsPlainWord login → IsPlainWord idle_time → IsPlainWord delay → IsPlainWord drain → ServesTimed config login idle_time delay drain
 serves_timed config login idle_time delay drain plain second third fourth fifth =
     let walks = timed_walks config login idle_time delay drain plain second third fourth fifth in
-    let end : rows_after rules [] (config ∷ codes "--login-timeout" ∷ login ∷ codes "--idle-timeout" ∷ idle_time ∷ codes "--login-delay" ∷ delay ∷ codes "--drain-seconds" ∷ drain ∷ []) ≡ row (codes "CONFIG") config ∷ row (codes "login-timeout") login ∷ row (codes "idle-timeout") idle_time ∷ row (codes "login-delay") delay ∷ row (codes "drain-seconds") drain ∷ []
+    let end : rows_after rules [] (config ∷ codes "--login-timeout" ∷ login ∷ codes "--idle-timeout" ∷ idle_time ∷ codes "--login-delay" ∷ delay ∷ codes "--drain-seconds" ∷ drain ∷ []) ≡ row (codes "CONFIG") config ∷ row (codes "login-timeout") login ∷ row (codes "idle-timeout") idle_time ∷ row (codes "login-delay") delay ∷ row (codes "drain-seconds") drain ∷ unsynced ∷ []
     = ap (λ (w : Walk). finished rules w.held) walks.leads ∙ timed_rows config login idle_time delay drain in
     record {
-      rows = row (codes "CONFIG") config ∷ row (codes "login-timeout") login ∷ row (codes "idle-timeout") idle_time ∷ row (codes "login-delay") delay ∷ row (codes "drain-seconds") drain ∷ [];
+      rows = row (codes "CONFIG") config ∷ row (codes "login-timeout") login ∷ row (codes "idle-timeout") idle_time ∷ row (codes "login-delay") delay ∷ row (codes "drain-seconds") drain ∷ unsynced ∷ [];
       taken = timed_taken config login idle_time delay drain plain second third fourth fifth;
       entered = timed_entered config login idle_time delay drain ∙ ap (λ (rows : List Row). Some (codes "serve", rows)) end;
       of = refl;
@@ -558,17 +564,17 @@ until_entered : (config path : Text) → subcommand_of ftpd (until config path) 
 unfolding clap_on_literals
 until_entered config path = refl
 
-until_rows : (config path : Text) → finished rules (valued (row (codes "CONFIG") config ∷ []) (codes "stop-file") path).held ≡ row (codes "CONFIG") config ∷ row (codes "stop-file") path ∷ []
+until_rows : (config path : Text) → finished rules (valued (row (codes "CONFIG") config ∷ []) (codes "stop-file") path).held ≡ row (codes "CONFIG") config ∷ row (codes "stop-file") path ∷ unsynced ∷ []
 unfolding clap_on_literals
 until_rows config path = refl
 
 pub serves_until : (config path : Text) → IsPlainWord config → IsPlainWord path → ServesUntil config path
 serves_until config path plain also =
     let walks = until_walks config path plain also in
-    let end : rows_after rules [] (config ∷ codes "--stop-file" ∷ path ∷ []) ≡ row (codes "CONFIG") config ∷ row (codes "stop-file") path ∷ []
+    let end : rows_after rules [] (config ∷ codes "--stop-file" ∷ path ∷ []) ≡ row (codes "CONFIG") config ∷ row (codes "stop-file") path ∷ unsynced ∷ []
     = ap (λ (w : Walk). finished rules w.held) walks.leads ∙ until_rows config path in
     record {
-      rows = row (codes "CONFIG") config ∷ row (codes "stop-file") path ∷ [];
+      rows = row (codes "CONFIG") config ∷ row (codes "stop-file") path ∷ unsynced ∷ [];
       taken = until_taken config path plain also;
       entered = until_entered config path ∙ ap (λ (rows : List Row). Some (codes "serve", rows)) end;
       of = refl;
@@ -594,17 +600,17 @@ unfolding clap_on_literals
 ready_entered config path ready = refl
 
 ready_rows : (config path ready : Text) → finished rules (valued (row (codes "CONFIG") config ∷ row (codes "stop-file") path ∷ []) (codes "ready-file") ready).held
-    ≡ row (codes "CONFIG") config ∷ row (codes "stop-file") path ∷ row (codes "ready-file") ready ∷ []
+    ≡ row (codes "CONFIG") config ∷ row (codes "stop-file") path ∷ row (codes "ready-file") ready ∷ unsynced ∷ []
 unfolding clap_on_literals
 ready_rows config path ready = refl
 
 pub serves_ready : (config path ready : Text) → IsPlainWord config → IsPlainWord path → IsPlainWord ready → ServesReady config path ready
 serves_ready config path ready plain also third =
     let walks = ready_walks config path ready plain also third in
-    let end : rows_after rules [] (config ∷ codes "--stop-file" ∷ path ∷ codes "--ready-file" ∷ ready ∷ []) ≡ row (codes "CONFIG") config ∷ row (codes "stop-file") path ∷ row (codes "ready-file") ready ∷ []
+    let end : rows_after rules [] (config ∷ codes "--stop-file" ∷ path ∷ codes "--ready-file" ∷ ready ∷ []) ≡ row (codes "CONFIG") config ∷ row (codes "stop-file") path ∷ row (codes "ready-file") ready ∷ unsynced ∷ []
     = ap (λ (w : Walk). finished rules w.held) walks.leads ∙ ready_rows config path ready in
     record {
-      rows = row (codes "CONFIG") config ∷ row (codes "stop-file") path ∷ row (codes "ready-file") ready ∷ [];
+      rows = row (codes "CONFIG") config ∷ row (codes "stop-file") path ∷ row (codes "ready-file") ready ∷ unsynced ∷ [];
       taken = ready_taken config path ready plain also third;
       entered = ready_entered config path ready ∙ ap (λ (rows : List Row). Some (codes "serve", rows)) end;
       of = refl;
@@ -630,17 +636,17 @@ unfolding clap_on_literals
 logged_entered config path form = refl
 
 logged_rows : (config path form : Text) → finished rules (valued (row (codes "CONFIG") config ∷ row (codes "transfer-log") path ∷ []) (codes "log-form") form).held
-    ≡ row (codes "CONFIG") config ∷ row (codes "transfer-log") path ∷ row (codes "log-form") form ∷ []
+    ≡ row (codes "CONFIG") config ∷ row (codes "transfer-log") path ∷ row (codes "log-form") form ∷ unsynced ∷ []
 unfolding clap_on_literals
 logged_rows config path form = refl
 
 pub serves_logged : (config path form : Text) → IsPlainWord config → IsPlainWord path → IsPlainWord form → ServesLogged config path form
 serves_logged config path form plain also third =
     let walks = logged_walks config path form plain also third in
-    let end : rows_after rules [] (config ∷ codes "--transfer-log" ∷ path ∷ codes "--log-form" ∷ form ∷ []) ≡ row (codes "CONFIG") config ∷ row (codes "transfer-log") path ∷ row (codes "log-form") form ∷ []
+    let end : rows_after rules [] (config ∷ codes "--transfer-log" ∷ path ∷ codes "--log-form" ∷ form ∷ []) ≡ row (codes "CONFIG") config ∷ row (codes "transfer-log") path ∷ row (codes "log-form") form ∷ unsynced ∷ []
     = ap (λ (w : Walk). finished rules w.held) walks.leads ∙ logged_rows config path form in
     record {
-      rows = row (codes "CONFIG") config ∷ row (codes "transfer-log") path ∷ row (codes "log-form") form ∷ [];
+      rows = row (codes "CONFIG") config ∷ row (codes "transfer-log") path ∷ row (codes "log-form") form ∷ unsynced ∷ [];
       taken = logged_taken config path form plain also third;
       entered = logged_entered config path form ∙ ap (λ (rows : List Row). Some (codes "serve", rows)) end;
       of = refl;
@@ -665,17 +671,17 @@ unfolding clap_on_literals
 status_entered config path port = refl
 
 status_rows : (config path port : Text) → finished rules (valued (row (codes "CONFIG") config ∷ row (codes "status") path ∷ []) (codes "status-port") port).held
-    ≡ row (codes "CONFIG") config ∷ row (codes "status") path ∷ row (codes "status-port") port ∷ []
+    ≡ row (codes "CONFIG") config ∷ row (codes "status") path ∷ row (codes "status-port") port ∷ unsynced ∷ []
 unfolding clap_on_literals
 status_rows config path port = refl
 
 pub serves_status : (config path port : Text) → IsPlainWord config → IsPlainWord path → IsPlainWord port → ServesStatus config path port
 serves_status config path port plain also third =
     let walks = status_walks config path port plain also third in
-    let end : rows_after rules [] (config ∷ codes "--status" ∷ path ∷ codes "--status-port" ∷ port ∷ []) ≡ row (codes "CONFIG") config ∷ row (codes "status") path ∷ row (codes "status-port") port ∷ []
+    let end : rows_after rules [] (config ∷ codes "--status" ∷ path ∷ codes "--status-port" ∷ port ∷ []) ≡ row (codes "CONFIG") config ∷ row (codes "status") path ∷ row (codes "status-port") port ∷ unsynced ∷ []
     = ap (λ (w : Walk). finished rules w.held) walks.leads ∙ status_rows config path port in
     record {
-      rows = row (codes "CONFIG") config ∷ row (codes "status") path ∷ row (codes "status-port") port ∷ [];
+      rows = row (codes "CONFIG") config ∷ row (codes "status") path ∷ row (codes "status-port") port ∷ unsynced ∷ [];
       taken = status_taken config path port plain also third;
       entered = status_entered config path port ∙ ap (λ (rows : List Row). Some (codes "serve", rows)) end;
       of = refl;

@@ -140,16 +140,19 @@ status_has s = (
                         (
                           refl,
                           (
-                            refl, (rate_fits s.line.both,
+                            refl,
                             (
-                              rate_fits s.line.down,
+                              rate_fits s.line.both,
                               (
-                                rate_fits s.line.up,
-                                (refl, (refl, (refl, (refl, (refl, (refl, (refl, (refl, tt)))))))),
+                                rate_fits s.line.down,
+                                (
+                                  rate_fits s.line.up,
+                                  (refl, (refl, (refl, (refl, (refl, (refl, (refl, (refl, tt)))))))),
+                                ),
                               ),
                             ),
                           ),
-                        )),
+                        ),
                       ),
                     ),
                   ),

@@ -3,7 +3,8 @@
 ghost use Rattle.std.specs.Prelude.{◌≡◌, ◌↔◌, IfErr, IfSome, IsNone, IsTrue, OnOk, Some, codes, map, option_map};
 ghost use Rattle.serde_json.specs.View.{view};
 ghost use Rattle.server_status.specs.Fits.{AllHave, Fits, Has, HasAll, IsAddress, IsFirstFault, IsFirstFaultIn, IsMemberFault, direction_named, direction_of, found, is_unit, row_of, rows_of};
-ghost use Rattle.server_status.specs.StatusRead.{IsFaultOf, IsFine, IsVersionFault, count_if_in, list_in};
+ghost use Rattle.server_status.specs.StatusRead.{IsFaultOf, IsFine, IsListFault, IsVersionFault, count_if_in, list_in};
+ghost use Rattle.server_status.specs.Tables.{group_rows, transfer_rows};
 
 use crate::fault::StatusFault;
 use crate::member::{GROUP, Kind, Member, STATUS, TRANSFER, VERSION};
@@ -146,6 +147,18 @@ fn judge_version(value: &Value) -> Result<(), StatusFault>
     }
 }
 
+/// Judges the lists of a value, its groups and then its transfers: `Err` is their first fault.
+fn judge_lists(value: &Value) -> Result<(), StatusFault>
+    ensures groups { OnOk result
+        (AllHave group_rows (list_in (codes "groups") (Some (view value.now)))) }
+    ensures transfers { OnOk result
+        (AllHave transfer_rows (list_in (codes "transfers") (Some (view value.now)))) }
+    ensures fault { IfErr result (IsListFault (view value.now)) }
+{
+    judge_records(list(value, "groups"), &GROUP)?;
+    judge_records(list(value, "transfers"), &TRANSFER)
+}
+
 /// Judges a value as a status: `Err` is its first fault.
 pub(crate) fn judge(value: &Value) -> Result<(), StatusFault>
     ensures fine { OnOk result (IsFine (view value.now)) }
@@ -153,6 +166,5 @@ pub(crate) fn judge(value: &Value) -> Result<(), StatusFault>
 {
     judge_version(value)?;
     judge_record(value, &STATUS)?;
-    judge_records(list(value, "groups"), &GROUP)?;
-    judge_records(list(value, "transfers"), &TRANSFER)
+    judge_lists(value)
 }

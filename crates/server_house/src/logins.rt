@@ -1,6 +1,6 @@
 //! The users who are logged in, by their sessions.
 
-ghost use Rattle.std.specs.Prelude.{◌≡◌, None, Some, IfOk, count_by, length, replicate, slice_set, false, true};
+ghost use Rattle.std.specs.Prelude.{◌≡◌, None, Some, IfOk, replicate, slice_set, false, true};
 ghost use Rattle.server_house.specs.Logins.{has_place, is_of, sessions_of};
 
 use std::alloc::{AllocError, Global};

@@ -384,7 +384,7 @@ fn faults_of_the_log_are_explained(rt: HostRuntime) {
 }
 
 const OUT_OF_RANGE: &str =
-    "top: version: out of range; it must be a number from 1 to 2\nftpd: OutOfRange\n";
+    "file: top: version: out of range; it must be a number from 1 to 2\nftpd: OutOfRange\n";
 
 /// If a configuration is refused, the server is not called.
 #[test]

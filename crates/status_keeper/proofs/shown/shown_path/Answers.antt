@@ -8,8 +8,8 @@ use Rattle.status_keeper.specs.Shown.{shown}
 use Rattle.status_keeper.proofs.Pushed.{same_items}
 use Rattle.status_keeper.proofs.shown.shown_path.Goals as goal
 
-pub returns-in_Ok : goal.returns-in_Ok
-returns-in_Ok c =
+pub returns : goal.returns
+returns c =
     let t = YieldsList-end (YieldsList-from_chars c.args.path.now c.utf8.path cc) c.loop-character.yielded _ c.loop-character.yielded_by _ _ c.in-None.is c.next.ensures.steps in
     let all : c.loop-character.yielded ≡ chars c.args.path.now = sym (same_items c.loop-character.yielded) ∙ t.0 in
     record {

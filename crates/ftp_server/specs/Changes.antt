@@ -21,6 +21,12 @@ pub record IsSameButRates (old new : FtpServer) : Type 0 where
   pub settings : new.settings ≡ old.settings
   pub patience : new.patience ≡ old.patience
 
+-- everything stays
+pub record IsSame (old new : FtpServer) : Type 0 where
+  pub groups : new.groups.items ≡ old.groups.items
+  pub user_rates : new.user_rates.items ≡ old.user_rates.items
+  pub same : IsSameButRates old new
+
 -- the user of this name has these rates, after all that were set before
 pub record HasRates (old : FtpServer) (name : List ℕ) (rates : UserRates)
     (new : FtpServer) : Type 0 where

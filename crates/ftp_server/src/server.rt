@@ -2,7 +2,7 @@
 
 ghost use Rattle.std.specs.Prelude.{◌≡◌, ◌+◌, [], ◌∷◌, ◌++◌, ◌^◌, ◌≤◌, IfErr, IfOk, OnErr, OnOk, length};
 ghost use Rattle.ftp_server.specs.Defaults.{AreDefaults};
-ghost use Rattle.ftp_server.specs.Changes.{HasGroup, HasRates, IsRateFault};
+ghost use Rattle.ftp_server.specs.Changes.{HasGroup, HasRates, IsRateFault, IsSame};
 
 use crate::fault::FtpServerFault;
 use crate::rates::{SetRates, UserRates};
@@ -105,7 +105,7 @@ impl FtpServer {
     /// ```
     pub fn limit_user(&mut self, name: &str, rates: UserRates) -> Result<(), FtpServerFault>
         ensures set { OnOk result (HasRates self.old name.now rates self.new) }
-        ensures unchanged { OnErr result (self.new ≡ self.old) }
+        ensures unchanged { OnErr result (IsSame self.old self.new) }
         ensures fault { IfErr result (IsRateFault self.old.users name.now) }
     {
         let Some(number) = self.users.number(name) else {
@@ -124,7 +124,7 @@ impl FtpServer {
     /// ```
     pub fn add_group(&mut self, down: u64, up: u64) -> Result<u32, FtpServerFault>
         ensures added { IfOk result (λ group. HasGroup self.old group down up self.new) }
-        ensures unchanged { OnErr result (self.new ≡ self.old) }
+        ensures unchanged { OnErr result (IsSame self.old self.new) }
     {
         let Ok(group) = u32::try_from(self.groups.len()) else {
             return Err(FtpServerFault::Memory);

@@ -1,12 +1,17 @@
--- The user of a name whose number was found.
-use Rattle.std.proofs.Common.{◌≡◌, ℕ, Option, Some, None, refl, sym, ◌∙◌}
+-- The user of a name whose number was found, and the rates that are set for that number.
+use Rattle.std.proofs.Common.{◌≡◌, ℕ, List, [], ◌∷◌, ◌++◌, Option, Some, None, refl, ap, ◌∙◌}
 use Rattle.std.specs.Option.{option_map}
 use Rattle.authorizer.specs.Users.{User}
+use Rattle.ftp_server.specs.declared.rates.SetRates.{SetRates}
+use Rattle.ftp_server.specs.declared.rates.UserRates.{UserRates}
 
 pub found_user : (found : Option User) (number : ℕ) → Some number ≡ option_map (λ user. user.number) found → (user : User) × (found ≡ Some user) × (number ≡ user.number)
 found_user None number is = absurd (cc)
 found_user (Some user) number is = (user, refl, cc)
 
-pub no_user : (found : Option User) → None ≡ option_map (λ user. user.number) found → found ≡ None
-no_user None is = refl
-no_user (Some user) is = absurd (cc)
+one_more : List SetRates → UserRates → ℕ → List SetRates
+one_more before rates number = before ++ record { number = number; rates = rates } ∷ []
+
+pub set_for : (before new : List SetRates) (rates : UserRates) (number other : ℕ) → new ≡ before ++ record { number = number; rates = rates } ∷ [] → number ≡ other
+    → new ≡ before ++ record { number = other; rates = rates } ∷ []
+set_for before new rates number other is same = is ∙ ap (one_more before rates) same

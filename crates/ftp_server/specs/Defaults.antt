@@ -45,3 +45,4 @@ pub record AreDefaults (address : List ℕ) (port : ℕ) (server : FtpServer) : 
   pub patience : IsDefaultPatience server.patience
   pub groups : server.groups.items ≡ []
   pub user_rates : server.user_rates.items ≡ []
+  pub syncs : server.syncs ≡ false

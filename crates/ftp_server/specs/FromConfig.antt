@@ -1,5 +1,5 @@
 -- The server of a configuration.
-use Rattle.std.specs.Prelude.{◌≡◌, ℕ, List, map}
+use Rattle.std.specs.Prelude.{◌≡◌, ℕ, List, false, map}
 use Rattle.line_rates.specs.Stated.{by_number, group_number, user_number}
 use Rattle.line_rates.specs.declared.row.UserRate.{UserRate}
 use Rattle.server_config.specs.declared.config.Config.{Config}
@@ -34,3 +34,4 @@ pub record IsOfConfig (config : Config) (server : FtpServer) : Type 0 where
   pub rows : List UserRate
   pub rows_are : by_number user_number rows ≡ config.limits.users
   pub user_rates : server.user_rates.items ≡ map set_of rows
+  pub syncs : server.syncs ≡ false

@@ -1,5 +1,6 @@
 //! Faults of a server of one's own.
 
+use crate::ranges::NumberFault;
 use authorizer::AuthorizerFault;
 use ftp_daemon::ServeFault;
 use line_rates::LimitsFault;
@@ -10,6 +11,15 @@ use thiserror::Error;
 use virtual_tree::StoreFault;
 
 /// The reason for which a server is not as it was to be, or did not serve. The faults of all calls become one by `?`.
+///
+/// ```text
+/// fn main(rt: HostRuntime) -> Result<(), FtpServerFault> {
+///     let mut server = FtpServer::at(rt.alloc(), [127, 0, 0, 1], 2121)?;
+///     server.users.add_user("ann", "secret", "/", "elradfmw")?;
+///     server.serve_folder(&rt, &rt, "/srv/ftp", NoHooks)?;
+///     Ok(())
+/// }
+/// ```
 #[derive(Debug, Drop, Error)]
 pub enum FtpServerFault {
     /// The configuration is refused.
@@ -21,9 +31,9 @@ pub enum FtpServerFault {
     /// The rates are refused: one is too large, or a user is in a group that was not added.
     #[error("{0}")]
     Rate(LimitsFault),
-    /// A number of the server is out of its range.
-    #[error("a port, a maximum count or the number of lanes is out of its range")]
-    Number,
+    /// A number of the server is out of its range: this one.
+    #[error("{0}")]
+    Number(NumberFault),
     /// The folder cannot be opened: it is not there, it is no directory, or a fault of the device, with the machine's error
     /// if that is known.
     #[error("the folder cannot be opened: {0}")]

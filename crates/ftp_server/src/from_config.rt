@@ -82,6 +82,7 @@ impl FtpServer {
             },
             groups,
             user_rates,
+            syncs: false,
             alloc,
         };
         Ok((server, store))

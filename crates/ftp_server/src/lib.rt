@@ -33,6 +33,7 @@ pub use grant_ledger::SettledNumbers;
 pub use line_rates::{GroupRate, LimitsFault};
 pub use memory_store::MemStore;
 pub use page_store::{PageFault, PageStore, Pages};
+pub use ranges::NumberFault;
 pub use rates::{SetRates, UserRates};
 pub use server::FtpServer;
 pub use server_config::{Config, ConfigFault, ServedStore, ServerNumbers};
@@ -42,6 +43,6 @@ pub use server_house::{
 };
 pub use session_table::{HookCall, Settings};
 pub use stop_flag::StopFlag;
-pub use stores::{FolderStore, Stores, open_folder};
+pub use stores::{FolderStore, Stores};
 pub use virtual_path::VPath;
 pub use virtual_tree::{ListedEntry, Sink, Source, Store, StoreFault, WriteMode};

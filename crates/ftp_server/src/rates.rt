@@ -2,6 +2,11 @@
 
 /// The rates of a user and of each of their sessions, in octets per second; 0 is no limit, and a floor of 0 is no
 /// guarantee.
+///
+/// ```text
+/// let rates = UserRates { session_down: 500_000, ..UserRates::NONE };
+/// server.limit_user("ann", rates)?;
+/// ```
 #[derive(Clone, Copy, Debug, PartialEq, Eq)]
 pub struct UserRates {
     /// Limit to the user's downloads.
@@ -20,6 +25,10 @@ pub struct UserRates {
 
 impl UserRates {
     /// No limit and no guarantee.
+    ///
+    /// ```text
+    /// server.limit_user("ann", UserRates::NONE)?; // as if none had been set
+    /// ```
     pub const NONE: UserRates = UserRates {
         down: 0,
         up: 0,
@@ -31,9 +40,14 @@ impl UserRates {
 }
 
 /// Rates that were set for a user, by the user's number.
+///
+/// ```text
+/// let last = server.user_rates.last(); // Some(SetRates { number: 0, rates })
+/// ```
 #[derive(Clone, Copy, Debug, PartialEq, Eq)]
 pub struct SetRates {
     /// The number of the user in the server's `users`.
     pub number: u32,
+    /// The rates, in octets per second.
     pub rates: UserRates,
 }

@@ -16,6 +16,13 @@ use std::alloc::{AllocError, Global};
 
 /// A server that has not begun: its users, their rates and its settings. What is not set is that of a configuration that
 /// does not state it. A call that serves takes it.
+///
+/// ```text
+/// let mut server = FtpServer::at(rt.alloc(), [127, 0, 0, 1], 2121)?;
+/// server.users.add_user("ann", "secret", "/", "elradfmw")?;
+/// server.down_rate = 4_000_000; // octets per second
+/// server.serve_folder(&rt, &rt, "/srv/ftp", NoHooks)?;
+/// ```
 #[derive(Drop)]
 pub struct FtpServer {
     /// The users; each call of `Authorizer` may be made on them until the server begins.
@@ -38,6 +45,8 @@ pub struct FtpServer {
     /// The rates of users in the order in which `limit_user` set them. Of two for one user the later counts; a user
     /// without any has no limit and no guarantee.
     pub user_rates: Vec<SetRates>,
+    /// A folder has the octets of each file that is received put on the device before its reply.
+    pub syncs: bool,
     pub(crate) alloc: Global,
 }
 
@@ -93,6 +102,7 @@ impl FtpServer {
             },
             groups: Vec::new(alloc),
             user_rates: Vec::new(alloc),
+            syncs: false,
             alloc,
         })
     }

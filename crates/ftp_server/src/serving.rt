@@ -1,17 +1,20 @@
 //! Serving, until a server's sessions or its owner's signs end it.
 
-ghost use Rattle.std.specs.Prelude.{◌≡◌, ◌≢◌, ◌+◌, ◌*◌, ◌≤◌, ℕ, Err, IfOk, IfSome, true};
+ghost use Rattle.std.specs.Prelude.{◌≡◌, ◌≢◌, ◌+◌, ◌*◌, ◌≤◌, ℕ, Err, IfErr, IfOk, IfSome, None, length, true};
+ghost use Rattle.std.specs.Arc.{arc_value};
 ghost use Rattle.line_rates.specs.Rates.{Rates};
 ghost use Rattle.paced_rounds.specs.Seconds.{AreInSeconds, HasKept};
 ghost use Rattle.ftp_daemon.specs.SameRates.{may_hold};
-ghost use Rattle.ftp_server.specs.Ranges.{AreInRange};
+ghost use Rattle.ftp_server.specs.Folders.{IsFolderFault};
+ghost use Rattle.ftp_server.specs.Ranges.{range_fault};
 ghost use Rattle.ftp_server.specs.Rows.{IsRefusedFor, no_others, rates_fault, server_rates};
 
 use crate::fault::FtpServerFault;
-use crate::ranges::are_in_range;
+use crate::ranges::number_fault;
 use crate::rows::user_rows;
 use crate::server::FtpServer;
-use crate::stores::{Stores, open_folder};
+use crate::stop_flag::StopFlag;
+use crate::stores::{FolderStore, Stores, open_folder};
 use client_patience::Patience;
 use ftp_daemon::{NoSigns, OwnerSigns, RoundClock, ServerRuntime, Service, Terms, serve};
 use grant_ledger::SettledNumbers;
@@ -30,19 +33,69 @@ struct Parts {
     numbers: ServerNumbers,
     limits: Limits,
     patience: Patience,
+    syncs: bool,
+}
+
+// Serves with these parts.
+fn serve_parts<R, S, H, P>(
+    rt: &R,
+    parts: Parts,
+    stores: Stores<S>,
+    handler: H,
+    signs: P,
+) -> Result<SettledNumbers, FtpServerFault>
+where
+    R: Threads + ServerRuntime + RoundClock + Copy + Send + Sync,
+    S: Store<Global> + Send + Drop,
+    S::Source: Send,
+    S::Sink: Send,
+    H: ServerHooks + Send,
+    P: OwnerSigns + Send + Sync + Drop,
+    ensures sum { IfOk result (λ settled. settled.issued ≡ settled.moved + settled.back) }
+    ensures kept { IfOk result (λ settled.
+        HasKept (may_hold parts.limits P.allows) R.when 0 settled.issued) }
+    ensures seconds { IfOk result (λ settled. (first count : ℕ)
+        → AreInSeconds R.when first count → parts.limits.server ≢ 0
+        → ((rates : Rates) → P.allows rates ≡ true → rates.server ≡ parts.limits.server)
+        → settled.issued ≤ count * parts.limits.server) }
+{
+    let Stores { store, own } = stores;
+    let service = Service {
+        terms: parts.terms,
+        numbers: parts.numbers,
+        limits: parts.limits,
+        store,
+        own_stores: own,
+        handler,
+        signs: Some(signs),
+        patience: parts.patience,
+    };
+    let mut output = Vec::new(rt.alloc());
+    match serve(rt, service, &mut output) {
+        Ok(settled) => Ok(settled),
+        Err(fault) => Err(FtpServerFault::Serve(fault)),
+    }
 }
 
 impl FtpServer {
     // The parts of the server: its numbers are in their ranges, and its rates are taken.
     fn into_parts(self) -> Result<Parts, FtpServerFault>
-        ensures number { (AreInRange self.numbers → ⊥) → result ≡ Err FtpServerFault.Number }
-        ensures refused { AreInRange self.numbers
+        ensures number { IfSome (range_fault self) (λ fault.
+            result ≡ Err (FtpServerFault.Number fault)) }
+        ensures refused { range_fault self ≡ None
             → IfSome (rates_fault self) (λ fault. IsRefusedFor fault result) }
         ensures limits { IfOk result (λ parts. parts.limits ≡ server_rates self) }
         ensures numbers { IfOk result (λ parts. parts.numbers ≡ self.numbers) }
+        ensures users { IfOk result (λ parts. (arc_value parts.terms).users ≡ self.users) }
+        ensures settings { IfOk result (λ parts.
+            (arc_value parts.terms).settings ≡ self.settings) }
+        ensures patience { IfOk result (λ parts. parts.patience ≡ self.patience) }
+        ensures syncs { IfOk result (λ parts. parts.syncs ≡ self.syncs) }
     {
-        if !are_in_range(&self.numbers) {
-            return Err(FtpServerFault::Number);
+        if let Some(fault) =
+            number_fault(self.numbers, self.settings.login_attempts, self.patience)
+        {
+            return Err(FtpServerFault::Number(fault));
         }
         let FtpServer {
             users,
@@ -54,6 +107,7 @@ impl FtpServer {
             patience,
             groups,
             user_rates,
+            syncs,
             alloc,
         } = self;
         let rows = user_rows(alloc, &users, &user_rates)?;
@@ -64,7 +118,34 @@ impl FtpServer {
             numbers,
             limits,
             patience,
+            syncs,
         })
+    }
+
+    /// Opens a folder of the machine: as a store for all connections, and as one for each of `numbers.max_cons`. Its
+    /// listings are left once the flag is raised. With `syncs`, the octets of a file that is received are put on the device
+    /// before its reply.
+    ///
+    /// Returns `Folder` if it cannot be opened, with the machine's error if that is known; `Memory` if memory runs out.
+    ///
+    /// ```text
+    /// let flag = StopFlag::new(rt.alloc())?;
+    /// let stores = server.open_folder(&rt, "/srv/ftp", &flag)?;
+    /// server.serve_with(&rt, stores, handler, flag)?;
+    /// ```
+    pub fn open_folder(
+        &self,
+        machine: &HostRuntime,
+        folder: &str,
+        flag: &StopFlag,
+    ) -> Result<Stores<FolderStore>, FtpServerFault>
+        ensures folder { IfOk result (λ stores. stores.store.store.folder ≡ folder.now) }
+        ensures syncs { IfOk result (λ stores. stores.store.store.syncs ≡ self.now.syncs) }
+        ensures own { IfOk result (λ stores.
+            length stores.own.items ≡ self.now.numbers.max_cons) }
+        ensures fault { IfErr result IsFolderFault }
+    {
+        open_folder(machine, folder, self.numbers.max_cons, self.syncs, flag)
     }
 
     /// Serves these stores until the owner's signs end it, or it has had as many sessions as `numbers.sessions` says; each
@@ -75,8 +156,9 @@ impl FtpServer {
     /// rates. So in each second of the clock at most `rate` octets are issued, if that is not 0 and the signs put no other
     /// in force.
     ///
-    /// Returns `Number` if a number is out of its range, `Rate` if the rates are refused, `Serve` if the server did not
-    /// start or ended with a fault (the handler is told why it cannot listen), `Memory` if memory runs out.
+    /// Returns `Number` with the first number that is out of its range, and then `Rate` if the rates are refused, both before
+    /// anything is opened; `Serve` if the server did not start or ended with a fault (the handler is told why it cannot
+    /// listen), `Memory` if memory runs out.
     ///
     /// ```text
     /// let flag = StopFlag::new(alloc)?;
@@ -96,8 +178,9 @@ impl FtpServer {
         S::Sink: Send,
         H: ServerHooks + Send,
         P: OwnerSigns + Send + Sync + Drop,
-        ensures number { (AreInRange self.numbers → ⊥) → result ≡ Err FtpServerFault.Number }
-        ensures refused { AreInRange self.numbers
+        ensures number { IfSome (range_fault self) (λ fault.
+            result ≡ Err (FtpServerFault.Number fault)) }
+        ensures refused { range_fault self ≡ None
             → IfSome (rates_fault self) (λ fault. IsRefusedFor fault result) }
         ensures sum { IfOk result (λ settled. settled.issued ≡ settled.moved + settled.back) }
         ensures kept { IfOk result (λ settled.
@@ -108,28 +191,13 @@ impl FtpServer {
             → settled.issued ≤ count * self.rate) }
     {
         let parts = self.into_parts()?;
-        let Stores { store, own } = stores;
-        let service = Service {
-            terms: parts.terms,
-            numbers: parts.numbers,
-            limits: parts.limits,
-            store,
-            own_stores: own,
-            handler,
-            signs: Some(signs),
-            patience: parts.patience,
-        };
-        let mut output = Vec::new(rt.alloc());
-        match serve(rt, service, &mut output) {
-            Ok(settled) => Ok(settled),
-            Err(fault) => Err(FtpServerFault::Serve(fault)),
-        }
+        serve_parts(rt, parts, stores, handler, signs)
     }
 
     /// Serves a folder of the machine, each session with a store of its own, as `serve_with` does without signs: until it
     /// has had as many sessions as `numbers.sessions` says, or for good if that is 0.
     ///
-    /// Besides the faults of `serve_with`, returns `Folder` if the folder cannot be opened.
+    /// Besides the faults of `serve_with`, returns `Folder` if the folder cannot be opened, which is tried after them.
     ///
     /// ```text
     /// server.serve_folder(&rt, &rt, "/srv/ftp", NoHooks)?;
@@ -144,7 +212,10 @@ impl FtpServer {
     where
         R: Threads + ServerRuntime + RoundClock + Copy + Send + Sync,
         H: ServerHooks + Send,
-        ensures number { (AreInRange self.numbers → ⊥) → result ≡ Err FtpServerFault.Number }
+        ensures number { IfSome (range_fault self) (λ fault.
+            result ≡ Err (FtpServerFault.Number fault)) }
+        ensures refused { range_fault self ≡ None
+            → IfSome (rates_fault self) (λ fault. IsRefusedFor fault result) }
         ensures sum { IfOk result (λ settled. settled.issued ≡ settled.moved + settled.back) }
         ensures kept { IfOk result (λ settled.
             HasKept (may_hold (server_rates self) no_others) R.when 0 settled.issued) }
@@ -152,11 +223,11 @@ impl FtpServer {
             → AreInSeconds R.when first count → self.rate ≢ 0
             → settled.issued ≤ count * self.rate) }
     {
-        if !are_in_range(&self.numbers) {
-            return Err(FtpServerFault::Number);
-        }
-        let stores = open_folder(machine, folder, self.numbers.max_cons)?;
-        self.serve_with(rt, stores, handler, NoSigns)
+        let parts = self.into_parts()?;
+        let flag = StopFlag::new(machine.alloc())?;
+        let (connections, syncs) = (parts.numbers.max_cons, parts.syncs);
+        let stores = open_folder(machine, folder, connections, syncs, &flag)?;
+        serve_parts(rt, parts, stores, handler, NoSigns)
     }
 
     /// Serves a store that all sessions share, as `serve_with` does without signs.
@@ -176,8 +247,9 @@ impl FtpServer {
         S::Source: Send,
         S::Sink: Send,
         H: ServerHooks + Send,
-        ensures number { (AreInRange self.numbers → ⊥) → result ≡ Err FtpServerFault.Number }
-        ensures refused { AreInRange self.numbers
+        ensures number { IfSome (range_fault self) (λ fault.
+            result ≡ Err (FtpServerFault.Number fault)) }
+        ensures refused { range_fault self ≡ None
             → IfSome (rates_fault self) (λ fault. IsRefusedFor fault result) }
         ensures sum { IfOk result (λ settled. settled.issued ≡ settled.moved + settled.back) }
         ensures kept { IfOk result (λ settled.

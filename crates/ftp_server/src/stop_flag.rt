@@ -1,11 +1,11 @@
 //! A flag that ends a server.
 
+use folder_store::LeaveSign;
 use ftp_daemon::OwnerSigns;
 use std::alloc::{AllocError, Global};
-use std::sync::Arc;
-use std::sync::atomic::{AtomicBool, Ordering};
 
-/// A flag that ends a server once it is raised, by whoever has another handle of it, such as a handler.
+/// A flag that ends a server once it is raised, by whoever has another handle of it, such as a handler. It is raised once,
+/// and never taken back.
 ///
 /// ```text
 /// let flag = StopFlag::new(alloc)?;
@@ -14,31 +14,44 @@ use std::sync::atomic::{AtomicBool, Ordering};
 /// ```
 #[derive(Drop)]
 pub struct StopFlag {
-    flag: Arc<AtomicBool>,
+    pub(crate) sign: LeaveSign,
 }
 
 impl StopFlag {
-    /// A flag that is not raised.
+    /// A flag that is not raised. Fails if memory runs out.
+    ///
+    /// ```text
+    /// let flag = StopFlag::new(rt.alloc())?;
+    /// ```
     pub fn new(alloc: Global) -> Result<StopFlag, AllocError> {
-        let flag = Arc::new(alloc, AtomicBool::new(false))?;
-        Ok(StopFlag { flag })
+        let sign = LeaveSign::new(alloc)?;
+        Ok(StopFlag { sign })
     }
 
-    /// Another handle of it.
+    /// Another handle of it. Fails if it has as many as can be counted.
+    ///
+    /// ```text
+    /// let handler = EndsAtNight { flag: flag.another()? };
+    /// ```
     pub fn another(&self) -> Result<StopFlag, AllocError> {
-        let flag = Arc::try_clone(&self.flag)?;
-        Ok(StopFlag { flag })
+        let sign = self.sign.another()?;
+        Ok(StopFlag { sign })
     }
 
-    /// Raises it: within a tenth of a second the server ends its sessions, those of transfers too, and returns. A flag that
-    /// is up before the server begins makes it return `ServeFault::Stopped`.
+    /// Raises it: within a tenth of a second the server ends its sessions, those of transfers too, and returns. The listings
+    /// of a folder that was opened with this flag are left. A flag that is up before the server begins makes it return
+    /// `ServeFault::Stopped`.
+    ///
+    /// ```text
+    /// self.flag.raise();
+    /// ```
     pub fn raise(&self) {
-        self.flag.store(true, Ordering::SeqCst);
+        self.sign.give();
     }
 }
 
 impl OwnerSigns for StopFlag {
     fn is_up(&self) -> bool {
-        self.flag.load(Ordering::SeqCst)
+        self.sign.is_given()
     }
 }

@@ -1,6 +1,10 @@
 //! The stores of a server.
 
+ghost use Rattle.std.specs.Prelude.{◌≡◌, [], None, IfErr, IfOk, length};
+ghost use Rattle.ftp_server.specs.Folders.{IsFolderFault};
+
 use crate::fault::FtpServerFault;
+use crate::stop_flag::StopFlag;
 use folder_store::DirStore;
 use last_fault::LastFault;
 use recorded_store::RecordedStore;
@@ -9,15 +13,29 @@ use virtual_tree::{Store, StoreFault};
 
 /// A store, and more of them over the same files, one for each connection, if they can be had: then no session waits for a
 /// call of another's. The changes and faults of all of them are told to the handler.
+///
+/// ```text
+/// let stores = Stores::one(alloc, MemStore::new(alloc, 1_000_000)?); // octets
+/// server.serve_with(&rt, stores, handler, flag)?;
+/// ```
 #[derive(Drop)]
 pub struct Stores<S: Drop> {
-    pub(crate) store: RecordedStore<S>,
-    pub(crate) own: Vec<RecordedStore<S>>,
+    /// The store of whoever has none of their own.
+    pub store: RecordedStore<S>,
+    /// The stores of connections, by their numbers.
+    pub own: Vec<RecordedStore<S>>,
 }
 
 impl<S: Store<Global> + Drop> Stores<S> {
     /// One store for all connections, which take turns at it.
-    pub fn one(alloc: Global, store: S) -> Stores<S> {
+    ///
+    /// ```text
+    /// let stores = Stores::one(alloc, PageStore::new(alloc, Time { rt }));
+    /// ```
+    pub fn one(alloc: Global, store: S) -> Stores<S>
+        ensures store { result.store.store ≡ store }
+        ensures own { result.own.items ≡ [] }
+    {
         Stores {
             store: RecordedStore::new(alloc, store),
             own: Vec::new(alloc),
@@ -25,41 +43,71 @@ impl<S: Store<Global> + Drop> Stores<S> {
     }
 }
 
-/// A store over a folder of the machine.
+/// A store over a folder of the machine, as `FtpServer::open_folder` opens it.
+///
+/// ```text
+/// let stores: Stores<FolderStore> = server.open_folder(&rt, "/srv/ftp", &flag)?;
+/// ```
 pub type FolderStore = DirStore<HostRuntime>;
 
-// Opens a folder, with a record of its calls and of the machine's errors.
+// Opens a folder, with a record of its calls and of the machine's errors. Its listings are left once the flag is raised.
 fn open_recorded(
     machine: &HostRuntime,
     folder: &str,
-) -> Result<RecordedStore<FolderStore>, FtpServerFault> {
+    syncs: bool,
+    flag: &StopFlag,
+) -> Result<RecordedStore<FolderStore>, FtpServerFault>
+    ensures folder { IfOk result (λ opened. opened.store.folder ≡ folder.now) }
+    ensures syncs { IfOk result (λ opened. opened.store.syncs ≡ syncs) }
+    ensures fault { IfErr result IsFolderFault }
+{
     let error = LastFault::new(machine.alloc())?;
     let kept = error.another()?;
+    let sign = flag.sign.another()?;
     match DirStore::new(*machine, folder, kept) {
-        Ok(store) => Ok(RecordedStore::with_fault(machine.alloc(), store, error)),
+        Ok(store) => {
+            let store = store.left_by(sign).syncing(syncs);
+            Ok(RecordedStore::with_fault(machine.alloc(), store, error))
+        }
         Err(StoreFault::Memory) => Err(FtpServerFault::Memory),
         Err(fault) => Err(FtpServerFault::Folder(fault, error.take())),
     }
 }
 
-/// Opens a folder of the machine, as a store for all and as one for each of `connections`.
-///
-/// Returns `Folder` if it cannot be opened.
-///
-/// ```text
-/// let stores = open_folder(&rt, "/srv/ftp", server.numbers.max_cons)?;
-/// server.serve_with(&rt, stores, handler, flag)?;
-/// ```
-pub fn open_folder(
+// Opens the folder once for each of this number of connections.
+fn open_own(
     machine: &HostRuntime,
     folder: &str,
     connections: u16,
-) -> Result<Stores<FolderStore>, FtpServerFault> {
-    let store = open_recorded(machine, folder)?;
+    syncs: bool,
+    flag: &StopFlag,
+) -> Result<Vec<RecordedStore<FolderStore>>, FtpServerFault>
+    ensures own { IfOk result (λ own. length own.items ≡ connections) }
+    ensures fault { IfErr result IsFolderFault }
+{
     let mut own = Vec::new(machine.alloc());
     for _ in 0..connections {
-        let another = open_recorded(machine, folder)?;
+        let another = open_recorded(machine, folder, syncs, flag)?;
         own.push(another)?;
     }
+    Ok(own)
+}
+
+/// Opens a folder of the machine, as a store for all and as one for each of this number of connections. Returns `Folder` if
+/// it cannot be opened.
+pub(crate) fn open_folder(
+    machine: &HostRuntime,
+    folder: &str,
+    connections: u16,
+    syncs: bool,
+    flag: &StopFlag,
+) -> Result<Stores<FolderStore>, FtpServerFault>
+    ensures folder { IfOk result (λ stores. stores.store.store.folder ≡ folder.now) }
+    ensures syncs { IfOk result (λ stores. stores.store.store.syncs ≡ syncs) }
+    ensures own { IfOk result (λ stores. length stores.own.items ≡ connections) }
+    ensures fault { IfErr result IsFolderFault }
+{
+    let store = open_recorded(machine, folder, syncs, flag)?;
+    let own = open_own(machine, folder, connections, syncs, flag)?;
     Ok(Stores { store, own })
 }

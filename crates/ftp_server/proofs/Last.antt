@@ -1,6 +1,8 @@
 -- The rates that were set last, and rows of users, after one more.
-use Rattle.std.proofs.Common.{◌≡◌, ◌+◌, ◌<◌, ◌++◌, ◌∷◌, [], ℕ, List, Option, length, map, take, get_or, refl, ap, ◌∙◌, sym}
+use Rattle.std.proofs.Common.{◌≡◌, ◌≢◌, ◌⊎◌, ◌+◌, ◌<◌, ◌++◌, ◌∷◌, [], ℕ, Bool, true, false, nat_eq, if◌then◌else◌, List, Option, length, map, take, get_or, refl, ap, ◌∙◌, sym}
 use Rattle.std.specs.FinMap as finite
+use Rattle.std.proofs.lemmas.Bool.{ne_eqb}
+use Rattle.std.proofs.lemmas.Bool.Decides.{eqb_tells}
 use Rattle.std.proofs.lemmas.List.{map_more, take_more}
 use Rattle.authorizer.specs.Users.{Users}
 use Rattle.line_rates.specs.declared.row.UserRate.{UserRate}
@@ -16,6 +18,22 @@ pub last_step : (set : List SetRates) (i : ℕ) (d : SetRates) (number : ℕ) (f
 last_step set i d number found result less was is =
     is ∙ (ap (λ (f : UserRates). later f (get_or set i d) number) was
     ∙ (sym (last_push no_rates (take i set) (get_or set i d) number) ∙ ap (λ (xs : List SetRates). last_set xs number) (sym (take_more set i d less))))
+
+is_same : {n : ℕ} → ((nat_eq n n ≡ true) × (n ≡ n)) ⊎ ((nat_eq n n ≡ false) × (n ≢ n)) → nat_eq n n ≡ true
+is_same (inl both) = both.0
+is_same (inr both) = absurd (both.1 refl)
+
+later_own : (found : UserRates) (rates : UserRates) (number : ℕ) → later found (record { number = number; rates = rates }) number ≡ rates
+later_own found rates number = ap (λ (b : Bool). if b then rates else found) (is_same (eqb_tells number number))
+
+later_other : (found : UserRates) (set : SetRates) (number : ℕ) → number ≢ set.number → later found set number ≡ found
+later_other found set number other = ap (λ (b : Bool). if b then set.rates else found) (ne_eqb set.number number (λ is. other (sym is)))
+
+pub last_own : (set : List SetRates) (rates : UserRates) (number : ℕ) → last_set (set ++ record { number = number; rates = rates } ∷ []) number ≡ rates
+last_own set rates number = last_push no_rates set (record { number = number; rates = rates }) number ∙ later_own (last_set set number) rates number
+
+pub last_other : (set : List SetRates) (row : SetRates) (number : ℕ) → number ≢ row.number → last_set (set ++ row ∷ []) number ≡ last_set set number
+last_other set row number other = last_push no_rates set row number ∙ later_other (last_set set number) row number other
 
 append_assoc : (xs ys zs : List UserRate) → (xs ++ ys) ++ zs ≡ xs ++ (ys ++ zs)
 append_assoc [] ys zs = refl

@@ -34,8 +34,8 @@ pub enum FtpServerFault {
     /// A number of the server is out of its range: this one.
     #[error("{0}")]
     Number(NumberFault),
-    /// The folder cannot be opened: it is not there, it is no directory, or a fault of the device, with the machine's error
-    /// if that is known.
+    /// The folder cannot be opened: it is not there, it is no directory, or the machine reports another fault, with its
+    /// error if that is known.
     #[error("the folder cannot be opened: {0}")]
     Folder(StoreFault, Option<io::Error>),
     /// The server did not start, or ended with a fault.

@@ -126,7 +126,8 @@ impl FtpServer {
     /// listings are left once the flag is raised. With `syncs`, the octets of a file that is received are put on the device
     /// before its reply.
     ///
-    /// Returns `Folder` if it cannot be opened, with the machine's error if that is known; `Memory` if memory runs out.
+    /// Returns `Folder` if it is not there, is no directory, or the machine reports another fault, with its error if that is
+    /// known; `Memory` if memory runs out.
     ///
     /// ```text
     /// let flag = StopFlag::new(rt.alloc())?;

@@ -6,7 +6,7 @@ use ftp_server::{
 };
 use std::process::Abort;
 
-fn new_server(rt: &HostRuntime) -> FtpServer {
+fn new_server(rt: &(impl Abort + AllocGlobal)) -> FtpServer {
     FtpServer::at(rt.alloc(), [127, 0, 0, 1], 2121).expect(rt, "memory")
 }
 
@@ -42,7 +42,11 @@ fn of_a_folder(rt: HostRuntime) {
 fn of_no_folder(rt: HostRuntime) {
     let served = new_server(&rt).serve_folder(&rt, &rt, "no folder", NoHooks);
     match served {
-        Err(FtpServerFault::Folder(StoreFault::NotFound, error)) => holds(&rt, error.is_some()),
+        // an error of the machine is known of a fault of the device
+        Err(FtpServerFault::Folder(fault, error)) => {
+            holds(&rt, fault == StoreFault::NotFound);
+            holds(&rt, error.is_none());
+        }
         _ => holds(&rt, false),
     }
 }

@@ -16,7 +16,7 @@ fn of_defaults(rt: HostRuntime) {
     holds(&rt, server.numbers.address == [127, 0, 0, 1]);
     holds(&rt, server.numbers.port == 2121);
     holds(&rt, server.numbers.max_cons == 64);
-    holds(&rt, server.settings.banner.text() == "Ready");
+    holds(&rt, server.settings.banner.as_str() == "Ready");
     holds(&rt, server.patience.idle_timeout == 300);
     holds(&rt, server.down_rate == 0);
     holds(&rt, !server.syncs);
@@ -56,10 +56,11 @@ passive_first = 30000
 passive_last = 30063
 rate = 9000
 
-[user.ann]
+[[user]]
+name = \"ann\"
+home = \"/\"
 password = \"secret\"
-perms = \"elr\"
-down = 700
+down_rate = 700
 ";
 
 #[test]

@@ -1,11 +1,18 @@
 -- What a server keeps whose owner gives no signs.
-use Rattle.std.proofs.Common.{◌≡◌, ◌≢◌, ◌≤◌, ◌*◌, ℕ, Bool, true, Result, Ok, Err, IfOk}
+use Rattle.std.proofs.Common.{◌≡◌, ◌≢◌, ◌≤◌, ◌*◌, ℕ, Bool, true, Result, Ok, Err, IfOk, subst}
 use Rattle.std.proofs.lemmas.Bool.{false≢true}
 use Rattle.line_rates.specs.Rates.{Rates}
 use Rattle.grant_ledger.specs.declared.ledger.SettledNumbers.{SettledNumbers}
 use Rattle.paced_rounds.specs.Seconds.{AreInSeconds}
 use Rattle.ftp_server.specs.Rows.{no_others}
 use Rattle.ftp_server.specs.declared.fault.FtpServerFault.{FtpServerFault}
+
+-- the octets of some seconds, by rates that are the same
+pub rated : (when : ℕ → Bool) (allows : Rates → Bool) (result : Result SettledNumbers FtpServerFault) (limits rates : Rates) → limits ≡ rates
+    → IfOk result (λ settled. (first count : ℕ) → AreInSeconds when first count → limits.server ≢ 0 → ((other : Rates) → allows other ≡ true → other.server ≡ limits.server) → settled.issued ≤ count * limits.server)
+    → IfOk result (λ settled. (first count : ℕ) → AreInSeconds when first count → rates.server ≢ 0 → ((other : Rates) → allows other ≡ true → other.server ≡ rates.server) → settled.issued ≤ count * rates.server)
+rated when allows result limits rates same bound =
+    subst (λ (r : Rates). IfOk result (λ settled. (first count : ℕ) → AreInSeconds when first count → r.server ≢ 0 → ((other : Rates) → allows other ≡ true → other.server ≡ r.server) → settled.issued ≤ count * r.server)) same bound
 
 -- an owner without signs puts no other rates in force
 pub alone : (when : ℕ → Bool) (rate : ℕ) (result : Result SettledNumbers FtpServerFault)

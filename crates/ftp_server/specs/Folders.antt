@@ -1,5 +1,5 @@
 -- Folders that cannot be opened.
-use Rattle.std.specs.Prelude.{◌≡◌, ◌⊎◌, ⊥, ⊤}
+use Rattle.std.specs.Prelude.{◌≡◌, ◌⊎◌, ⊤}
 use Rattle.virtual_tree.specs.declared.fault.StoreFault.{StoreFault}
 use Rattle.virtual_tree.specs.declared.fault.StoreFault.TheVariants.{NotFound, NotDir, Device}
 use Rattle.ftp_server.specs.declared.fault.FtpServerFault.{FtpServerFault}

@@ -10,7 +10,7 @@ fn new_server(rt: &(impl Abort + AllocGlobal)) -> FtpServer {
     FtpServer::at(rt.alloc(), [127, 0, 0, 1], 2121).expect(rt, "memory")
 }
 
-// The port is not listened on: the flag is looked at first.
+// The port is not listened on: the flag is checked first.
 #[test]
 fn by_a_flag_that_is_up(rt: HostRuntime) {
     let flag = StopFlag::new(rt.alloc()).expect(&rt, "memory");

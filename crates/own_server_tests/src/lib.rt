@@ -1,4 +1,4 @@
-//! Tests of a server of one's own: what is set before it begins, each number out of its range by its name, and ends that
+//! Tests of a server of one's own: its settings before it begins, each number out of its range by its name, and ends that
 //! need no client. They call only public functions.
 #![tactic(auto)]
 

@@ -75,7 +75,7 @@ fn of_times(rt: HostRuntime) {
     refuses(&rt, server, NumberFault::DrainTimeout);
 }
 
-// Rates are looked at after the numbers, and before anything is opened: the folder is not there.
+// Rates are checked after the numbers, and before anything is opened: the folder is not there.
 #[test]
 fn of_rates(rt: HostRuntime) {
     let mut server = new_server(&rt);

@@ -1,4 +1,4 @@
-//! What is set of a server that has not begun.
+//! Settings of a server that has not begun.
 
 use crate::expect::holds;
 use ftp_server::{

@@ -1,9 +1,5 @@
-use Rattle.std.proofs.Common.{◌≡◌, ◌≢◌, ◌*◌, ◌≤◌, ℕ, true, subst}
-use Rattle.line_rates.specs.Rates.{Rates}
-use Rattle.paced_rounds.specs.Seconds.{AreInSeconds}
+use Rattle.ftp_server.proofs.Served.{rated}
 use Rattle.ftp_server.proofs.server.FtpServer.serve_with.Goals as goal
 
-pub returns-in-Ok-clause-seconds : goal.returns-in-Ok-clause-seconds
-returns-in-Ok-clause-seconds g c =
-    subst (λ (r : Rates). (first count : ℕ) → AreInSeconds g.R.RoundClock.when first count → r.server ≢ 0
-    → ((rates : Rates) → g.P.OwnerSigns.allows rates ≡ true → rates.server ≡ r.server) → c.in-Ok.settled.issued ≤ count * r.server) c.in_ok-parts.ensures.limits c.in-Ok.ensures.seconds
+pub returns-clause-seconds : goal.returns-clause-seconds
+returns-clause-seconds g c = rated g.R.RoundClock.when g.P.OwnerSigns.allows c.serve_parts.result _ _ c.in_ok-parts.ensures.limits c.serve_parts.ensures.seconds

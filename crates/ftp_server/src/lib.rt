@@ -33,8 +33,10 @@ pub use grant_ledger::SettledNumbers;
 pub use line_rates::{GroupRate, LimitsFault};
 pub use memory_store::MemStore;
 pub use page_store::{PageFault, PageStore, Pages};
+pub use passive_ports::AdmitFault;
 pub use ranges::NumberFault;
 pub use rates::{SetRates, UserRates};
+pub use recorded_store::{RecordedStore, StoreRecord};
 pub use server::FtpServer;
 pub use server_config::{Config, ConfigFault, ServedStore, ServerNumbers};
 pub use server_house::{

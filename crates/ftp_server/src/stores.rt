@@ -19,7 +19,7 @@ use virtual_tree::{Store, StoreFault};
 /// server.serve_with(&rt, stores, handler, flag)?;
 /// ```
 #[derive(Drop)]
-pub struct Stores<S: Drop> {
+pub struct Stores<S> {
     /// The store of whoever has none of their own.
     pub store: RecordedStore<S>,
     /// The stores of connections, by their numbers.

@@ -92,9 +92,11 @@ impl FtpServer {
         ensures patience { IfOk result (λ parts. parts.patience ≡ self.patience) }
         ensures syncs { IfOk result (λ parts. parts.syncs ≡ self.syncs) }
     {
-        if let Some(fault) =
-            number_fault(self.numbers, self.settings.login_attempts, self.patience)
-        {
+        if let Some(fault) = number_fault(
+            self.numbers,
+            self.settings.login_attempts,
+            self.patience,
+        ) {
             return Err(FtpServerFault::Number(fault));
         }
         let FtpServer {

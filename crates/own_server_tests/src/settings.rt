@@ -32,7 +32,10 @@ fn of_rates(rt: HostRuntime) {
     let unknown = server.limit_user("bob", HALF);
     holds(
         &rt,
-        matches!(unknown, Err(FtpServerFault::User(AuthorizerFault::NoSuchUser))),
+        matches!(
+            unknown,
+            Err(FtpServerFault::User(AuthorizerFault::NoSuchUser))
+        ),
     );
     let number = server.users.number("ann").expect(&rt, "a user");
     let set = SetRates {

@@ -11,7 +11,7 @@ pub found_user : (found : Option User) (number : ℕ) → Some number ≡ option
 found_user None number is = absurd (cc)
 found_user (Some user) number is = (user, refl, cc)
 
-one_more : List SetRates → UserRates → ℕ → List SetRates
+abbrev pub one_more : List SetRates → UserRates → ℕ → List SetRates
 one_more before rates number = before ++ record { number = number; rates = rates } ∷ []
 
 pub set_for : (before new : List SetRates) (rates : UserRates) (number other : ℕ) → new ≡ before ++ record { number = number; rates = rates } ∷ [] → number ≡ other

@@ -142,8 +142,6 @@ impl FtpServer {
         folder: &str,
         flag: &StopFlag,
     ) -> Result<Stores<FolderStore>, FtpServerFault>
-        ensures folder { IfOk result (λ stores. stores.store.store.folder ≡ folder.now) }
-        ensures syncs { IfOk result (λ stores. stores.store.store.syncs ≡ self.now.syncs) }
         ensures own { IfOk result (λ stores.
             length stores.own.items ≡ self.now.numbers.max_cons) }
         ensures fault { IfErr result IsFolderFault }

@@ -102,8 +102,6 @@ pub(crate) fn open_folder(
     syncs: bool,
     flag: &StopFlag,
 ) -> Result<Stores<FolderStore>, FtpServerFault>
-    ensures folder { IfOk result (λ stores. stores.store.store.folder ≡ folder.now) }
-    ensures syncs { IfOk result (λ stores. stores.store.store.syncs ≡ syncs) }
     ensures own { IfOk result (λ stores. length stores.own.items ≡ connections) }
     ensures fault { IfErr result IsFolderFault }
 {

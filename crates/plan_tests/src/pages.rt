@@ -224,7 +224,7 @@ const ANSWERS: [(&str, &str, &str, &str); 16] = [
         "GET /status.json HTTP/1.1\r\nHost: localhost\r\n\r\n",
         "HTTP/1.1 200 OK\r\n",
         "content-type: application/json\r\n",
-        "\"users\":2,\"version\":1}\n",
+        "\"users\":2,\"version\":1,\"waits\":0}\n",
     ),
     (
         "GET /metrics?x=1 HTTP/1.1\r\nHost: localhost\r\n\r\n",

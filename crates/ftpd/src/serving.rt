@@ -135,8 +135,13 @@ where
         ServedStore::Folder(folder) => {
             let leaves = LeaveSign::new(machine.alloc())?;
             let store = open_folder(machine, folder.as_str(), &leaves, syncs)?;
-            let own_stores =
-                open_folders(machine, folder.as_str(), &leaves, numbers.max_cons, syncs)?;
+            let own_stores = open_folders(
+                machine,
+                folder.as_str(),
+                &leaves,
+                numbers.max_cons,
+                syncs,
+            )?;
             let signs = leaving(signs, leaves);
             let service = Service {
                 terms,

@@ -246,7 +246,10 @@ fn sessions_have_enough_left(rt: HostRuntime) {
     let seven = Credit { rate: 50, left: 7 };
     let rows = session_rows(OPEN, seven, false);
     holds(&rt, rows.have_left(7) && !rows.have_left(8));
-    holds(&rt, !rows.are_free() && session_rows(OPEN, OPEN, true).are_free());
+    holds(
+        &rt,
+        !rows.are_free() && session_rows(OPEN, OPEN, true).are_free(),
+    );
     holds(&rt, session_rows(OPEN, OPEN, false).have_left(u64::MAX));
     holds(&rt, !session_rows(OPEN, OPEN, true).have_left(0)); // a guarantee
 }

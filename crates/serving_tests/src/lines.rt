@@ -87,7 +87,10 @@ fn steps_of_the_writer(rt: HostRuntime) {
     lines.close();
     holds(&rt, lines.give_up(&rt) == 1);
     let note = transfers_dropped(rt.alloc(), "<4>", 1).expect(&rt, "memory");
-    holds(&rt, note.as_str() == "<4>lines of the transfer log dropped: 1\n");
+    holds(
+        &rt,
+        note.as_str() == "<4>lines of the transfer log dropped: 1\n",
+    );
 }
 
 #[test]

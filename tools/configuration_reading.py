@@ -159,7 +159,8 @@ def table_fault(place, keys, table):
     for key, (kind, is_needed) in keys.items():
         if key not in table:
             if is_needed:
-                return key_fault(place, key, f"missing; it must be {kind.words}", "Missing")
+                hint = "; write version = 2 in the first line" if key == "version" else ""
+                return key_fault(place, key, f"missing; it must be {kind.words}{hint}", "Missing")
         elif found := fault_at(place, key, kind, table[key]):
             return found
     return None

@@ -240,7 +240,6 @@ def what_the_end_waits_for():
     with Server(sessions=0, root="folder", files={"big": 30_000_000}, stop=True, words=["--login-delay", "0", "--status", "status.json"]) as server:
         client = Client(server)
         data = client.passive()
-        data.socket.setsockopt(socket.SOL_SOCKET, socket.SO_RCVBUF, 4096)
         client.says("RETR big", "150 Opening data connection")
         with held_back(server, "read", f"{server.folder}/big") as tracer:
             if not tracer:

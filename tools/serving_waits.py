@@ -281,6 +281,29 @@ def files_on_the_device():
             server.ended()
 
 
+def a_close_that_fails():
+    """A file system that reports at close(2) that it is full (as NFS does) is told: no 226, and the note says that the file was not received."""
+    if not is_lent(["strace", "-o", "/dev/null", "true"]):
+        print("a_close_that_fails: the machine makes no call fail (strace), so this row is left out")
+        return
+    with Server(sessions=1, root="folder", files={"up": b""}, words=["--login-delay", "0", "--transfer-log", "log"]) as server:
+        words = ["strace", "-f", "-qq", "-o", "/dev/null", "-e", "trace=close", "-e", "inject=close:error=ENOSPC", "-P", f"{server.folder}/up"]
+        tracer = subprocess.Popen([*words, "-p", str(server.process.pid)], stderr=subprocess.DEVNULL)
+        until(lambda: is_traced(server), "the tracer")
+        client = Client(server)
+        data = client.passive()
+        client.says("STOR up", "150 Opening data connection")
+        data.socket.sendall(b"new")
+        data.close()
+        client.says(None, "451 Local fault")
+        client.quit()
+        tracer.wait(10)
+        server.ended()
+        want(any(it.startswith('not received whole "/up"') for it in server.notes_made()), f"the notes: {server.noted()}")
+        with open(f"{server.place}/log", encoding="ascii") as it:
+            want(it.read().endswith(" i\n"), "the line of the transfer log")
+
+
 def a_page_with_silent_clients():
     """A hundred silent connections delay nobody who asks for the page."""
     port = PORTS_TO_HAND_OUT.take(1)
@@ -323,5 +346,6 @@ ROWS = [
     a_terminal_that_nobody_reads,
     what_the_end_waits_for,
     files_on_the_device,
+    a_close_that_fails,
     a_page_with_silent_clients,
 ]

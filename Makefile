@@ -39,7 +39,7 @@ install:
 	install -D -m 644 -t $(SHARE)/fish/vendor_completions.d completions/ftpd.fish completions/sheets.fish
 	install -D -m 644 -t $(DOCS)/docs $(PAGES)
 	sed -zEi 's@\[([^][]*)\]\(($(ABSENT))[^)]*\)@\1@g' $(DOCS)/docs/*.md
-	install -D -m 644 -t $(DOCS)/examples examples/*
+	install -D -m 644 -t $(DOCS)/examples $(shell find examples -maxdepth 1 -type f)
 	install -d $(UNITS)
 	sed 's#/usr/local/\(sbin\|libexec\)#$(PREFIX)/\1#g; s#/etc/\(ftpd.toml\|default\)#$(SYSCONFDIR)/\1#g' examples/ftpd.service >$(UNITS)/ftpd.service
 	chmod 644 $(UNITS)/ftpd.service

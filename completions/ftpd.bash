@@ -27,7 +27,7 @@ _ftpd_words() {
 }
 
 _ftpd() {
-    _ftpd_words 'share check check-config migrate script serve plan top help' '--stop-file --ready-file --drain-file --reload-file --transfer-log --log-form --status --status-port --login-timeout --idle-timeout --login-delay --drain-seconds --sync' '--json' '--once --rows'
+    _ftpd_words 'share check check-config migrate script serve plan top help' '--stop-file --ready-file --drain-file --reload-file --transfer-log --log-form --status --status-port --login-timeout --idle-timeout --login-delay --drain-seconds --end-file --user-sessions --sync' '--json' '--once --rows'
 }
 
 _sheets() {

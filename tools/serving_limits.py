@@ -288,9 +288,9 @@ def reasons_are_noted():
         notes = server.notes_made(heads=True)
         for one in (
             '127.0.0.1 #\\d not sent whole "/big": aborted by the client',
-            r'127.0.0.1 #\d not sent whole "/big": the data connection failed: (Connection reset by peer \(os error 104\)|Broken pipe \(os error 32\))',
+            r'127.0.0.1 #\d+ not sent whole "/big": the data connection failed: (Connection reset by peer \(os error 104\)|Broken pipe \(os error 32\))',
             '127.0.0.1 #\\d not sent whole "/big": the control connection was lost',
-            r"127.0.0.1 #\d not sent whole \"/f\": the client's port could not be connected to: Connection refused \(os error 111\)",
+            r"127.0.0.1 #\d+ not sent whole \"/f\": the client's port could not be connected to: Connection refused \(os error 111\)",
             '127.0.0.1 #\\d not sent whole "/big": the server ends',
         ):
             same(sum(bool(re.fullmatch(one, it)) for it in notes), 1, f"notes of {one!r} among {notes}")

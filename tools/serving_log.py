@@ -303,7 +303,7 @@ def refusals_are_noted():
         server.stop()
         server.ended()
         for one in ("refused: the guaranteed rate is not available", "refused: too many login attempts"):
-            want(re.search(rf"^\[WARN \] \S+Z 127.0.0.1 #\d {one}$", server.noted(), re.MULTILINE), f"{one}: {server.noted()}")
+            want(re.search(rf"^\[WARN \] \S+Z 127.0.0.1 #\d+ {one}$", server.noted(), re.MULTILINE), f"{one}: {server.noted()}")
     with Server(server="capacity = 10") as server:
         client = Client(server)
         data = client.passive()

@@ -718,7 +718,7 @@ def what_cannot_be_served():
         same(server.run(stdout=full), (1, None, "ftpd: WriteFault\n"), "an output that takes nothing, with a ready file")
         want(not os.path.exists(f"{server.place}/ready"), "the ready file is gone")
         same(Server().run(stdout=full), (1, None, "ftpd: WriteFault\n"), "an output that takes nothing")
-    same(Server(text="version = 3\n").run(), (1, "", "top: version: out of range; it must be a number from 1 to 2\nftpd: OutOfRange\n"), "a configuration of a later version")
+    same(Server(text="version = 3\n").run(), (1, "", "ftpd.toml: top: version: out of range; it must be a number from 1 to 2\nftpd: OutOfRange\n"), "a configuration of a later version")
 
 
 def more_transfers_than_lanes():
@@ -812,7 +812,7 @@ def notes():
         inside = ["connect", 'login "ann"', 'sent "/f"', 'received "/g"', 'not sent whole "/big": aborted by the client', 'logout "ann"', "disconnect"]
         # (the second may come before the place of the first is given back)
         wanted = [*inside, "connect", 'login failed "ann"', "disconnect"]
-        same([re.sub(r"#\d ", "#0 ", it) for it in server.notes_made(heads=True)], [f"127.0.0.1 #0 {it}" for it in wanted], "the notes")
+        same([re.sub(r"#\d+ ", "#0 ", it) for it in server.notes_made(heads=True)], [f"127.0.0.1 #0 {it}" for it in wanted], "the notes")
         few_ports = f"64 connections have fewer passive ports, {server.port + 1} to {server.port + 8}"
         same(server.warned(), [few_ports, "64 connections have fewer lanes, 16: while as many transfers run, listings and transfers of others wait"], "the warnings")
         want(not re.search("secret|wrong|sekret", server.noted()), "what is not to be noted")

@@ -138,10 +138,12 @@ ftpd_found any words p port lines none stated =
                     let log = first_of (codes "transfer-log") found.1 in
                     let form = first_of (codes "log-form") found.1 in
                     let status = first_of (codes "status") found.1 in
+                    let ender = first_of (codes "end-file") found.1 in
+                    let most = first_of (codes "user-sessions") found.1 in
                     let states = stated.0 found.1 found.2 in
-                    let files : ServeFiles = record { stop_file = option_map (at_place any) path; ready_file = option_map (at_place any) ready; drain_file = option_map (at_place any) drain; reload_file = option_map (at_place any) again; transfer_log = option_map (at_place any) log; log_form = option_map (at_place any) form; status = option_map (at_place any) status; status_port = port; syncs = is_flagged (codes "sync") found.1 } in (
+                    let files : ServeFiles = record { stop_file = option_map (at_place any) path; ready_file = option_map (at_place any) ready; drain_file = option_map (at_place any) drain; reload_file = option_map (at_place any) again; transfer_log = option_map (at_place any) log; log_form = option_map (at_place any) form; status = option_map (at_place any) status; status_port = port; end_file = option_map (at_place any) ender; user_sessions = option_map (at_place any) most; syncs = is_flagged (codes "sync") found.1 } in (
                       Serve (at_place any found.0) files p,
-                      (found.1, found.2, found.3, if_any any path, if_any any ready, if_any any drain, if_any any again, if_any any log, if_any any form, if_any any status, refl, states.1, states.0),
+                      (found.1, found.2, found.3, if_any any path, if_any any ready, if_any any drain, if_any any again, if_any any log, if_any any form, if_any any status, if_any any ender, if_any any most, refl, states.1, states.0),
                     ),
                 (
                   λ _ is.
@@ -199,7 +201,7 @@ sheet_named P found (Sheet words) rows name named config migrate script serve pl
 sheet_named P found (CheckConfig config json against) rows name named config_apart migrate_apart script_apart serve_apart plan_apart top_apart holds (other, same, given, flag, also) = absurd (different _ _ _ _ _ config_apart named same)
 sheet_named P found (Migrate config) rows name named config_apart migrate_apart script_apart serve_apart plan_apart top_apart holds (other, same, given) = absurd (different _ _ _ _ _ migrate_apart named same)
 sheet_named P found (Script config) rows name named config_apart migrate_apart script_apart serve_apart plan_apart top_apart holds (other, same, given) = absurd (different _ _ _ _ _ script_apart named same)
-sheet_named P found (Serve config files patience) rows name named config_apart migrate_apart script_apart serve_apart plan_apart top_apart holds (other, same, given, path, ready, drain, again, log, form, status, syncs, port, also) = absurd (different _ _ _ _ _ serve_apart named same)
+sheet_named P found (Serve config files patience) rows name named config_apart migrate_apart script_apart serve_apart plan_apart top_apart holds (other, same, given, path, ready, drain, again, log, form, status, ender, most, syncs, port, also) = absurd (different _ _ _ _ _ serve_apart named same)
 sheet_named P found (Plan config transfers json) rows name named config_apart migrate_apart script_apart serve_apart plan_apart top_apart holds (other, same, given, also, flag) = absurd (different _ _ _ _ _ plan_apart named same)
 sheet_named P found (Top status once lines) rows name named config_apart migrate_apart script_apart serve_apart plan_apart top_apart holds (other, same, given, flag, count) = absurd (different _ _ _ _ _ top_apart named same)
 
@@ -222,7 +224,7 @@ check_config_is found (CheckConfig config json against) rows word named first (o
     (cc, flag ∙ sym (ap (is_flagged (codes "json")) are), cc)
 check_config_is found (Migrate config) rows word named first (other, same, given) = absurd (different _ _ _ _ _ refl named same)
 check_config_is found (Script config) rows word named first (other, same, given) = absurd (different _ _ _ _ _ refl named same)
-check_config_is found (Serve config files patience) rows word named first (other, same, given, path, ready, drain, again, log, form, status, syncs, port, also) = absurd (different _ _ _ _ _ refl named same)
+check_config_is found (Serve config files patience) rows word named first (other, same, given, path, ready, drain, again, log, form, status, ender, most, syncs, port, also) = absurd (different _ _ _ _ _ refl named same)
 check_config_is found (Plan config transfers json) rows word named first (other, same, given, also, flag) = absurd (different _ _ _ _ _ refl named same)
 check_config_is found (Top status once lines) rows word named first (other, same, given, flag, count) = absurd (different _ _ _ _ _ refl named same)
 
@@ -233,7 +235,7 @@ migrate_is found (Sheet (Check sheet grants)) rows word named first (other, same
 migrate_is found (CheckConfig config json against) rows word named first (other, same, given, flag, also) = absurd (different _ _ _ _ _ refl named same)
 migrate_is found (Migrate config) rows word named first (other, same, given) = let are = same_rows _ _ _ _ _ named same in cc
 migrate_is found (Script config) rows word named first (other, same, given) = absurd (different _ _ _ _ _ refl named same)
-migrate_is found (Serve config files patience) rows word named first (other, same, given, path, ready, drain, again, log, form, status, syncs, port, also) = absurd (different _ _ _ _ _ refl named same)
+migrate_is found (Serve config files patience) rows word named first (other, same, given, path, ready, drain, again, log, form, status, ender, most, syncs, port, also) = absurd (different _ _ _ _ _ refl named same)
 migrate_is found (Plan config transfers json) rows word named first (other, same, given, also, flag) = absurd (different _ _ _ _ _ refl named same)
 migrate_is found (Top status once lines) rows word named first (other, same, given, flag, count) = absurd (different _ _ _ _ _ refl named same)
 
@@ -244,7 +246,7 @@ script_is found (Sheet (Check sheet grants)) rows word named first (other, same,
 script_is found (CheckConfig config json against) rows word named first (other, same, given, flag, also) = absurd (different _ _ _ _ _ refl named same)
 script_is found (Migrate config) rows word named first (other, same, given) = absurd (different _ _ _ _ _ refl named same)
 script_is found (Script config) rows word named first (other, same, given) = let are = same_rows _ _ _ _ _ named same in cc
-script_is found (Serve config files patience) rows word named first (other, same, given, path, ready, drain, again, log, form, status, syncs, port, also) = absurd (different _ _ _ _ _ refl named same)
+script_is found (Serve config files patience) rows word named first (other, same, given, path, ready, drain, again, log, form, status, ender, most, syncs, port, also) = absurd (different _ _ _ _ _ refl named same)
 script_is found (Plan config transfers json) rows word named first (other, same, given, also, flag) = absurd (different _ _ _ _ _ refl named same)
 script_is found (Top status once lines) rows word named first (other, same, given, flag, count) = absurd (different _ _ _ _ _ refl named same)
 
@@ -255,7 +257,7 @@ serve_is found (Sheet (Check sheet grants)) rows word p named first states (othe
 serve_is found (CheckConfig config json against) rows word p named first states (other, same, given, flag, also) = absurd (different _ _ _ _ _ refl named same)
 serve_is found (Migrate config) rows word p named first states (other, same, given) = absurd (different _ _ _ _ _ refl named same)
 serve_is found (Script config) rows word p named first states (other, same, given) = absurd (different _ _ _ _ _ refl named same)
-serve_is found (Serve config files patience) rows word p named first states (other, same, given, path, ready, drain, again, log, form, status, syncs, port, also) =
+serve_is found (Serve config files patience) rows word p named first states (other, same, given, path, ready, drain, again, log, form, status, ender, most, syncs, port, also) =
     let are = same_rows _ _ _ _ _ named same in
     (cc, cc, cc, one_patience rows patience p (subst (λ (r : List Row). IsPatienceIn r patience) (sym are) also) states)
 serve_is found (Plan config transfers json) rows word p named first states (other, same, given, also, flag) = absurd (different _ _ _ _ _ refl named same)
@@ -268,7 +270,7 @@ logged_is found (Sheet (Check sheet grants)) rows word named first (other, same,
 logged_is found (CheckConfig config json against) rows word named first (other, same, given, flag, also) = absurd (different _ _ _ _ _ refl named same)
 logged_is found (Migrate config) rows word named first (other, same, given) = absurd (different _ _ _ _ _ refl named same)
 logged_is found (Script config) rows word named first (other, same, given) = absurd (different _ _ _ _ _ refl named same)
-logged_is found (Serve config files patience) rows word named first (other, same, given, path, ready, drain, again, log, form, status, syncs, port, also) =
+logged_is found (Serve config files patience) rows word named first (other, same, given, path, ready, drain, again, log, form, status, ender, most, syncs, port, also) =
     let are = same_rows _ _ _ _ _ named same in
     (cc, cc, cc)
 logged_is found (Plan config transfers json) rows word named first (other, same, given, also, flag) = absurd (different _ _ _ _ _ refl named same)
@@ -281,7 +283,7 @@ status_is found (Sheet (Check sheet grants)) rows word n named first states (oth
 status_is found (CheckConfig config json against) rows word n named first states (other, same, given, flag, also) = absurd (different _ _ _ _ _ refl named same)
 status_is found (Migrate config) rows word n named first states (other, same, given) = absurd (different _ _ _ _ _ refl named same)
 status_is found (Script config) rows word n named first states (other, same, given) = absurd (different _ _ _ _ _ refl named same)
-status_is found (Serve config files patience) rows word n named first states (other, same, given, path, ready, drain, again, log, form, status, syncs, port, also) =
+status_is found (Serve config files patience) rows word n named first states (other, same, given, path, ready, drain, again, log, form, status, ender, most, syncs, port, also) =
     let are = same_rows _ _ _ _ _ named same in
     (cc, cc, one_port rows files.status_port n (subst (λ (r : List Row). IsPortIn r files.status_port) (sym are) port) states)
 status_is found (Plan config transfers json) rows word n named first states (other, same, given, also, flag) = absurd (different _ _ _ _ _ refl named same)
@@ -294,7 +296,7 @@ plan_is found (Sheet (Check sheet grants)) rows word stated named first second (
 plan_is found (CheckConfig config json against) rows word stated named first second (other, same, given, flag, also) = absurd (different _ _ _ _ _ refl named same)
 plan_is found (Migrate config) rows word stated named first second (other, same, given) = absurd (different _ _ _ _ _ refl named same)
 plan_is found (Script config) rows word stated named first second (other, same, given) = absurd (different _ _ _ _ _ refl named same)
-plan_is found (Serve config files patience) rows word stated named first second (other, same, given, path, ready, drain, again, log, form, status, syncs, port, also) = absurd (different _ _ _ _ _ refl named same)
+plan_is found (Serve config files patience) rows word stated named first second (other, same, given, path, ready, drain, again, log, form, status, ender, most, syncs, port, also) = absurd (different _ _ _ _ _ refl named same)
 plan_is found (Plan config transfers json) rows word stated named first second (other, same, given, also, flag) =
     let are = same_rows _ _ _ _ _ named same in
     (cc, cc, flag ∙ sym (ap (is_flagged (codes "json")) are))
@@ -307,7 +309,7 @@ top_is found (Sheet (Check sheet grants)) rows word n named first states (other,
 top_is found (CheckConfig config json against) rows word n named first states (other, same, given, flag, also) = absurd (different _ _ _ _ _ refl named same)
 top_is found (Migrate config) rows word n named first states (other, same, given) = absurd (different _ _ _ _ _ refl named same)
 top_is found (Script config) rows word n named first states (other, same, given) = absurd (different _ _ _ _ _ refl named same)
-top_is found (Serve config files patience) rows word n named first states (other, same, given, path, ready, drain, again, log, form, status, syncs, port, also) = absurd (different _ _ _ _ _ refl named same)
+top_is found (Serve config files patience) rows word n named first states (other, same, given, path, ready, drain, again, log, form, status, ender, most, syncs, port, also) = absurd (different _ _ _ _ _ refl named same)
 top_is found (Plan config transfers json) rows word n named first states (other, same, given, also, flag) = absurd (different _ _ _ _ _ refl named same)
 top_is found (Top status once lines) rows word n named first states (other, same, given, flag, count) =
     let are = same_rows _ _ _ _ _ named same in

@@ -84,16 +84,22 @@ abbrev pub with_status : App → App
 with_status app =
     with_rule (with_rule app (value_rule (codes "status"))) (value_rule (codes "status-port"))
 
+-- the command with the options `--end-file` and `--user-sessions`
+abbrev pub with_sessions : App → App
+with_sessions app =
+    with_rule (with_rule app (value_rule (codes "end-file"))) (value_rule (codes "user-sessions"))
+
 -- `serve CONFIG [--stop-file PATH] [--ready-file PATH] [--drain-file PATH] [--reload-file PATH]
 -- [--transfer-log PATH] [--log-form FORM] [--status PATH] [--status-port PORT]
 -- [--login-timeout SECONDS] [--idle-timeout SECONDS] [--login-delay SECONDS]
--- [--drain-seconds SECONDS] [--sync]`
+-- [--drain-seconds SECONDS] [--end-file PATH] [--user-sessions N] [--sync]`
 abbrev pub serve : App
 serve =
     with_rule
+    (with_sessions
     (with_patience
     (with_status
-    (with_logs (with_files (with_rule (bare (codes "serve")) (file_rule (codes "CONFIG")))))))
+    (with_logs (with_files (with_rule (bare (codes "serve")) (file_rule (codes "CONFIG"))))))))
     (flag_rule (codes "sync"))
 
 -- `plan CONFIG TRANSFERS [--json]`

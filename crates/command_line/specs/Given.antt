@@ -213,6 +213,8 @@ IsFound found (Serve config files patience) =
     × (first_of (codes "transfer-log") rows ≡ option_map (λ w. w.now) files.transfer_log)
     × (first_of (codes "log-form") rows ≡ option_map (λ w. w.now) files.log_form)
     × (first_of (codes "status") rows ≡ option_map (λ w. w.now) files.status)
+    × (first_of (codes "end-file") rows ≡ option_map (λ w. w.now) files.end_file)
+    × (first_of (codes "user-sessions") rows ≡ option_map (λ w. w.now) files.user_sessions)
     × (files.syncs ≡ is_flagged (codes "sync") rows)
     × IsPortIn rows files.status_port × IsPatienceIn rows patience
 IsFound found (Plan config transfers json) =

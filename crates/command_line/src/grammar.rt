@@ -2,7 +2,7 @@
 
 ghost use Rattle.std.specs.Prelude.{◌≡◌, IfOk, codes, false};
 ghost use Rattle.clap.specs.Words.{app_of, rule_of, with_rule};
-ghost use Rattle.command_line.specs.Commands.{bare, check, check_config, file_rule, flag_rule, ftpd, migrate, plan, script, serve, share, sheets, show, top, value_rule, with_files, with_logs, with_patience, with_sheets, with_status};
+ghost use Rattle.command_line.specs.Commands.{bare, check, check_config, file_rule, flag_rule, ftpd, migrate, plan, script, serve, share, sheets, show, top, value_rule, with_files, with_logs, with_patience, with_sessions, with_sheets, with_status};
 
 use clap::{Arg, ArgAction, Command};
 use std::alloc::{AllocError, Global};
@@ -234,6 +234,19 @@ fn with_status<'a>(alloc: Global, command: Command<'a>) -> Result<Command<'a>, A
     Ok(command)
 }
 
+/// The command with an optional end file, given by its path, and an optional number of sessions of a user.
+fn with_sessions<'a>(alloc: Global, command: Command<'a>) -> Result<Command<'a>, AllocError>
+    ensures rules { IfOk result (λ c. app_of c ≡ with_sessions (app_of command.entry)) }
+{
+    let end =
+        "File that is not there yet: each time it appears, the sessions of the numbers in its lines end, and the server removes it";
+    let most =
+        "Sessions in which one user may be logged in; one more is told 421; 0 is no limit [default: 0]";
+    let with_end = with_value(alloc, command, "end-file", "PATH", end)?;
+    let command = with_value(alloc, with_end, "user-sessions", "N", most)?;
+    Ok(command)
+}
+
 /// The command with its options in seconds.
 fn with_patience<'a>(alloc: Global, command: Command<'a>) -> Result<Command<'a>, AllocError>
     ensures rules { IfOk result (λ c. app_of c ≡ with_patience (app_of command.entry)) }
@@ -262,6 +275,7 @@ fn serve_command<'a>(alloc: Global) -> Result<Command<'a>, AllocError>
     let command = with_logs(alloc, command)?;
     let command = with_status(alloc, command)?;
     let command = with_patience(alloc, command)?;
+    let command = with_sessions(alloc, command)?;
     let sync =
         "Have each file that is received written to the device before its 226, which takes the device's time";
     with_flag(alloc, command, "sync", sync)

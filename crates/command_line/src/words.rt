@@ -36,6 +36,8 @@ pub struct ServeFiles<'a> {
     pub drain_file: Option<&'a str>,
     /// The server reads its configuration again once there is a file at this path.
     pub reload_file: Option<&'a str>,
+    /// The server ends the sessions of the numbers in the file at this path, once there is one.
+    pub end_file: Option<&'a str>,
     /// The server appends a line for each transfer of a file to the file at this path.
     pub transfer_log: Option<&'a str>,
     /// The name of the form of its notes.
@@ -46,6 +48,8 @@ pub struct ServeFiles<'a> {
     pub status_port: Option<u16>,
     /// The server has each file that is received written to the device before it says that it is there.
     pub syncs: bool,
+    /// The greatest number of sessions in which one user is logged in, in digits.
+    pub user_sessions: Option<&'a str>,
 }
 
 /// A command of `ftpd`, with the words after it.
@@ -203,11 +207,13 @@ fn given<'a>(name: &str, inner: &ArgMatches<'a>, numbers: Numbers) -> Option<Wor
                 ready_file: word_of(inner, "ready-file"),
                 drain_file: word_of(inner, "drain-file"),
                 reload_file: word_of(inner, "reload-file"),
+                end_file: word_of(inner, "end-file"),
                 transfer_log: word_of(inner, "transfer-log"),
                 log_form: word_of(inner, "log-form"),
                 status: word_of(inner, "status"),
                 status_port: numbers.status_port,
                 syncs: has_flag(inner, "sync"),
+                user_sessions: word_of(inner, "user-sessions"),
             },
             patience: numbers.patience,
         }),

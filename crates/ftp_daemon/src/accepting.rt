@@ -112,13 +112,16 @@ where
     H: ServerHooks,
     B: PartsName,
 {
+    if let Some(sign) = house.signs.get(session.number) {
+        sign.arrive(session.serial);
+    }
     match house.arrivals.get(session.number) {
         Some(arrival) => {
             *arrival.lock(rt) = Some(stream);
             Some(session)
         }
         None => {
-            house.registry.lock(rt).leave(session.number);
+            leave(rt, house, session);
             None
         }
     }
@@ -163,12 +166,13 @@ where
     if is_due { Some(now) } else { reported }
 }
 
-// Admits a connection, unless the server drains, or refuses it with the reason.
+// Admits a connection as the session of a number, unless the server drains, or refuses it with the reason.
 fn admit<R, S, H, B>(
     rt: &R,
     house: &House<S, H, B>,
     stream: TcpStream,
     from: SocketAddr,
+    serial: u64,
 ) -> Option<ClientSession>
 where
     R: Wait,
@@ -183,7 +187,16 @@ where
     }
     let admitted = house.registry.lock(rt).admit(peer);
     match admitted {
-        Ok(number) => arrive(rt, house, stream, ClientSession { peer, number }),
+        Ok(number) => arrive(
+            rt,
+            house,
+            stream,
+            ClientSession {
+                peer,
+                number,
+                serial,
+            },
+        ),
         Err(fault) => {
             refuse(rt, house, stream, peer, NotServed::NotAdmitted(fault));
             None
@@ -198,6 +211,7 @@ fn next_client<R, S, H, B>(
     house: &House<S, H, B>,
     door: &ClientDoor,
     bell: &DoorBell,
+    serial: u64,
     reported: &mut Option<u64>,
 ) -> Option<ClientSession>
 where
@@ -212,7 +226,7 @@ where
             if house.ending.has_begun(ShutdownStage::Sessions) {
                 return None;
             }
-            admit(rt, house, stream, from)
+            admit(rt, house, stream, from, serial)
         }
         Arrival::Fault(error) => {
             *reported = not_accepted(rt, house, error, *reported);
@@ -235,6 +249,20 @@ where
     }
 }
 
+// Leaves the registry with a session that has not begun.
+fn leave<R, S, H, B>(rt: &R, house: &House<S, H, B>, session: ClientSession)
+where
+    R: Wait,
+    S: Store<Global>,
+    H: ServerHooks,
+    B: PartsName,
+{
+    if let Some(sign) = house.signs.get(session.number) {
+        sign.leave();
+    }
+    house.registry.lock(rt).leave(session.number);
+}
+
 // Turns away a client for which no thread could be started: it leaves the registry.
 fn turn_away<R, S, H, B>(rt: &R, house: &House<S, H, B>, session: ClientSession)
 where
@@ -246,7 +274,7 @@ where
     if let Some(stream) = take_arrival(rt, house, session) {
         refuse(rt, house, stream, session.peer, NotServed::NoThread);
     }
-    house.registry.lock(rt).leave(session.number);
+    leave(rt, house, session);
 }
 
 /// Accepts control connections until the wanted number of sessions has begun, or the bell is rung since
@@ -275,6 +303,7 @@ where
                 × IsSend S.Sink.row × IsSend H.row × IsSync T.row }
         {
             let mut admitted = 0u64;
+            let mut serial = 0u64; // that of the next session
             let mut reported = None;
             for _ in rt.forever() {
                 if house.ending.has_begun(ShutdownStage::Sessions)
@@ -282,8 +311,9 @@ where
                 {
                     break;
                 }
-                match next_client(rt, house, &door, bell, &mut reported) {
+                match next_client(rt, house, &door, bell, serial, &mut reported) {
                     Some(session) => {
+                        serial = serial.saturating_add(1);
                         let started = Builder::new()
                             .stack_size(STACK)
                             .spawn_scoped(scope, move || serve_client(rt, house, runs, session));

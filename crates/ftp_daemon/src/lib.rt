@@ -14,6 +14,7 @@
 mod accepting;
 mod crew;
 mod draining;
+mod ending_sessions;
 mod lanes;
 mod last_waits;
 mod listening;
@@ -25,6 +26,7 @@ mod settling;
 mod watching;
 
 pub use client_patience::Patience;
+pub use ending_sessions::EndSign;
 pub use ftpd_program::{ScriptFault, ServeFault, run_script};
 pub use grant_certificate::Verdict;
 pub use lane_rounds::RoundClock;

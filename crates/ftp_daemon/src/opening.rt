@@ -24,7 +24,7 @@ use rate_floors::Floors;
 use round_cadence::Cadence;
 use round_pace::Pace;
 use server_config::ServerNumbers;
-use server_house::{LaneSign, SessionTicket, Terms};
+use server_house::{LaneSign, Logins, SessionSign, SessionTicket, Terms};
 use std::alloc::{AllocError, Global};
 use std::net::TcpStream;
 use std::sync::{Arc, Mutex};
@@ -49,6 +49,8 @@ pub struct Service<S: Drop, H: Drop, P: Drop> {
     pub signs: Option<P>,
     /// The limits of time for clients.
     pub patience: Patience,
+    /// The greatest number of sessions in which one user is logged in; 0 is no limit.
+    pub user_sessions: u32,
 }
 
 fn new_tickets<S: Store<Global>>(
@@ -60,6 +62,14 @@ fn new_tickets<S: Store<Global>>(
         tickets.push(Ticket::new(alloc)?)?;
     }
     Ok(tickets)
+}
+
+fn new_signs(alloc: Global, count: usize) -> Result<Vec<SessionSign>, AllocError> {
+    let mut signs = Vec::with_capacity(alloc, count)?;
+    for _ in 0..count {
+        signs.push(SessionSign::new())?;
+    }
+    Ok(signs)
 }
 
 fn new_lanes(alloc: Global, count: usize) -> Result<Vec<LaneSign>, AllocError> {
@@ -138,6 +148,8 @@ pub(crate) struct Allocated<S: Store<Global>, B: PartsName> {
     pub(crate) floors: Floors,
     pub(crate) ports: RestingPorts,
     pub(crate) registry: Admissions,
+    pub(crate) session_signs: Vec<SessionSign>,
+    pub(crate) logins: Logins,
     pub(crate) tickets: Vec<SessionTicket<S>>,
     pub(crate) lanes: Vec<LaneSign>,
     pub(crate) pace: Pace,
@@ -170,6 +182,7 @@ pub(crate) fn allocate<R, S, B>(
     own_stores: Vec<S>,
     passes: Vec<BoardPass<u32>>,
     seats: usize,
+    user_sessions: u32,
 ) -> Result<Allocated<S, B>, ServeFault>
 where
     R: RoundClock + AllocGlobal,
@@ -187,6 +200,8 @@ where
     let registry = admissions(alloc, connection_limits(numbers))?;
     let own_stores = locked(alloc, own_stores)?;
     let arrivals = new_arrivals(alloc, most)?;
+    let session_signs = new_signs(alloc, most)?;
+    let logins = Logins::new(alloc, most, user_sessions)?;
     let tickets = new_tickets::<S>(alloc, most)?;
     let lanes = new_lanes(alloc, usize::from(numbers.lanes))?;
     let cadence = new_cadence(alloc, &limits)?;
@@ -203,6 +218,8 @@ where
         floors,
         ports,
         registry,
+        session_signs,
+        logins,
         tickets,
         lanes,
         pace,

@@ -119,9 +119,18 @@ where
             handler,
             signs,
             patience,
+            user_sessions,
         } = service;
         let seats = line.seats.len();
-        match allocate::<R, S, B>(rt, &numbers, limits, own_stores, passes, seats) {
+        match allocate::<R, S, B>(
+            rt,
+            &numbers,
+            limits,
+            own_stores,
+            passes,
+            seats,
+            user_sessions,
+        ) {
             Err(fault) => Err((settle_unlent(line), fault)),
             Ok(made) => {
                 let Allocated {
@@ -130,6 +139,8 @@ where
                     floors,
                     ports,
                     registry,
+                    session_signs,
+                    logins,
                     tickets,
                     lanes,
                     pace,
@@ -152,6 +163,8 @@ where
                     handler: Mutex::new(handler),
                     ports: Mutex::new(ports),
                     registry: Mutex::new(registry),
+                    signs: session_signs,
+                    logins: Mutex::new(logins),
                     tickets,
                     board: LentBoard::new(board),
                     pass: Mutex::new(pass),

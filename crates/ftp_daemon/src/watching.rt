@@ -6,6 +6,7 @@ ghost use Rattle.ftp_daemon.specs.SameRates.{Permits};
 ghost use Rattle.line_rates.specs.Rates.{Rates};
 
 use crate::draining::{Due, next_due};
+use crate::ending_sessions::{EndSign, end_sessions};
 use crate::last_waits::{LanesAtWork, TELLS, is_told, waited_for};
 use crate::reloading::{ReloadFault, ReloadSign, take};
 use client_door::DoorBell;
@@ -64,6 +65,11 @@ pub trait OwnerSigns {
     /// The server has refused the configuration. Returns the reason in words; none if memory runs out.
     fn refused(&self, _fault: ReloadFault) -> Option<String> {
         None
+    }
+
+    /// The sessions that are to end now, if the owner asks for the end of any. It is asked for as often.
+    fn to_end(&self) -> EndSign {
+        EndSign::Nothing
     }
 
     /// Returns whether the handler is to be shown what goes on, once a second.
@@ -271,6 +277,7 @@ where
             return;
         }
         reload(rt, house, engine, signs);
+        end_sessions(rt, house, signs);
         shown = look_if_due(rt, house, engine, signs, shown, now);
         thread::sleep(rt, Duration::from_millis(LOOK));
     }

@@ -25,6 +25,8 @@ pub(crate) struct AskedService {
     pub drain_file: Option<String>,
     /// The path of the reload file, if any.
     pub reload_file: Option<String>,
+    /// The path of the end file, if any.
+    pub end_file: Option<String>,
     /// The path of the ready file, if any.
     pub ready_file: Option<String>,
     /// The path of the transfer log, if any.
@@ -37,6 +39,8 @@ pub(crate) struct AskedService {
     pub status_port: Option<u16>,
     /// Each file that is received is written to the device before its end is told.
     pub syncs: bool,
+    /// The greatest number of sessions in which one user is logged in, as it is stated, if it is.
+    pub user_sessions: Option<String>,
     pub patience: Patience,
 }
 
@@ -92,9 +96,11 @@ impl<W: TextWriter> Server<W> for Asked {
         let stop_file = copied(alloc, files.stop_file)?;
         let drain_file = copied(alloc, files.drain_file)?;
         let reload_file = copied(alloc, files.reload_file)?;
+        let end_file = copied(alloc, files.end_file)?;
         let ready_file = copied(alloc, files.ready_file)?;
         let transfer_log = copied(alloc, files.transfer_log)?;
         let log_form = copied(alloc, files.log_form)?;
+        let user_sessions = copied(alloc, files.user_sessions)?;
         let status = with_beside(alloc, files.status)?;
         let ReadConfig {
             path,
@@ -110,12 +116,14 @@ impl<W: TextWriter> Server<W> for Asked {
             stop_file,
             drain_file,
             reload_file,
+            end_file,
             ready_file,
             transfer_log,
             log_form,
             status,
             status_port: files.status_port,
             syncs: files.syncs,
+            user_sessions,
             patience,
         });
         Ok(())

@@ -1,4 +1,4 @@
-//! The thread that reads the configuration again.
+//! The threads that read the configuration again, and the file of sessions that are to end.
 
 use crate::own_thread::{STACK, ThreadSigns, shared};
 use ftp_daemon::ServeFault;
@@ -8,7 +8,7 @@ use std::time::Clock;
 use std::{fs, io};
 use text_io::{FallibleIo, read_whole};
 
-/// The octets of a configuration, or the reason for which they cannot be had; none for one without memory.
+/// The octets of a file, or the reason for which they cannot be had; none for one without memory.
 pub(crate) type ReadOctets = Result<Vec<u8>, Option<String>>;
 
 /// The state of the thread.
@@ -16,17 +16,19 @@ pub(crate) type ReadOctets = Result<Vec<u8>, Option<String>>;
 enum Reading {
     /// It is asked for nothing.
     Idle,
-    /// It is to read the configuration, or reads it.
+    /// It is to read the file, or reads it.
     Asked,
     /// It has read it.
     Done(ReadOctets),
 }
 
-/// A configuration that a thread reads, which nobody waits for.
+/// A file that a thread reads, which nobody waits for.
 #[derive(Drop)]
 pub(crate) struct ConfigReader {
     reading: Mutex<Reading>,
     signs: ThreadSigns,
+    /// A file is removed once it is read, unless it is empty.
+    removes: bool,
 }
 
 /// Reads a file. `Err` is the reason for which it cannot be had. What is no regular file is not opened: a pipe would be
@@ -44,6 +46,21 @@ fn read_file(machine: &HostRuntime, path: &str) -> ReadOctets {
     }
 }
 
+/// Removes what was read, unless it is empty. `Err` if it is still there.
+fn removed(machine: &HostRuntime, path: &str, octets: ReadOctets) -> ReadOctets {
+    let octets = match octets {
+        Ok(octets) => octets,
+        Err(reason) => return Err(reason),
+    };
+    if octets.is_empty() {
+        return Ok(octets);
+    }
+    match fs::remove_file(machine, path) {
+        Ok(()) => Ok(octets),
+        Err(reason) => Err(format!(in machine.alloc(); "{path}: cannot be removed: {reason}").ok()),
+    }
+}
+
 /// Opens a file, unless something else than a regular file is at the path.
 fn open_regular(machine: &HostRuntime, path: &str) -> io::Result<Option<fs::File>> {
     if !fs::metadata(machine, path)?.is_file() {
@@ -57,11 +74,13 @@ fn open_regular(machine: &HostRuntime, path: &str) -> io::Result<Option<fs::File
 }
 
 impl ConfigReader {
-    /// Starts the thread for a configuration at a path. Fails without a thread, or memory.
+    /// Starts the thread for a file at a path, which is removed once it is read, if it is to be. Fails without a thread,
+    /// or memory.
     pub fn start<R>(
         rt: &R,
         machine: &HostRuntime,
         path: String,
+        removes: bool,
     ) -> Result<Arc<ConfigReader>, ServeFault>
     where
         R: Threads + Wait + Clock + Copy + Send + Sync + 'static,
@@ -71,6 +90,7 @@ impl ConfigReader {
             ConfigReader {
                 reading: Mutex::new(Reading::Idle),
                 signs: ThreadSigns::new(),
+                removes,
             },
         )?;
         let own = Arc::try_clone(&reader)?;
@@ -85,7 +105,16 @@ impl ConfigReader {
         }
     }
 
-    // Reads the configuration each time that it is asked to, until no more work comes.
+    // The octets of the file, which is removed if it is to be.
+    fn read(&self, machine: &HostRuntime, path: &str) -> ReadOctets {
+        let octets = read_file(machine, path);
+        if !self.removes {
+            return octets;
+        }
+        removed(machine, path, octets)
+    }
+
+    // Reads the file each time that it is asked to, until no more work comes.
     fn work<R: Wait + Clock>(&self, rt: &R, machine: &HostRuntime, path: &str) {
         for _ in rt.forever() {
             let seen = self.signs.seen();
@@ -94,7 +123,7 @@ impl ConfigReader {
                 return;
             }
             if self.is_asked(rt) {
-                let octets = read_file(machine, path);
+                let octets = self.read(machine, path);
                 *self.reading.lock(rt) = Reading::Done(octets);
             } else {
                 self.signs.wait(rt, seen);
@@ -107,7 +136,7 @@ impl ConfigReader {
         matches!(&*self.reading.lock(rt), Reading::Asked)
     }
 
-    /// Asks for the octets of the configuration. Returns whether the thread was idle: otherwise it still reads.
+    /// Asks for the octets of the file. Returns whether the thread was idle: otherwise it still reads.
     pub fn ask<R: Wait>(&self, rt: &R) -> bool {
         if self.is_asked(rt) {
             return false;
@@ -117,7 +146,7 @@ impl ConfigReader {
         true
     }
 
-    /// Returns the octets of the configuration once they are read.
+    /// Returns the octets of the file once they are read.
     pub fn take<R: Wait>(&self, rt: &R) -> Option<ReadOctets> {
         let mut reading = self.reading.lock(rt);
         match &*reading {

@@ -4,6 +4,7 @@
 
 mod asked;
 mod config_thread;
+mod end_file;
 mod facts;
 mod known;
 mod log_file;

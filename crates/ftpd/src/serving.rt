@@ -5,6 +5,7 @@ ghost use Rattle.ftpd_program.specs.declared.server.ServeFault.TheVariants.{Tran
 
 use crate::asked::AskedService;
 use crate::config_thread::ConfigReader;
+use crate::end_file::EndFile;
 use crate::facts::{Start, copied_limits, facts_of, start_of};
 use crate::known::Known;
 use crate::log_thread::{LogThreads, QueuedTransfers};
@@ -95,6 +96,8 @@ struct ServedConfig {
     limits: Limits,
     /// A folder has the octets of each file that is received written to the device.
     syncs: bool,
+    /// The greatest number of sessions in which one user is logged in; 0 is no limit.
+    user_sessions: u32,
 }
 
 /// Serves a configuration: its store is in memory, or a folder of the machine.
@@ -117,6 +120,7 @@ where
         store,
         limits,
         syncs,
+        user_sessions,
     } = config;
     match store {
         ServedStore::Memory(store) => {
@@ -129,6 +133,7 @@ where
                 handler,
                 signs: Some(signs),
                 patience,
+                user_sessions,
             };
             serve(rt, service, output)?;
         }
@@ -152,6 +157,7 @@ where
                 handler,
                 signs: Some(signs),
                 patience,
+                user_sessions,
             };
             serve(rt, service, output)?;
         }
@@ -204,6 +210,7 @@ fn known_of(
     alloc: Global,
     config: Config,
     syncs: bool,
+    user_sessions: u32,
 ) -> Result<(ServedConfig, Known), AllocError> {
     let Config {
         settings,
@@ -224,6 +231,7 @@ fn known_of(
         store,
         limits,
         syncs,
+        user_sessions,
     };
     Ok((served, known))
 }
@@ -254,11 +262,38 @@ fn reload_file(
     }))
 }
 
+/// The end file, and its path, if there is to be one.
+fn split(end: Option<(SignFile, String)>) -> (Option<SignFile>, Option<String>) {
+    match end {
+        Some((sign, path)) => (Some(sign), Some(path)),
+        None => (None, None),
+    }
+}
+
+/// The end file, if there is to be one and a thread that reads it.
+fn end_file(
+    machine: &HostRuntime,
+    sign: Option<SignFile>,
+    reader: Option<Arc<ConfigReader>>,
+) -> Option<EndFile> {
+    let (Some(sign), Some(reader)) = (sign, reader) else {
+        return None;
+    };
+    Some(EndFile {
+        alloc: machine.alloc(),
+        sign,
+        reader,
+        is_stuck: Mutex::new(false),
+    })
+}
+
 /// The threads that own paths and sockets of the machine, as far as they are wanted.
 #[derive(Drop)]
 struct OwnThreads {
     /// It reads the configuration again.
     reader: Option<Arc<ConfigReader>>,
+    /// It reads the end file, and removes it.
+    ender: Option<Arc<ConfigReader>>,
     /// It writes the status file.
     status: Option<Arc<StatusWriter>>,
     /// It serves the status page.
@@ -270,6 +305,8 @@ struct OwnThreads {
 struct OwnMeans {
     /// The path of the configuration, if it may be read again.
     config: Option<String>,
+    /// The path of the end file, if there is to be one.
+    end: Option<String>,
     status: Option<StatusFile>,
     page: Option<PageSocket>,
     cell: Arc<StatusCell>,
@@ -291,12 +328,17 @@ impl OwnThreads {
     {
         let OwnMeans {
             config,
+            end,
             status,
             page,
             cell,
         } = means;
         let reader = match config {
-            Some(path) => Some(ConfigReader::start(rt, machine, path)?),
+            Some(path) => Some(ConfigReader::start(rt, machine, path, false)?),
+            None => None,
+        };
+        let ender = match end {
+            Some(path) => Some(ConfigReader::start(rt, machine, path, true)?),
             None => None,
         };
         let status = match status {
@@ -309,6 +351,7 @@ impl OwnThreads {
         };
         Ok(OwnThreads {
             reader,
+            ender,
             status,
             page,
         })
@@ -321,6 +364,9 @@ impl OwnThreads {
         }
         if let Some(status) = &self.status {
             status.leave(rt);
+        }
+        if let Some(ender) = &self.ender {
+            ender.leave(rt);
         }
         if let Some(reader) = &self.reader {
             reader.leave(rt);
@@ -361,11 +407,13 @@ where
         stop,
         drain,
         reload,
+        end,
         is_logged,
         log: _,
         status,
         page,
         syncs,
+        user_sessions,
         patience,
     } = means;
     let (lines, transfers) = offered_lines(log, is_logged)?;
@@ -379,21 +427,25 @@ where
     let notes = Notes::new(Logged::new(*machine, Level::Info, queued), form, transfers);
     notes.note_warnings(warnings.as_str());
     let handler = StatusKeeper::new(*rt, notes, facts, kept);
-    let (config, known) = known_of(rt.alloc(), config, syncs)?;
+    let (config, known) = known_of(rt.alloc(), config, syncs, user_sessions)?;
+    let (end, end_path) = split(end);
     let own = OwnMeans {
         config: if reload.is_some() { Some(path) } else { None },
+        end: end_path,
         status,
         page,
         cell,
     };
     let threads = OwnThreads::start(rt, machine, own)?;
     let reader = another(&threads.reader)?;
+    let ender = another(&threads.ender)?;
     let signs = MachineSigns {
         rt: *rt,
         stop,
         leaves: None,
         drain,
         reload: reload_file(machine, reload, reader, known, &config, start)?,
+        end: end_file(machine, end, ender),
         notes: log.plain_notes()?,
         status: another(&threads.status)?,
         cell: watched,

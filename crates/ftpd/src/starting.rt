@@ -8,7 +8,7 @@ use crate::sign_file::SignFile;
 use crate::stated_files::{FRONT, found_at, twin_of};
 use crate::status_file::StatusFile;
 use ftp_daemon::{Patience, ServeFault};
-use ftpd_program::{StartFault, is_free_for_log, is_free_for_status};
+use ftpd_program::{StartFault, is_free_for_log, is_free_for_status, stated_sessions};
 use line_queue::LogForm;
 use server_config::{Config, ServedStore};
 use std::net::{Net, TcpListener, TcpStream};
@@ -26,6 +26,8 @@ pub(crate) struct Means {
     pub drain: Option<SignFile>,
     /// The sign that the configuration is to be read again, if there is to be one.
     pub reload: Option<SignFile>,
+    /// The sign that sessions are to end, with its path again, if there is to be one.
+    pub end: Option<(SignFile, String)>,
     pub is_logged: bool,
     /// The transfer log, if there is to be one, until its thread takes it.
     pub log: Option<LogFile>,
@@ -33,6 +35,8 @@ pub(crate) struct Means {
     pub page: Option<PageSocket>,
     /// Each file that is received is written to the device before its end is told.
     pub syncs: bool,
+    /// The greatest number of sessions in which one user is logged in; 0 is no limit.
+    pub user_sessions: u32,
     pub patience: Patience,
 }
 
@@ -106,6 +110,7 @@ enum Sign {
     Stop,
     Drain,
     Reload,
+    End,
 }
 
 /// Returns the fault of a start whose sign could not be noticed at a path.
@@ -120,6 +125,8 @@ fn sign_fault(sign: Sign, path: String, hindrance: Hindrance) -> StartFault {
             path,
             reason,
         },
+        (Sign::End, Hindrance::There) => StartFault::EndFileThere { path },
+        (Sign::End, Hindrance::Reported(reason)) => StartFault::EndFileUnseen { path, reason },
     }
 }
 
@@ -135,6 +142,24 @@ fn sign_if_any(
     match hindrance_at(machine, path.as_str()) {
         Some(hindrance) => Err(sign_fault(sign, path, hindrance)),
         None => Ok(Some(SignFile::new(*machine, path))),
+    }
+}
+
+/// Returns the end file at a path, with the path again, if there is to be one. `Err` if no file there could be noticed.
+fn end_if_any(
+    machine: &HostRuntime,
+    path: Option<String>,
+) -> Result<Option<(SignFile, String)>, Unprepared> {
+    let sign = part(sign_if_any(machine, Sign::End, path), ServeFault::EndFile)?;
+    let Some(sign) = sign else {
+        return Ok(None);
+    };
+    match String::from_str(machine.alloc(), sign.path()) {
+        Ok(path) => Ok(Some((sign, path))),
+        Err(_) => Err(Unprepared {
+            fault: ServeFault::Memory,
+            start: None,
+        }),
     }
 }
 
@@ -173,6 +198,17 @@ fn form_named(name: Option<String>) -> Result<LogForm, StartFault> {
         "plain" => Ok(LogForm::Plain),
         "journal" => Ok(LogForm::Journal),
         _ => Err(StartFault::UnknownForm { word }),
+    }
+}
+
+/// Returns the number of sessions that a word states; 0, which is no limit, if none is stated. `Err` if it states none.
+fn sessions_in(word: Option<String>) -> Result<u32, StartFault> {
+    let Some(word) = word else {
+        return Ok(0);
+    };
+    match stated_sessions(word.as_str()) {
+        Some(sessions) => Ok(sessions),
+        None => Err(StartFault::NoSessions { word }),
     }
 }
 
@@ -289,15 +325,18 @@ where
         stop_file,
         drain_file,
         reload_file,
+        end_file,
         ready_file,
         transfer_log,
         log_form,
         status,
         status_port,
         syncs,
+        user_sessions,
         patience,
     } = service;
     let form = part(form_named(log_form), ServeFault::LogForm)?;
+    let user_sessions = part(sessions_in(user_sessions), ServeFault::UserSessions)?;
     let stop = part(
         sign_if_any(machine, Sign::Stop, stop_file),
         ServeFault::Stopped,
@@ -310,6 +349,7 @@ where
         sign_if_any(machine, Sign::Reload, reload_file),
         ServeFault::ReloadFile,
     )?;
+    let end = end_if_any(machine, end_file)?;
     let ready = part(ready_if_any(machine, ready_file), ServeFault::ReadyFile)?;
     if let Some(start) = folder_fault(machine, &config.store) {
         return Err(not_prepared(ServeFault::Store, start));
@@ -323,11 +363,13 @@ where
         stop,
         drain,
         reload,
+        end,
         is_logged,
         status: part(status_at(machine, status), ServeFault::StatusFile)?,
         page: part(page_at(rt, status_port), ServeFault::StatusPort)?,
         log: part(log_at(machine, transfer_log), ServeFault::TransferLog)?,
         syncs,
+        user_sessions,
         patience,
     };
     Ok(Prepared { means, ready })

@@ -49,6 +49,7 @@ pub(crate) fn twin_of(
     add(machine, &mut paths, &service.stop_file)?;
     add(machine, &mut paths, &service.drain_file)?;
     add(machine, &mut paths, &service.reload_file)?;
+    add(machine, &mut paths, &service.end_file)?;
     add(machine, &mut paths, &service.ready_file)?;
     add(machine, &mut paths, &service.transfer_log)?;
     if let Some((path, beside)) = &service.status {

@@ -2,12 +2,13 @@
 
 ghost use Rattle.std.specs.Prelude.{true};
 
+use crate::end_file::EndFile;
 use crate::log_thread::PlainNotes;
 use crate::reload_file::ReloadFile;
 use crate::sign_file::{SignFile, SignLook};
 use crate::status_thread::StatusWriter;
 use folder_store::LeaveSign;
-use ftp_daemon::{OwnerSigns, ReloadFault, ReloadSign};
+use ftp_daemon::{EndSign, OwnerSigns, ReloadFault, ReloadSign};
 use server_status::status_text;
 use status_keeper::StatusCell;
 use std::fs::OpenOptions;
@@ -88,6 +89,7 @@ pub(crate) struct MachineSigns<R> {
     pub leaves: Option<LeaveSign>,
     pub drain: Option<SignFile>,
     pub reload: Option<ReloadFile>,
+    pub end: Option<EndFile>,
     /// The notes, for a file that cannot be examined.
     pub notes: PlainNotes,
     /// The thread that writes the status file, if there is one.
@@ -151,6 +153,13 @@ impl<R: Wait + AllocGlobal> OwnerSigns for MachineSigns<R> {
         match &self.reload {
             Some(file) => file.refused(&self.rt, fault),
             None => None,
+        }
+    }
+
+    fn to_end(&self) -> EndSign {
+        match &self.end {
+            Some(file) => file.asked(&self.rt),
+            None => EndSign::Nothing,
         }
     }
 

@@ -31,7 +31,7 @@ written_end json config other new old Refuses before after report (Common Flawed
 written_end json config other new old Refuses before after report (Common (Refused reported)) of is = absurd is
 written_end json config other new old Refuses before after report (Common (Share fault cause)) of is = absurd is
 written_end json config other new old Refuses before after report (Common (Check fault cause)) of is = absurd is
-written_end json config other new old Refuses before after report (Config fault) of is = absurd is
+written_end json config other new old Refuses before after report (Config file fault) of is = absurd is
 written_end json config other new old Refuses before after report (ConfigOf file fault) of is = absurd is
 written_end json config other new old Refuses before after report (Transfers name reported) of is = absurd is
 written_end json config other new old Refuses before after report (Session fault) of is = absurd is
@@ -50,7 +50,7 @@ refused_end json config other new old Refuses before after (Common (Refused repo
 refused_end json config other new old Refuses before after (Common (Share fault cause)) is = absurd is
 refused_end json config other new old Refuses before after (Common (Check fault cause)) is = absurd is
 refused_end json config other new old Refuses before after NoReload is = absurd is
-refused_end json config other new old Refuses before after (Config fault) is = absurd is
+refused_end json config other new old Refuses before after (Config file fault) is = absurd is
 refused_end json config other new old Refuses before after (Transfers name reported) is = absurd is
 refused_end json config other new old Refuses before after (Session fault) is = absurd is
 refused_end json config other new old Refuses before after (Server fault) is = absurd is
@@ -134,7 +134,7 @@ change_why json config other new old path may Refuses before after (Common (Refu
 change_why json config other new old path may Refuses before after (Common (Share fault cause)) is = tt
 change_why json config other new old path may Refuses before after (Common (Check fault cause)) is = tt
 change_why json config other new old path may Refuses before after NoReload is = tt
-change_why json config other new old path may Refuses before after (Config fault) is = tt
+change_why json config other new old path may Refuses before after (Config file fault) is = absurd is
 change_why json config other new old path may Refuses before after (ConfigOf file fault) is = tt
 change_why json config other new old path may Refuses before after (Transfers name reported) is = tt
 change_why json config other new old path may Refuses before after (Session fault) is = tt

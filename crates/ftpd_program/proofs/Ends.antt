@@ -26,7 +26,7 @@ pub share_end : (gives : List ℕ → Octets) (shown : Shown) (serves : Service)
 share_end gives shown serves Refuses (Sheet (Share path svg)) sheet as_svg old new (Common ending) is end =
     let first = subst (λ (p : List ℕ). IsShareEnd gives svg p old new ending) is.0 end in
     subst (λ (b : Bool). IsShareEnd gives b sheet old new ending) is.1 first
-share_end gives shown serves Refuses (Sheet (Share path svg)) sheet as_svg old new (Config fault) is end = absurd end
+share_end gives shown serves Refuses (Sheet (Share path svg)) sheet as_svg old new (Config file fault) is end = absurd end
 share_end gives shown serves Refuses (Sheet (Share path svg)) sheet as_svg old new (ConfigOf file fault) is end = absurd end
 share_end gives shown serves Refuses (Sheet (Share path svg)) sheet as_svg old new NoReload is end = absurd end
 share_end gives shown serves Refuses (Sheet (Share path svg)) sheet as_svg old new (Transfers name reported) is end = absurd end
@@ -47,7 +47,7 @@ pub check_end : (gives : List ℕ → Octets) (shown : Shown) (serves : Service)
 check_end gives shown serves Refuses (Sheet (Check path other)) sheet grants old new (Common ending) is end =
     let first = subst (λ (p : List ℕ). IsCheckEnd gives p other.now old new ending) is.0 end in
     subst (λ (p : List ℕ). IsCheckEnd gives sheet p old new ending) is.1 first
-check_end gives shown serves Refuses (Sheet (Check path other)) sheet grants old new (Config fault) is end = absurd end
+check_end gives shown serves Refuses (Sheet (Check path other)) sheet grants old new (Config file fault) is end = absurd end
 check_end gives shown serves Refuses (Sheet (Check path other)) sheet grants old new (ConfigOf file fault) is end = absurd end
 check_end gives shown serves Refuses (Sheet (Check path other)) sheet grants old new NoReload is end = absurd end
 check_end gives shown serves Refuses (Sheet (Check path other)) sheet grants old new (Transfers name reported) is end = absurd end
@@ -174,7 +174,7 @@ table_end once status rows P ending after never is end = subst (λ (e : FtpdExit
     go b (Common (Text why cause)) end = end
     go b (Common (Unshared why cause)) end = end
     go b (Common (Unchecked why cause)) end = end
-    go b (Config fault) end = end
+    go b (Config file fault) end = end
     go b (ConfigOf file fault) end = end
     go b NoReload end = end
     go b (Transfers name reported) end = end
@@ -195,7 +195,7 @@ table_unwritten once status rows ending after is unwritten = go once ending (sub
     go b (Common (Text why cause)) end = end
     go b (Common (Unshared why cause)) end = end
     go b (Common (Unchecked why cause)) end = end
-    go b (Config fault) end = end
+    go b (Config file fault) end = end
     go b (ConfigOf file fault) end = end
     go b NoReload end = end
     go b (Transfers name reported) end = end

@@ -13,14 +13,16 @@ use Rattle.sheets_program.specs.declared.files.TheConstants.{STANDARD_INPUT}
 use Rattle.text_io.specs.declared.fault.TextFault.TheVariants.{ReadFault, TooLong, WriteFault}
 use Rattle.ftpd_program.specs.Endings.{IsCommon}
 use Rattle.ftpd_program.specs.declared.ending.FtpdExit.{FtpdExit}
-use Rattle.ftpd_program.specs.declared.ending.FtpdExit.TheVariants.{Common, Session, Status}
+use Rattle.ftpd_program.specs.declared.ending.FtpdExit.TheVariants.{Common, Config, Session, Status}
 
 -- the cause of a fault of reading the file of that path: a read fault is possible, and a read fault
--- or a text that is too long names the file, and so does a text without a status
+-- or a text that is too long names the file, and so do a refused configuration and a text without
+-- a status
 abbrev pub IsReadWhy : List ℕ → Type 0 → FtpdExit → Type 0
 IsReadWhy path may (Common (Text fault cause)) =
     (fault ≡ ReadFault → may × (file_of cause ≡ Some path))
     × (fault ≡ TooLong → file_of cause ≡ Some path)
+IsReadWhy path may (Config file fault) = file.now ≡ path
 IsReadWhy path may (Status file fault) = file.now ≡ path
 IsReadWhy path may _ = Unit {0}
 
@@ -39,6 +41,7 @@ IsScriptWhy gives refused fails breaks config (Common (Text fault cause)) =
     (fault ≡ ReadFault → ((refused config ⊎ fails config) × (file_of cause ≡ Some config))
     ⊎ (refused STANDARD_INPUT.now × (file_of cause ≡ Some STANDARD_INPUT.now)))
     × (fault ≡ TooLong → file_of cause ≡ Some config)
+IsScriptWhy gives refused fails breaks config (Config file fault) = file.now ≡ config
 IsScriptWhy gives refused fails breaks config (Session fault) =
     IsSessionBreak
     (MayBreakInput (gives STANDARD_INPUT.now) (fails STANDARD_INPUT.now)) breaks fault

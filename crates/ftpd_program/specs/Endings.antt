@@ -8,7 +8,7 @@ use Rattle.ftpd_program.specs.declared.ending.FtpdExit.TheVariants.{Common, Conf
 
 abbrev pub status_of : FtpdExit → ℕ
 status_of (Common ending) = common.status_of ending
-status_of (Config fault) = 1
+status_of (Config file fault) = 1
 status_of (ConfigOf file fault) = 1
 status_of NoReload = 1
 status_of (Transfers name reported) = 1
@@ -22,7 +22,7 @@ status_of (Watches status rows) = 0
 -- and a server its messages
 abbrev pub IsUnwritten : FtpdExit → Type 0
 IsUnwritten (Common ending) = common.IsUnwritten ending
-IsUnwritten (Config fault) = Unit {0}
+IsUnwritten (Config file fault) = Unit {0}
 IsUnwritten (ConfigOf file fault) = Unit {0}
 IsUnwritten NoReload = ⊥
 IsUnwritten (Transfers name reported) = Unit {0}
@@ -35,7 +35,7 @@ IsUnwritten (Watches status rows) = ⊥
 -- an ending that any command may have, with that property
 abbrev pub IsCommon : (CommonExit → Type 0) → FtpdExit → Type 0
 IsCommon P (Common ending) = P ending
-IsCommon P (Config fault) = ⊥
+IsCommon P (Config file fault) = ⊥
 IsCommon P (ConfigOf file fault) = ⊥
 IsCommon P NoReload = ⊥
 IsCommon P (Transfers name reported) = ⊥

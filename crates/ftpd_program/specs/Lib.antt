@@ -8,4 +8,5 @@ pub mod Ready
 pub mod Runs
 pub mod Scripting
 pub mod Serving
+pub mod StatedSessions
 pub mod Watching

@@ -29,7 +29,7 @@ IsPrintEnd print shown gives Refuses old new (Common Done) =
     (text : Option (List ℕ)) × gives text × AppendsPrint print shown text old new
 IsPrintEnd print shown gives Refuses old new (Common (Text fault cause)) =
     IsPrintingFaultOf gives (IsPrintOf print shown) Refuses fault
-IsPrintEnd print shown gives Refuses old new (Config fault) =
+IsPrintEnd print shown gives Refuses old new (Config file fault) =
     (text : Option (List ℕ)) × gives text × IsUnprintedAt print text fault
 IsPrintEnd print shown gives Refuses old new (Transfers name reported) = IsOfPlan print
 IsPrintEnd print shown gives Refuses old new (Status file fault) =
@@ -83,7 +83,7 @@ IsScriptEnd gives config old new (Common Done) =
     × gives config text × gives STANDARD_INPUT.now before × IsScripted text before after old new)
 IsScriptEnd gives config old new (Common (Refused reported)) = IsInput config
 IsScriptEnd gives config old new (Common (Text fault cause)) = IsReadingFaultOf (gives config) fault
-IsScriptEnd gives config old new (Config fault) =
+IsScriptEnd gives config old new (Config file fault) =
     (text : Option (List ℕ)) × gives config text × IsRefusalOf text fault
 IsScriptEnd gives config old new (Session fault) =
     ¬ IsInput config × ((text before after : Option (List ℕ))

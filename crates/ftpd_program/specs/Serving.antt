@@ -37,7 +37,7 @@ IsAnswered gives shown path serves stop ready patience old new answer =
 -- the ending of a command without a configuration of its file
 abbrev pub IsUnconfiguredEnd : Octets → FtpdExit → Type 0
 IsUnconfiguredEnd gives (Common (Text fault cause)) = IsReadingFaultOf gives fault
-IsUnconfiguredEnd gives (Unread fault) =
+IsUnconfiguredEnd gives (Unread file fault) =
     (text : Option (List ℕ)) × gives text × IsRefusalOf text fault
 IsUnconfiguredEnd gives _ = ⊥
 

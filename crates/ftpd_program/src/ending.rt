@@ -20,8 +20,11 @@ const FOLDER_FOR_SCRIPT: &str = "[server]: root: `script` serves no folder, but 
 pub enum FtpdExit<'w> {
     /// An ending that any command may have.
     Common(Common<'w>),
-    /// The configuration is refused.
-    Config(ConfigFault),
+    /// The configuration of the file of this path is refused.
+    Config {
+        file: &'w str,
+        fault: ConfigFault,
+    },
     /// The configuration of the file of this path is refused, which is one of two.
     ConfigOf {
         file: &'w str,
@@ -59,7 +62,7 @@ impl<'w> FtpdExit<'w> {
         match self {
             FtpdExit::Common(ending) => ending.status(),
             FtpdExit::Watches { .. } => 0,
-            FtpdExit::Config(_)
+            FtpdExit::Config { .. }
             | FtpdExit::ConfigOf { .. }
             | FtpdExit::NoReload
             | FtpdExit::Transfers { .. }
@@ -91,11 +94,7 @@ impl fmt::Display for FtpdErrorText<'_, '_> {
                 };
                 write!(f, "{reported}")
             }
-            FtpdExit::Config(fault) => {
-                writeln!(f, "{fault}")?;
-                writeln!(f, "{NAME}: {}", fault.name())
-            }
-            FtpdExit::ConfigOf { file, fault } => {
+            FtpdExit::Config { file, fault } | FtpdExit::ConfigOf { file, fault } => {
                 writeln!(f, "{file}: {fault}")?;
                 writeln!(f, "{NAME}: {}", fault.name())
             }

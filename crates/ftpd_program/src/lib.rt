@@ -21,6 +21,7 @@ mod run;
 mod scripting;
 mod server;
 mod serving;
+mod session_limit;
 mod start;
 mod watching;
 
@@ -35,6 +36,7 @@ pub use ready::{ReadyFile, ReadyOutput};
 pub use run::run_words;
 pub use scripting::{ScriptFault, run_script};
 pub use server::{ReadConfig, ServeFault, Server};
+pub use session_limit::{MOST_USER_SESSIONS, stated_sessions};
 pub use sheets_program::{Opener, STANDARD_INPUT};
 pub use start::StartFault;
 pub use watching::{StatusSource, watch};

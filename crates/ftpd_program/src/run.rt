@@ -60,7 +60,10 @@ fn print_text<'w, O: Opener + Lookout, W: TextWriter>(
     };
     match run_print(alloc, print, &mut file, output, &*files) {
         Ok(()) => FtpdExit::Common(Common::Done),
-        Err(PrintFault::Config(fault)) => FtpdExit::Config(fault),
+        Err(PrintFault::Config(fault)) => FtpdExit::Config {
+            file: config,
+            fault,
+        },
         Err(PrintFault::Transfers { name, reported }) => FtpdExit::Transfers { name, reported },
         Err(PrintFault::Status(fault)) => FtpdExit::Status {
             file: config,
@@ -164,7 +167,10 @@ fn script<'w, O: Opener, W: TextWriter>(
             let cause = text_cause(fault, config, O::reason(&file));
             FtpdExit::Common(Common::Text(fault, cause))
         }
-        Err(ScriptFault::Config(fault)) => FtpdExit::Config(fault),
+        Err(ScriptFault::Config(fault)) => FtpdExit::Config {
+            file: config,
+            fault,
+        },
         Err(ScriptFault::Session(fault)) => FtpdExit::Session(fault),
     }
 }

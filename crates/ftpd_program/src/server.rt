@@ -37,6 +37,12 @@ pub enum ServeFault {
     /// cannot be read again.
     #[error("ReloadFile")]
     ReloadFile,
+    /// The end file was there at the start, or could never be noticed.
+    #[error("EndFile")]
+    EndFile,
+    /// The number of sessions that is stated is none.
+    #[error("UserSessions")]
+    UserSessions,
     /// Two of the paths that are stated are those of one file.
     #[error("OnePath")]
     OnePath,

@@ -38,7 +38,7 @@ fn config_at<'w, O: Opener + Lookout>(
     };
     match read_warned(alloc, path, &mut file, &*files) {
         Ok(read) => Ok(read),
-        Err(ScriptFault::Config(fault)) => Err(FtpdExit::Config(fault)),
+        Err(ScriptFault::Config(fault)) => Err(FtpdExit::Config { file: path, fault }),
         Err(ScriptFault::Session(fault)) => Err(FtpdExit::Session(fault)),
         Err(ScriptFault::Text(fault)) => {
             let cause = text_cause(fault, path, O::reason(&file));

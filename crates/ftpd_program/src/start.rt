@@ -1,5 +1,6 @@
 //! The reason for which a server did not start, in the machine's words.
 
+use crate::session_limit::MOST_USER_SESSIONS;
 use config_report::is_nearly_memory;
 use std::{fmt, io};
 
@@ -22,6 +23,10 @@ pub enum StartFault {
     ReloadFileThere { path: String },
     /// The reload file of this path could not be noticed, because its folder is not there, or is closed (`ReloadFile`).
     ReloadFileUnseen { path: String, reason: io::Error },
+    /// There is something at the path of the end file (`EndFile`).
+    EndFileThere { path: String },
+    /// The end file of this path could not be noticed, because its folder is not there, or is closed (`EndFile`).
+    EndFileUnseen { path: String, reason: io::Error },
     /// There is something at the path of the ready file (`ReadyFile`).
     ReadyFileThere { path: String },
     /// The ready file of this path could not be made (`ReadyFile`).
@@ -38,6 +43,8 @@ pub enum StartFault {
     StatusUnwritten { path: String, reason: io::Error },
     /// This port of 127.0.0.1 cannot be listened on (`StatusPort`).
     StatusPortTaken { port: u16, reason: io::Error },
+    /// This is no number of sessions (`UserSessions`).
+    NoSessions { word: String },
     /// No form of notes has this name (`LogForm`).
     UnknownForm { word: String },
 }
@@ -55,6 +62,7 @@ impl fmt::Display for StartFault {
             StartFault::StopFileThere { path }
             | StartFault::DrainFileThere { path }
             | StartFault::ReloadFileThere { path }
+            | StartFault::EndFileThere { path }
             | StartFault::ReadyFileThere { path } => {
                 write!(f, "{path} is there already: remove it")
             }
@@ -66,6 +74,9 @@ impl fmt::Display for StartFault {
             }
             StartFault::ReloadFileUnseen { path, reason } => {
                 write!(f, "the reload file {path} could not be noticed: {reason}")
+            }
+            StartFault::EndFileUnseen { path, reason } => {
+                write!(f, "the end file {path} could not be noticed: {reason}")
             }
             StartFault::ReadyFileUnmade { path, reason } => {
                 write!(f, "the ready file {path} could not be made: {reason}")
@@ -98,6 +109,12 @@ impl fmt::Display for StartFault {
                 write!(
                     f,
                     "the status page cannot listen on 127.0.0.1:{port}: {reason}"
+                )
+            }
+            StartFault::NoSessions { word } => {
+                write!(
+                    f,
+                    "{word:?} is no number of sessions: it must be one from 0 to {MOST_USER_SESSIONS}, in digits"
                 )
             }
             StartFault::UnknownForm { word } => {

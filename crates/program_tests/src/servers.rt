@@ -5,7 +5,7 @@ use crate::expect::{holds, reports, same};
 use crate::texts::SMALL;
 use ftpd_program::{
     FtpdErrorText, FtpdExit, Patience, ReadConfig, ServeFault, ServeFiles, Server, StartFault,
-    run_words,
+    run_words, stated_sessions,
 };
 use std::alloc::Global;
 use std::io;
@@ -338,6 +338,40 @@ fn reload_files_are_explained(rt: HostRuntime) {
 }
 
 #[test]
+fn end_files_and_sessions_are_explained(rt: HostRuntime) {
+    let there = StartFault::EndFileThere {
+        path: text(&rt, "/run/ftpd/end"),
+    };
+    starts_not(
+        &rt,
+        ServeFault::EndFile,
+        &there,
+        "/run/ftpd/end is there already: remove it\nftpd: EndFile\n",
+    );
+    let unseen = StartFault::EndFileUnseen {
+        path: text(&rt, "/gone/end"),
+        reason: io::Error::from_raw_os_error(2),
+    };
+    starts_not(
+        &rt,
+        ServeFault::EndFile,
+        &unseen,
+        "the end file /gone/end could not be noticed: No such file or directory (os error 2)\nftpd: EndFile\n",
+    );
+    let none = StartFault::NoSessions {
+        word: text(&rt, "two"),
+    };
+    starts_not(
+        &rt,
+        ServeFault::UserSessions,
+        &none,
+        "\"two\" is no number of sessions: it must be one from 0 to 65535, in digits\nftpd: UserSessions\n",
+    );
+    holds(&rt, stated_sessions("2") == Some(2));
+    holds(&rt, stated_sessions("65536").is_none());
+}
+
+#[test]
 fn ready_files_are_explained(rt: HostRuntime) {
     let there = StartFault::ReadyFileThere {
         path: text(&rt, "/run/ftpd/ready"),
@@ -384,7 +418,7 @@ fn faults_of_the_log_are_explained(rt: HostRuntime) {
 }
 
 const OUT_OF_RANGE: &str =
-    "top: version: out of range; it must be a number from 1 to 2\nftpd: OutOfRange\n";
+    "file: top: version: out of range; it must be a number from 1 to 2\nftpd: OutOfRange\n";
 
 /// If a configuration is refused, the server is not called.
 #[test]

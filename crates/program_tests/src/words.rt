@@ -59,6 +59,8 @@ const NO_FILES: ServeFiles<'static> = ServeFiles {
     status: None,
     status_port: None,
     syncs: false,
+    end_file: None,
+    user_sessions: None,
 };
 
 /// Checks that these words are those of `serve` for `office.toml`, with those files and that patience.
@@ -163,6 +165,13 @@ fn words_on_a_server(rt: HostRuntime) {
     };
     serves(&rt, &["serve", config, "--sync"], synced, usual);
     serves(&rt, &["serve", "--sync", config], synced, usual);
+    let counted = ServeFiles {
+        end_file: Some("end"),
+        user_sessions: Some("3"),
+        ..NO_FILES
+    };
+    let words = ["serve", config, "--end-file", "end", "--user-sessions", "3"];
+    serves(&rt, &words, counted, usual);
 }
 
 // Words that ask for the transfers of a running server.

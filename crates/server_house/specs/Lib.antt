@@ -1,7 +1,10 @@
+pub mod Asked
+pub mod Logins
 pub mod Names
 pub mod Peers
 pub mod Ports
 pub mod Settings
+pub mod Signs
 pub mod Sockets
 pub mod Sources
 pub mod Stages

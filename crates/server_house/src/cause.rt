@@ -25,4 +25,6 @@ pub enum EndCause {
     ControlLost,
     /// The server ends.
     ServerEnds,
+    /// The owner of the server ended the session.
+    SessionEnded,
 }

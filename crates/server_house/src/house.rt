@@ -5,6 +5,8 @@ ghost use Rattle.server_house.specs.Settings.{AreSettingsAt, announced};
 
 use crate::ending::ServerShutdown;
 use crate::lane::LaneSign;
+use crate::logins::Logins;
+use crate::session_sign::SessionSign;
 use crate::terms::SharedTerms;
 use crate::ticket::SessionTicket;
 use client_patience::Patience;
@@ -41,6 +43,10 @@ pub struct House<S: Store<Global>, H: Drop, B: PartsName> {
     pub ports: Mutex<RestingPorts>,
     /// The connections, and the limits to further ones.
     pub registry: Mutex<Admissions>,
+    /// For each connection, by its number, the session and whether it is to end.
+    pub signs: Vec<SessionSign>,
+    /// The users who are logged in.
+    pub logins: Mutex<Logins>,
     /// The ticket of each session, by the number of its connection.
     pub tickets: Vec<SessionTicket<S>>,
     /// The numbers of the tickets on which a transfer waits for a lane. One that was taken back leaves its number here.
@@ -63,6 +69,24 @@ impl<S: Store<Global>, H: Drop, B: PartsName> House<S, H, B> {
             Some(ticket) => ticket.is_stopping(),
             None => false,
         }
+    }
+
+    /// Returns whether the session of a connection is to end.
+    pub fn is_to_end(&self, key: usize) -> bool {
+        match self.signs.get(key) {
+            Some(sign) => sign.is_to_end(),
+            None => false,
+        }
+    }
+
+    /// Asks the session of this number to end. Returns whether it is there.
+    pub fn ask_end(&self, serial: u64) -> bool {
+        for sign in &self.signs {
+            if sign.ask_end(serial) {
+                return true;
+            }
+        }
+        false
     }
 
     /// The store of the session of a connection: its own, or the shared one if it has none.

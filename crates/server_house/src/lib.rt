@@ -10,12 +10,14 @@
 //! A listing and a file are read through one type, [`Served`], so that one board takes both.
 #![tactic(auto)]
 
+mod asking;
 mod cause;
 mod connection;
 mod descriptors;
 mod ending;
 mod house;
 mod lane;
+mod logins;
 mod outgoing;
 mod own_address;
 mod own_runs;
@@ -23,17 +25,20 @@ mod passive;
 mod runtime;
 mod served;
 mod server_hooks;
+mod session_sign;
 mod terms;
 mod ticket;
 mod transfer_end;
 mod transfer_name;
 
+pub use asking::{MOST_SESSIONS, asked_session};
 pub use cause::EndCause;
 pub use connection::{DataConnection, FIRST_WRITE};
 pub use descriptors::descriptors_for;
 pub use ending::{ServerShutdown, ShutdownStage, stages_stay_begun};
 pub use house::{House, copy_settings};
 pub use lane::LaneSign;
+pub use logins::Logins;
 pub use outgoing::{Outgoing, Progress};
 pub use own_address::OwnAddress;
 pub use own_runs::OwnRuns;
@@ -44,9 +49,10 @@ pub use passive::{
 pub use runtime::ServerRuntime;
 pub use served::{Listing, Served};
 pub use server_hooks::{
-    BegunTransfer, ClientSession, LaneLook, NoHooks, NotServed, ServerEvent, ServerHooks,
+    BegunTransfer, ClientSession, LaneLook, NoHooks, NotEnded, NotServed, ServerEvent, ServerHooks,
     ServerLook, SessionEvent, SessionRefusal, StoreNote, TransferKind, TransferRecord,
 };
+pub use session_sign::SessionSign;
 pub use terms::{HeldTerms, SharedTerms, Terms};
 pub use ticket::{LaneEnds, SessionEnd, SessionJob, SessionTicket};
 pub use transfer_end::TransferEnd;

@@ -14,8 +14,10 @@ use std::io;
 pub struct ClientSession {
     /// The address of the client.
     pub peer: [u8; 4],
-    /// The number of the connection.
+    /// The number of the connection, which another one has once this one is gone.
     pub number: usize,
+    /// The number by which the owner knows the session: no other session of the server has it.
+    pub serial: u64,
 }
 
 /// The reason for which a client is not served.
@@ -38,6 +40,8 @@ pub enum SessionRefusal {
     NoGuarantee,
     /// Too many lines were held while a transfer ran.
     TooManyHeldLines,
+    /// The user is logged in as often as one user may be.
+    TooManySessions,
 }
 
 /// An event of a session for which its handler has no callback.
@@ -49,6 +53,17 @@ pub enum SessionEvent {
     NoPort(io::Error),
     /// The session ends, since its client has passed a limit of time.
     TimedOut(TimeOut),
+    /// The session ends, since the owner of the server asked for it.
+    Ended,
+}
+
+/// The reason for which no session ends, though the owner of a server asked for it.
+#[derive(Clone, Copy)]
+pub enum NotEnded<'a> {
+    /// This is the number of no session that is there.
+    NoSession(&'a str),
+    /// The request cannot be read, for this reason; none if memory ran out.
+    Unread(Option<&'a str>),
 }
 
 /// An event of the whole server.
@@ -215,6 +230,9 @@ pub trait ServerHooks: Drop {
 
     /// The server has taken a changed configuration, or has refused it for this reason.
     fn on_reload(&mut self, _refused: Option<&str>) {}
+
+    /// The owner asked for the end of a session, and none ends.
+    fn on_not_ended(&mut self, _why: NotEnded<'_>) {}
 
     /// Returns whether the sizes of files that are sent are to be asked for.
     fn wants_sizes(&self) -> bool {

@@ -11,6 +11,7 @@ use virtual_path::VPath;
 const ANN: ClientSession = ClientSession {
     peer: [127, 0, 0, 1],
     number: 7,
+    serial: 21,
 };
 
 /// A handler that knows how often it was called, and the last callback with the length of its text, or its octets.

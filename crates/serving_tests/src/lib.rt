@@ -1,6 +1,6 @@
 //! Tests of the parts of the server that need no desk and no session: counts that threads wait on, tickets, the mender
-//! of control text, the pace of rounds and their cadence, limits of time, doors, ports that rest, the queue of lines, and the
-//! line of a transfer log; and of the callbacks of a handler. They call only public functions.
+//! of control text, the pace of rounds and their cadence, limits of time, doors, ports that rest, the queue of lines, the
+//! line of a transfer log, and the sessions of users; and of the callbacks of a handler. They call only public functions.
 #![tactic(auto)]
 
 #[cfg(test)]
@@ -19,6 +19,8 @@ mod lines;
 mod paces;
 #[cfg(test)]
 mod ports;
+#[cfg(test)]
+mod sessions;
 #[cfg(test)]
 mod sockets;
 #[cfg(test)]

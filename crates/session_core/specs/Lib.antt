@@ -1,2 +1,3 @@
+pub mod Entering
 pub mod Events
 pub mod Rows

@@ -1,13 +1,15 @@
 //! The rule of each command: its conditions, and its row by name.
 
-ghost use Rattle.std.specs.Prelude.{◌≡◌, [], option_map, unwrap_or};
+ghost use Rattle.std.specs.Prelude.{◌≡◌, [], Some, option_map, unwrap_or};
 ghost use Rattle.std.specs.String.{string_bytes};
 ghost use Rattle.ftp_wire.specs.Commands.{with_texts};
 ghost use Rattle.ftp_wire.specs.Reading.{item_of};
+ghost use Rattle.session_core.specs.Entering.{is_right};
 ghost use Rattle.session_core.specs.Rows.{rule_by};
 ghost use Rattle.session_table.specs.Rules.{meanwhile_of, rule};
 ghost use Rattle.session_table.specs.Steps.{is_pass};
 
+use authorizer::Authorizer;
 use ftp_terms::Letter;
 use ftp_wire::{Command, LineItem};
 use session_table::{
@@ -173,6 +175,20 @@ pub(crate) fn meanwhile_of<A: Allocator>(item: &LineItem<A>) -> Meanwhile
     match item {
         LineItem::Command(command) => rule_of(command).conditions.meanwhile,
         LineItem::Fault(_) => Meanwhile::Waits,
+    }
+}
+
+/// Returns whether a line is PASS with the password of a user.
+pub(crate) fn is_right<A: Allocator + Clone>(
+    users: &Authorizer<A>,
+    name: &str,
+    item: &LineItem<A>,
+) -> bool
+    ensures right { result ≡ is_right users.now.users name.now (Some (item_of item.now)) }
+{
+    match item {
+        LineItem::Command(Command::Pass(text)) => users.check_password(name, text_or_none(text)),
+        _ => false,
     }
 }
 

@@ -1,9 +1,10 @@
 //! A session, and its held lines.
 
-ghost use Rattle.std.specs.Prelude.{◌≡◌, [], ◌∷◌, ◌++◌, IfOk, OnErr};
+ghost use Rattle.std.specs.Prelude.{◌≡◌, [], ◌∷◌, ◌++◌, IfOk, OnErr, option_map};
+ghost use Rattle.session_core.specs.Entering.{entering, is_right};
 ghost use Rattle.session_table.specs.declared.inputs.Input.TheVariants.{Held, Line};
 
-use crate::rules::{is_pass, meanwhile_of};
+use crate::rules::{is_pass, is_right, meanwhile_of};
 use crate::served::serve;
 use authorizer::Authorizer;
 use ftp_wire::LineItem;
@@ -40,7 +41,7 @@ impl<A: Allocator + Clone> Session<A> {
     ghost use Rattle.session_table.specs.Plans.{Stops};
     ghost use Rattle.session_table.specs.Plans.Plan.{Then};
     ghost use Rattle.session_table.specs.StateRows.{greeting};
-    ghost use Rattle.session_table.specs.Steps.{IsTaken, SessionStep, SessionStops, Took, asks_floors, is_due};
+    ghost use Rattle.session_table.specs.Steps.{IsTaken, SessionStep, SessionStops, Took, asks_floors, in_its_turn, is_due};
     ghost use Rattle.session_table.specs.Table.{closed_at, gives_up, holds, idle, meanwhile, ready_at};
     ghost use Rattle.session_table.specs.Views.{counts_lines, fresh, is_closed, is_inside};
 
@@ -102,6 +103,42 @@ impl<A: Allocator + Clone> Session<A> {
             },
             _ => false,
         }
+    }
+
+    // The line whose turn it is at an input: a new one if no line waits, otherwise the first of those that wait.
+    fn in_turn<'s, K>(&'s self, input: &'s Input<A, K>) -> Option<&'s LineItem<A>>
+        ensures turn { option_map (λ item. item_of item.now) result
+            ≡ in_its_turn input.now self.now.held }
+    {
+        match input {
+            Input::Line(item) if self.held.is_empty() => Some(item),
+            Input::Held => self.held.first(),
+            _ => None,
+        }
+    }
+
+    // Returns whether the line of an input is PASS in its turn with the password of the user who was named.
+    fn is_right<K>(&self, users: &Authorizer<A>, input: &Input<A, K>) -> bool
+        ensures right { result ≡ is_right users.now.users self.now.view.name
+            (in_its_turn input.now self.now.held) }
+    {
+        match self.in_turn(input) {
+            Some(item) => is_right(users, self.state.name(), item),
+            None => false,
+        }
+    }
+
+    /// The name of the user for whom the step of this input asks for admission: the one who was named, if it is PASS in
+    /// its turn with the right password. None for any other input. So a host can decline a login before it is made.
+    pub fn entering<K>(&self, users: &Authorizer<A>, input: &Input<A, K>) -> Option<&str>
+        ensures entering { option_map (λ name. name.now) result
+            ≡ entering users.now.users self.now.view self.now.held input.now }
+    {
+        let serves = self.is_open() && !self.state.is_busy();
+        if serves && self.state.stage() == Stage::Named && self.is_right(users, input) {
+            return Some(self.state.name());
+        }
+        None
     }
 
     fn nothing<R: Drop, K: Drop>(&self) -> RowResult<A, R, K>

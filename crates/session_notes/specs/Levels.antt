@@ -2,14 +2,14 @@
 use Rattle.log.specs.declared.level.Level.{Level}
 use Rattle.log.specs.declared.level.Level.TheVariants.{Warn, Info}
 use Rattle.server_house.specs.declared.cause.EndCause.{EndCause}
-use Rattle.server_house.specs.declared.cause.EndCause.TheVariants.{Aborted, NothingPrepared, NoClient, NotConnected, NoMemory, File, Connection, ControlLost, ServerEnds}
+use Rattle.server_house.specs.declared.cause.EndCause.TheVariants.{Aborted, NothingPrepared, NoClient, NotConnected, NoMemory, File, Connection, ControlLost, ServerEnds, SessionEnded}
 use Rattle.server_house.specs.declared.cause.EndCause.TheVariants as ended
 use Rattle.server_house.specs.declared.server_hooks.NotServed.{NotServed}
 use Rattle.server_house.specs.declared.server_hooks.NotServed.TheVariants.{NotAdmitted, NoThread, Ending}
 use Rattle.server_house.specs.declared.server_hooks.ServerEvent.{ServerEvent}
 use Rattle.server_house.specs.declared.server_hooks.ServerEvent.TheVariants.{NotBound, NotAccepted, FewDescriptors, Drains, DrainTimedOut, Waits, Misplaced}
 use Rattle.server_house.specs.declared.server_hooks.SessionEvent.{SessionEvent}
-use Rattle.server_house.specs.declared.server_hooks.SessionEvent.TheVariants.{Refused, NoPort, TimedOut}
+use Rattle.server_house.specs.declared.server_hooks.SessionEvent.TheVariants.{Refused, NoPort, TimedOut, Ended}
 use Rattle.session_notes.specs.declared.words.Noted.{Noted}
 use Rattle.session_notes.specs.declared.words.Noted.TheVariants.{Connect, Disconnect, Login, LoginFailed, Logout}
 
@@ -32,11 +32,13 @@ level_of_cause ended.Refused = Warn
 level_of_cause (Connection error) = Info
 level_of_cause ControlLost = Info
 level_of_cause ServerEnds = Info
+level_of_cause SessionEnded = Info
 
 abbrev pub level_of_session : SessionEvent → Level
 level_of_session (Refused why) = Warn
 level_of_session (NoPort error) = Warn
 level_of_session (TimedOut why) = Info
+level_of_session Ended = Info
 
 abbrev pub level_of_refusal : NotServed → Level
 level_of_refusal (NotAdmitted why) = Warn

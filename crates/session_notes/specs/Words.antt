@@ -6,7 +6,7 @@ use Rattle.std.specs.Net.Text.{ipv4_text}
 use Rattle.std.specs.declared.alloc.Global.{Global}
 use Rattle.passive_ports.specs.declared.fault.AdmitFault.TheVariants.{TooMany, TooManyOfAddress, Memory}
 use Rattle.server_house.specs.declared.cause.EndCause.{EndCause}
-use Rattle.server_house.specs.declared.cause.EndCause.TheVariants.{Aborted, NothingPrepared, NoClient, NotConnected, NoMemory, File, Connection, ControlLost, ServerEnds}
+use Rattle.server_house.specs.declared.cause.EndCause.TheVariants.{Aborted, NothingPrepared, NoClient, NotConnected, NoMemory, File, Connection, ControlLost, ServerEnds, SessionEnded}
 use Rattle.server_house.specs.declared.cause.EndCause.TheVariants as ended
 use Rattle.server_house.specs.declared.server_hooks.ClientSession.{ClientSession}
 use Rattle.server_house.specs.declared.server_hooks.NotServed.{NotServed}
@@ -14,8 +14,8 @@ use Rattle.server_house.specs.declared.server_hooks.NotServed.TheVariants.{NotAd
 use Rattle.server_house.specs.declared.server_hooks.ServerEvent.{ServerEvent}
 use Rattle.server_house.specs.declared.server_hooks.ServerEvent.TheVariants.{NotBound, NotAccepted, FewDescriptors, Drains, DrainTimedOut, Waits, Misplaced}
 use Rattle.server_house.specs.declared.server_hooks.SessionEvent.{SessionEvent}
-use Rattle.server_house.specs.declared.server_hooks.SessionEvent.TheVariants.{Refused, NoPort, TimedOut}
-use Rattle.server_house.specs.declared.server_hooks.SessionRefusal.TheVariants.{TooManyLogins, NoGuarantee, TooManyHeldLines}
+use Rattle.server_house.specs.declared.server_hooks.SessionEvent.TheVariants.{Refused, NoPort, TimedOut, Ended}
+use Rattle.server_house.specs.declared.server_hooks.SessionRefusal.TheVariants.{TooManyLogins, NoGuarantee, TooManyHeldLines, TooManySessions}
 use Rattle.session_table.specs.declared.actions.HookCall.{HookCall}
 use Rattle.session_table.specs.declared.actions.HookCall.TheVariants as hook
 use Rattle.client_patience.specs.declared.waits.TimeOut.TheVariants as time
@@ -51,9 +51,9 @@ note_of (hook.LoginFailed name) = Some (LoginFailed, Some name)
 note_of (hook.Logout name) = Some (Logout, Some name)
 note_of _ = None
 
--- the address of the client, and the number of the connection
+-- the address of the client, and the number of the session
 abbrev pub head_text : ClientSession → Option (List ℕ)
-head_text session = Some (ipv4_text session.peer ++ codes " #" ++ decimal session.number)
+head_text session = Some (ipv4_text session.peer ++ codes " #" ++ decimal session.serial)
 
 abbrev pub refusal_words : NotServed → List ℕ
 refusal_words (NotAdmitted TooMany) = codes "too many connections"
@@ -73,14 +73,17 @@ cause_words ended.Refused = codes "the store refused it at its end"
 cause_words (Connection error) = codes "the data connection failed"
 cause_words ControlLost = codes "the control connection was lost"
 cause_words ServerEnds = codes "the server ends"
+cause_words SessionEnded = codes "the administrator ended the session"
 
 abbrev pub session_words : SessionEvent → List ℕ
 session_words (Refused TooManyLogins) = codes "refused: too many login attempts"
 session_words (Refused NoGuarantee) = codes "refused: the guaranteed rate is not available"
 session_words (Refused TooManyHeldLines) = codes "refused: too many held lines"
+session_words (Refused TooManySessions) = codes "refused: too many sessions of this user"
 session_words (NoPort error) = codes "no passive port"
 session_words (TimedOut time.Login) = codes "timed out without a login"
 session_words (TimedOut time.Idle) = codes "timed out without a sign of life"
+session_words Ended = codes "ended by the administrator"
 
 abbrev pub server_words : ServerEvent → List ℕ
 server_words (NotBound address port error) = codes "cannot listen on"

@@ -34,7 +34,7 @@ pub(crate) fn level_of_session(event: SessionEvent) -> Level
 {
     match event {
         SessionEvent::Refused(_) | SessionEvent::NoPort(_) => Level::Warn,
-        SessionEvent::TimedOut(_) => Level::Info,
+        SessionEvent::TimedOut(_) | SessionEvent::Ended => Level::Info,
     }
 }
 

@@ -11,8 +11,8 @@ use crate::words::{CauseText, ServerText, SessionHead, SessionText, note_of, ref
 use line_queue::LogForm;
 use log::{Level, Log, log};
 use server_house::{
-    BegunTransfer, ClientSession, NotServed, ServerEvent, ServerHooks, ServerLook, SessionEvent,
-    StoreNote, TransferRecord,
+    BegunTransfer, ClientSession, NotEnded, NotServed, ServerEvent, ServerHooks, ServerLook,
+    SessionEvent, StoreNote, TransferRecord,
 };
 use session_table::HookCall;
 use std::alloc::Global;
@@ -99,6 +99,19 @@ impl<L: Log + Clock + Drop, T: TransferLog + Drop> ServerHooks for Notes<L, T> {
             None => log!(self.log; target: "", Level::Info, "{stamp}configuration reloaded"),
             Some(why) => {
                 log!(self.log; target: "", Level::Warn, "{stamp}configuration not reloaded: {why}");
+            }
+        }
+    }
+
+    fn on_not_ended(&mut self, why: NotEnded<'_>) {
+        let stamp = self.stamp();
+        match why {
+            NotEnded::NoSession(asked) => {
+                log!(self.log; target: "", Level::Warn, "{stamp}no session {asked:?} to end");
+            }
+            NotEnded::Unread(reason) => {
+                let why = reason.unwrap_or("out of memory");
+                log!(self.log; target: "", Level::Warn, "{stamp}no session ended: {why}");
             }
         }
     }

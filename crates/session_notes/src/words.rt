@@ -71,7 +71,7 @@ pub(crate) fn note_of(call: &HookCall<Global>) -> Option<NoteText<'_>>
     Some(NoteText { event, name })
 }
 
-/// The session that a note is about: the address of the client, and the number of the connection.
+/// The session that a note is about: the address of the client, and the number of the session.
 #[derive(Clone, Copy)]
 pub(crate) struct SessionHead(pub ClientSession);
 
@@ -82,8 +82,8 @@ impl fmt::Display for SessionHead {
 
     fn fmt<W: fmt::Write>(&self, f: &mut fmt::Formatter<W>) -> fmt::Result {
         let peer = Ipv4Addr::from(self.0.peer);
-        let number = self.0.number;
-        write!(f, "{peer} #{number}")
+        let serial = self.0.serial;
+        write!(f, "{peer} #{serial}")
     }
 }
 
@@ -117,6 +117,7 @@ fn cause_words(cause: EndCause) -> &'static str
         EndCause::Connection(_) => "the data connection failed",
         EndCause::ControlLost => "the control connection was lost",
         EndCause::ServerEnds => "the server ends",
+        EndCause::SessionEnded => "the administrator ended the session",
     }
 }
 
@@ -162,9 +163,13 @@ fn session_words(event: SessionEvent) -> &'static str
             "refused: the guaranteed rate is not available"
         }
         SessionEvent::Refused(SessionRefusal::TooManyHeldLines) => "refused: too many held lines",
+        SessionEvent::Refused(SessionRefusal::TooManySessions) => {
+            "refused: too many sessions of this user"
+        }
         SessionEvent::NoPort(_) => "no passive port",
         SessionEvent::TimedOut(TimeOut::Login) => "timed out without a login",
         SessionEvent::TimedOut(TimeOut::Idle) => "timed out without a sign of life",
+        SessionEvent::Ended => "ended by the administrator",
     }
 }
 
@@ -177,7 +182,9 @@ impl fmt::Display for SessionText {
         let words = session_words(self.0);
         match self.0 {
             SessionEvent::NoPort(error) => write!(f, "{words}: {error}"),
-            SessionEvent::Refused(_) | SessionEvent::TimedOut(_) => f.write_str(words),
+            SessionEvent::Refused(_) | SessionEvent::TimedOut(_) | SessionEvent::Ended => {
+                f.write_str(words)
+            }
         }
     }
 }

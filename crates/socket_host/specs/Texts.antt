@@ -32,11 +32,14 @@ abbrev pub time_out_reply : TimeOut → List ℕ
 time_out_reply Login = codes "421 Login timed out" ++ 13 ∷ 10 ∷ []
 time_out_reply Idle = codes "421 Idle too long" ++ 13 ∷ 10 ∷ []
 
--- the last reply to a client whose session is to end otherwise: at once if the sessions end; if the
--- server drains, or the user is none any more, once nothing that it began is left to report
-abbrev pub last_reply : Bool → Bool → Bool → Bool → Option (List ℕ)
-last_reply ends drains is_removed is_busy =
+-- the last reply to a client whose session is to end otherwise: at once if the sessions end, or if
+-- the owner has ended this one; if the server drains, or the user is none any more, once nothing
+-- that it began is left to report
+abbrev pub last_reply : Bool → Bool → Bool → Bool → Bool → Option (List ℕ)
+last_reply ends drains is_ended is_removed is_busy =
     if ends || (drains && not is_busy) then Some (codes "421 Server is ending" ++ 13 ∷ 10 ∷ [])
+    else if is_ended
+    then Some (codes "421 Session ended by the administrator" ++ 13 ∷ 10 ∷ [])
     else if is_removed && not is_busy
     then Some (codes "421 User is not served any more" ++ 13 ∷ 10 ∷ [])
     else None

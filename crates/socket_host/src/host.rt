@@ -1,6 +1,6 @@
 //! The host of a control session.
 
-ghost use Rattle.std.specs.Prelude.{◌≡◌, ◌<◌, IfErr, IfNone, IfOk, IfSome, OnErr, [], false, length, option_map, string_bytes, true};
+ghost use Rattle.std.specs.Prelude.{◌≡◌, ◌<◌, IfErr, IfOk, IfSome, OnErr, [], length, option_map, string_bytes, true};
 ghost use Rattle.std.specs.declared.alloc.Global.{Global};
 ghost use Rattle.control_session.specs.Calls.{reads_within};
 ghost use Rattle.control_session.specs.Rows.{IsRow};
@@ -8,17 +8,19 @@ ghost use Rattle.control_session.specs.Turns.{StepRefused, Stepped};
 ghost use Rattle.control_session.specs.Sides.{back_in, given_of, is_line};
 ghost use Rattle.rate_floors.specs.Promises.{HasNoSessions};
 ghost use Rattle.session_core.specs.Events.{is_event};
-ghost use Rattle.session_table.specs.Steps.{asks_floors};
 ghost use Rattle.session_table.specs.Views.{is_closed};
-ghost use Rattle.socket_host.specs.Cuts.{cause_of_cut};
-ghost use Rattle.socket_host.specs.Records.{cause_with, ends_file, ends_listing, is_end, is_text, job_kind, path_of};
+ghost use Rattle.socket_host.specs.Records.{path_of};
 ghost use Rattle.socket_host.specs.Standing.{Follows};
-ghost use Rattle.socket_host.specs.Texts.{is_without_port, last_reply, time_out_reply};
 ghost use Rattle.socket_host.specs.Doing.{SocketDoes, Stays, kept_users};
 ghost use Rattle.socket_host.specs.Lending.{LentFor, RefusedFor};
 
 use crate::control::ControlSocket;
+use crate::judging::{
+    asks_floors, cause_of_cut, cause_with, ends_file, ends_listing, entrant, is_end, is_line,
+    is_text, is_without_port, kind_of,
+};
 use crate::keeping::PortWatch;
+use crate::last_replies::{CROWDED, last_reply, time_out_reply};
 use crate::moments::millis_since_1970;
 use crate::refusals::{is_refused, refusal_of};
 use crate::side::SocketSide;
@@ -27,7 +29,6 @@ use crate::waiting::{is_due, is_life, passed_limit};
 use client_patience::{TimeOut, Waits};
 use control_session::{Host, Leaving, NoStep, Piece, Session, close_by, end_by, step_by};
 use event_word::micros;
-use ftp_terms::DataType;
 use ftp_wire::HostPort;
 use lent_parts::PartsName;
 use line_rates::Limits;
@@ -35,80 +36,18 @@ use rate_floors::Floors;
 use recorded_store::{Recorder, StoreRecord};
 use server_house::{
     BegunTransfer, ClientSession, EndCause, HeldTerms, House, OwnRuns, ServerHooks, ServerRuntime,
-    SessionEvent, ShutdownStage, StoreNote, TransferKind, TransferRecord, copy_settings,
+    SessionEvent, SessionRefusal, ShutdownStage, StoreNote, TransferKind, TransferRecord,
+    copy_settings,
 };
-use session_table::{Action, End, HookCall, Input, Job, Settings, Text};
+use session_table::{Action, HookCall, Input, Job, Settings, Text};
 use std::alloc::{AllocError, Global};
 use std::time::Duration;
 use std::{io, thread};
 use virtual_path::VPath;
 use virtual_tree::Store;
 
-/// The reply to a client whose session the server ends.
-const ENDING: &[u8] = b"421 Server is ending\r\n";
-
-/// The reply to a client whose user is none any more.
-const REMOVED: &[u8] = b"421 User is not served any more\r\n";
-
-// The last reply to a client, if its session is to end now: at once if the sessions end, and if the server drains or the
-// user is none any more, once nothing that it began is left to report.
-fn last_reply(ends: bool, drains: bool, is_removed: bool, is_busy: bool) -> Option<&'static [u8]>
-    ensures reply { option_map (λ r. r.now) result ≡ last_reply ends drains is_removed is_busy }
-{
-    if ends || drains && !is_busy {
-        return Some(ENDING);
-    }
-    if is_removed && !is_busy {
-        return Some(REMOVED);
-    }
-    None
-}
-
 /// Interval between two looks, of a session that delays a reply, whether the server ends, in milliseconds.
 const LOOK: u64 = 50;
-
-// The last reply to a client that has passed a limit of time.
-fn time_out_reply(why: TimeOut) -> &'static [u8]
-    ensures text { result.now ≡ time_out_reply why }
-{
-    match why {
-        TimeOut::Login => b"421 Login timed out\r\n",
-        TimeOut::Idle => b"421 Idle too long\r\n",
-    }
-}
-
-// The reason for which the transfer was cut whose end is the last event of its session, if it was.
-fn cause_of_cut<K>(last: &Option<Input<Global, K>>, is_ending: bool) -> Option<EndCause>
-    ensures cause { result ≡ cause_of_cut last.now is_ending }
-{
-    match last {
-        Some(Input::TransferEnded { end: End::Done, .. }) => None,
-        Some(Input::TransferEnded { .. }) => Some(if is_ending {
-            EndCause::ServerEnds
-        } else {
-            EndCause::ControlLost
-        }),
-        _ => None,
-    }
-}
-
-// The reason for which a transfer did not come to its end, if the store refused its file at the end or did not.
-fn cause_with(cause: Option<EndCause>, is_refused: bool) -> Option<EndCause>
-    ensures cause { result ≡ cause_with cause is_refused }
-{
-    match cause {
-        Some(cause) => Some(cause),
-        None if is_refused => Some(EndCause::Refused),
-        None => None,
-    }
-}
-
-// Returns whether a passive port was asked for, and none could be had.
-fn is_without_port<K>(event: &Option<Input<Global, K>>) -> bool
-    ensures none { result ≡ is_without_port event.now }
-{
-    matches!(event, Some(Input::DataReady(None)))
-}
 
 /// Floors without rows, which need no memory.
 pub(crate) fn floors_of_nobody(alloc: Global) -> Option<Floors>
@@ -116,73 +55,6 @@ pub(crate) fn floors_of_nobody(alloc: Global) -> Option<Floors>
 {
     let limits = Limits::of(0, 0, 0, Vec::new(alloc), Vec::new(alloc)).ok()?;
     Floors::of(alloc, &limits).ok()
-}
-
-// Returns whether an input is a line, new or held.
-fn is_line<K>(input: &Option<Input<Global, K>>) -> bool
-    ensures line { IfSome input.now (λ input. result ≡ is_line (given_of input)) }
-{
-    matches!(input, Some(Input::Line(_)) | Some(Input::Held))
-}
-
-// Returns whether the step of an input needs the floors.
-fn asks_floors<K>(session: &Session<Global>, input: &Option<Input<Global, K>>) -> bool
-    ensures asks { IfSome input.now (λ input. result ≡ asks_floors session.now.held input) }
-    ensures none { IfNone input.now (result ≡ false) }
-{
-    match input {
-        Some(input) => session.asks_floors(input),
-        None => false,
-    }
-}
-
-// Returns whether a call reports the end of a file's transfer.
-fn ends_file(call: &HookCall<Global>) -> bool
-    ensures ends { result ≡ ends_file call.now }
-{
-    match call {
-        HookCall::FileSent(_) | HookCall::IncompleteFileSent(_) => true,
-        HookCall::FileReceived(_) | HookCall::IncompleteFileReceived(_) => true,
-        _ => false,
-    }
-}
-
-// Returns whether a transfer has the type of texts.
-fn is_text<R, K>(job: &Job<Global, R, K>) -> bool
-    ensures text { result ≡ is_text job.now }
-{
-    match job {
-        Job::Text(_) => true,
-        Job::SendFile(_, data_type) | Job::TakeFile(_, data_type) => *data_type == DataType::Ascii,
-    }
-}
-
-// The kind of a transfer.
-fn kind_of<R, K>(job: &Job<Global, R, K>) -> TransferKind
-    ensures kind { result ≡ job_kind job.now }
-{
-    match job {
-        Job::Text(_) => TransferKind::Listed,
-        Job::SendFile(_, _) => TransferKind::Sent,
-        Job::TakeFile(_, _) => TransferKind::Received,
-    }
-}
-
-// Returns whether an event is the end of a transfer.
-fn is_end<K>(event: &Option<Input<Global, K>>) -> bool
-    ensures end { result ≡ is_end event.now }
-{
-    matches!(event, Some(Input::TransferEnded { .. }))
-}
-
-// Returns whether an event is the end of a listing, if the last transfer was of this kind.
-fn ends_listing<K>(event: &Option<Input<Global, K>>, kind: TransferKind) -> bool
-    ensures ends { result ≡ ends_listing event.now kind }
-{
-    match (event, kind) {
-        (Some(Input::TransferEnded { .. }), TransferKind::Listed) => true,
-        _ => false,
-    }
 }
 
 // A transfer that was begun, at `since` in microseconds.
@@ -301,20 +173,87 @@ where
         self.house.ending.has_begun(ShutdownStage::Sessions)
     }
 
-    // Compares the terms in force, if they were exchanged. Without memory they are compared at the next call. The session
-    // keeps those that it has, if it is to.
-    fn compare_terms(&mut self, keeps: bool)
+    // Returns whether the owner of the server has ended this session.
+    fn is_ended(&self) -> bool {
+        self.house.is_to_end(self.own.number)
+    }
+
+    // The terms in force, if they were exchanged. Without memory they are had at the next call.
+    fn newer_terms(&self) -> Option<HeldTerms> {
+        let terms = &self.house.terms;
+        if !self.standing.is_behind(terms.exchanges()) {
+            return None;
+        }
+        terms.hold(self.rt).ok()
+    }
+
+    // Compares newer terms, if there are any. The session keeps those that it has, if it is to.
+    fn take_terms(&mut self, newer: Option<HeldTerms>, keeps: bool)
         ensures kept { keeps ≡ true → self.new.standing.held ≡ self.old.standing.held }
         ensures user { self.new.standing.user ≡ self.old.standing.user }
         ensures side { self.new.side ≡ self.old.side }
     {
-        let terms = &self.house.terms;
-        if self.standing.is_behind(terms.exchanges()) {
-            if let Ok(newest) = terms.hold(self.rt) {
-                self.standing.judge(&newest.terms().users);
-                self.standing.take(newest, keeps);
-            }
+        if let Some(newest) = newer {
+            self.standing.judge(&newest.terms().users);
+            self.standing.take(newest, keeps);
         }
+    }
+
+    // Compares the terms in force, if they were exchanged, and keeps those that it has.
+    fn compare_terms(&mut self)
+        ensures stays { Stays self.old.standing self.new.standing }
+        ensures side { self.new.side ≡ self.old.side }
+    {
+        let newer = self.newer_terms();
+        self.take_terms(newer, true);
+    }
+
+    // Leaves the place among the sessions of a user.
+    fn leave_place(&self) {
+        self.house.logins.lock(self.rt).leave(self.own.number);
+    }
+
+    // Leaves the place that was taken for a step with PASS, if nobody is logged in after it.
+    fn keep_place(&self, was_pass: bool, session: &Session<Global>) {
+        if was_pass && !session.is_inside() {
+            self.leave_place();
+        }
+    }
+
+    // Takes a place among the sessions of a user. Returns whether there is one.
+    fn takes_place(&self, user: u32) -> bool {
+        self.house.logins.lock(self.rt).enter(self.own.number, user)
+    }
+
+    // Ends the session in the place of a step that would log a user in, by newer terms if there are any, who is logged in as
+    // often as one user may be. The client is told. Otherwise the session has a place among those of the user.
+    fn declines(
+        &mut self,
+        session: &Session<Global>,
+        input: &Option<Input<Global, S::Sink>>,
+        newer: &Option<HeldTerms>,
+    ) -> bool
+        ensures line { IfSome input.now (λ input.
+            result ≡ true → is_line (given_of input) ≡ true) }
+        ensures standing { self.new.standing ≡ self.old.standing }
+        ensures side { self.new.side ≡ self.old.side }
+    {
+        if !is_line(input) {
+            return false;
+        }
+        let terms = match newer {
+            Some(newest) => newest.terms(),
+            None => self.standing.terms(),
+        };
+        let Some(user) = entrant(session, &terms.users, input) else {
+            return false;
+        };
+        if self.takes_place(user) {
+            return false;
+        }
+        self.report(SessionEvent::Refused(SessionRefusal::TooManySessions));
+        let _ = self.socket.write(CROWDED, &self.house.ending);
+        true
     }
 
     // The last reply to the client, if the session is to end now, other than for a limit of time.
@@ -324,16 +263,29 @@ where
         last_reply(
             self.is_ending(),
             drains,
+            self.is_ended(),
             self.standing.is_removed(),
             is_busy,
         )
     }
 
-    // Lets this many seconds pass, without a lock; ends early if the server ends.
+    // Writes the last reply to the client.
+    fn write_last(&mut self, reply: &[u8])
+        ensures standing { self.new.standing ≡ self.old.standing }
+        ensures side { self.new.side ≡ self.old.side }
+    {
+        if self.is_ended() {
+            self.report(SessionEvent::Ended);
+        }
+        let _ = self.socket.write(reply, &self.house.ending);
+    }
+
+    // Lets this many seconds pass, without a lock; ends early if the server ends, or its owner has ended the session.
     fn delay(&self, seconds: u32) {
         let since = micros(self.rt);
         for _ in self.rt.forever() {
-            if is_due(self.is_ending(), since, micros(self.rt), seconds) {
+            let ends = self.is_ending() || self.is_ended();
+            if is_due(ends, since, micros(self.rt), seconds) {
                 return;
             }
             thread::sleep(self.rt, Duration::from_millis(LOOK));
@@ -362,6 +314,7 @@ where
                 self.waits.log_in();
             }
             HookCall::Logout(_) => {
+                self.leave_place();
                 self.standing.log_out();
                 self.waits.log_out(micros(self.rt));
             }
@@ -566,14 +519,33 @@ where
         if !is_line(input) {
             return false;
         }
-        self.compare_terms(true);
+        self.compare_terms();
         match self.last_reply() {
             Some(reply) => {
-                let _ = self.socket.write(reply, &self.house.ending);
+                self.write_last(reply);
                 true
             }
             None => false,
         }
+    }
+
+    // Ends the session in the place of a step for a line, if it is to end now or the step would log in a user who is logged
+    // in as often as one user may be. The client is told.
+    fn is_over(
+        &mut self,
+        session: &Session<Global>,
+        input: &Option<Input<Global, S::Sink>>,
+        newer: &Option<HeldTerms>,
+    ) -> bool
+        ensures line { IfSome input.now (λ input.
+            result ≡ true → is_line (given_of input) ≡ true) }
+        ensures stays { Stays self.old.standing self.new.standing }
+        ensures side { self.new.side ≡ self.old.side }
+    {
+        if self.ends_instead(input) {
+            return true;
+        }
+        self.declines(session, input, newer)
     }
 
     // Tells the client that it has passed a limit of time.
@@ -665,11 +637,14 @@ where
         session: &mut Session<Global>,
         input: &mut Option<Input<Global, S::Sink>>,
     ) -> Result<Vec<Action<Global, S::Source, S::Sink>>, NoStep<Global, S::Sink>> {
-        if self.ends_instead(input) {
+        let newer = self.newer_terms();
+        if self.is_over(session, input, &newer) {
             return Err(NoStep::Over);
         }
-        self.compare_terms(session.is_inside());
+        let is_pass = asks_floors(session, input);
+        self.take_terms(newer, session.is_inside());
         let (made, record) = self.step_over(session, input);
+        self.keep_place(is_pass, session);
         self.follow_store(record, is_refused(&made));
         self.report_made(&made);
         made
@@ -715,9 +690,9 @@ where
     }
 
     fn read(&mut self, buffer: &mut [u8]) -> io::Result<Piece> {
-        self.compare_terms(true);
+        self.compare_terms();
         if let Some(reply) = self.last_reply() {
-            let _ = self.socket.write(reply, &self.house.ending);
+            self.write_last(reply);
             return Ok(Piece::AtEnd);
         }
         self.tend_port();
@@ -777,7 +752,7 @@ where
     fn settle(&mut self) -> Option<Input<Global, S::Sink>> {
         let last = self.side.settle();
         if is_end(&last) {
-            self.report_end(cause_of_cut(&last, self.is_ending()));
+            self.report_end(cause_of_cut(&last, self.is_ending(), self.is_ended()));
         }
         last
     }

@@ -13,7 +13,9 @@
 
 mod control;
 mod host;
+mod judging;
 mod keeping;
+mod last_replies;
 mod moments;
 mod ports;
 mod refusals;

@@ -238,5 +238,8 @@ where
     T: OwnRuns,
 {
     run_client(rt, house, runs, stream, own);
+    if let Some(sign) = house.signs.get(own.number) {
+        sign.leave();
+    }
     house.registry.lock(rt).leave(own.number);
 }

@@ -23,7 +23,7 @@ pub(crate) struct Standing {
 }
 
 // The number of a user; 0 for no user.
-fn number_of(users: &Authorizer, name: &str) -> u32
+pub(crate) fn number_of(users: &Authorizer, name: &str) -> u32
     ensures number { result ≡ number_of users.now.users name.now }
 {
     match users.number(name) {

@@ -67,7 +67,7 @@ group_in facts user = option_map string_bytes
 pub record IsRow (facts : StatusFacts) (lanes : List LaneLook) (t : KeptTransfer)
     (row : TransferStatus) : Type 0 where
   pub lane : Option LaneLook
-  pub is_lane : IsLaneOf lanes t.session lane
+  pub is_lane : IsLaneOf lanes t.connection lane
   pub session : row.session ≡ t.session
   pub user : string_bytes row.user ≡ string_bytes t.user
   pub group : option_map string_bytes row.group ≡ group_in facts t.number

@@ -25,8 +25,9 @@ pub struct StatusFacts {
 /// A transfer that a session has begun and that has not ended.
 #[derive(Drop)]
 pub struct KeptTransfer {
-    /// The number of the session.
+    /// The number of the session, and that of its connection.
     pub session: u64,
+    pub connection: u64,
     /// The user, and the number by which rounds identify them.
     pub user: String,
     pub number: u32,

@@ -8,8 +8,8 @@ use crate::facts::{Counts, KeptTransfer, StatusFacts};
 use crate::making::status_of;
 use crate::shown::shown_path;
 use server_house::{
-    BegunTransfer, ClientSession, NotServed, ServerEvent, ServerHooks, ServerLook, SessionEvent,
-    StoreNote, TransferRecord,
+    BegunTransfer, ClientSession, NotEnded, NotServed, ServerEvent, ServerHooks, ServerLook,
+    SessionEvent, StoreNote, TransferRecord,
 };
 use session_table::HookCall;
 use std::alloc::{AllocError, Global};
@@ -37,7 +37,8 @@ fn kept(
     transfer: &BegunTransfer<'_>,
 ) -> Result<KeptTransfer, AllocError> {
     Ok(KeptTransfer {
-        session: session.number as u64,
+        session: session.serial,
+        connection: session.number as u64,
         user: String::from_str(alloc, transfer.user)?,
         number: transfer.number,
         peer: session.peer,
@@ -116,7 +117,7 @@ impl<R: Wait + AllocGlobal, N> StatusKeeper<R, N> {
 
     // Keeps a transfer of a session. Without memory for it, it has no row.
     fn keep(&mut self, session: ClientSession, transfer: &BegunTransfer<'_>) {
-        self.forget(session.number as u64);
+        self.forget(session.serial);
         if let Ok(kept) = kept(self.rt.alloc(), session, transfer) {
             let place = count_before(&self.transfers, kept.session);
             let _ = self.transfers.insert(place, kept);
@@ -155,6 +156,10 @@ impl<R: Wait + AllocGlobal + Drop, N: ServerHooks> ServerHooks for StatusKeeper<
         self.within.on_reload(refused);
     }
 
+    fn on_not_ended(&mut self, why: NotEnded<'_>) {
+        self.within.on_not_ended(why);
+    }
+
     fn wants_sizes(&self) -> bool {
         self.cell.is_some()
     }
@@ -180,7 +185,7 @@ impl<R: Wait + AllocGlobal + Drop, N: ServerHooks> ServerHooks for StatusKeeper<
     fn on_transfer(&mut self, session: ClientSession, record: &TransferRecord<'_>) {
         self.counts.ended = self.counts.ended.saturating_add(1);
         self.counts.ended_moved = self.counts.ended_moved.saturating_add(record.octets);
-        self.forget(session.number as u64);
+        self.forget(session.serial);
         self.within.on_transfer(session, record);
     }
 

@@ -109,7 +109,7 @@ fn row_of(
 ) -> Result<TransferStatus, AllocError>
     ensures row { IfOk result (IsRow facts.now lanes.now transfer.now) }
 {
-    let lane = lane_of(lanes, transfer.session);
+    let lane = lane_of(lanes, transfer.connection);
     let way = way_of(transfer.kind);
     let (granted, moved, held) = match lane {
         // A lane asks and moves during a look, which may have seen a grant moved and not yet counted.

@@ -16,4 +16,6 @@ mod names;
 mod place;
 
 pub use line::{FileTransfer, transfer_line};
+pub use moment::day_name;
+pub use names::plain;
 pub use place::{FileNumbers, must_open};

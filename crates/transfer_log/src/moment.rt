@@ -11,7 +11,8 @@ use ftp_terms::LATEST;
 use jiff_core::civil::Date;
 use std::alloc::AllocError;
 
-fn day_name(number: u8) -> &'static str
+/// The name of a day of the week, from 0 for Monday.
+pub fn day_name(number: u8) -> &'static str
     requires day { number ≤ 6 }
     ensures name { result.now ≡ day_name number }
 {

@@ -29,7 +29,7 @@ fn is_format(character: char) -> bool
 }
 
 /// A character of a name; `_` in place of a blank, of a control character and of a format character.
-fn plain(character: char) -> char
+pub fn plain(character: char) -> char
     ensures plain { result ≡ plain character }
 {
     if character.is_whitespace() || character.is_control() || is_format(character) {

@@ -1,0 +1,44 @@
+//! The sessions of users, and those that are to end.
+
+use crate::expect::holds;
+use server_house::{Logins, SessionSign, asked_session};
+use std::process::Abort;
+
+#[test]
+fn a_user_has_two_sessions(rt: HostRuntime) {
+    let mut logins = Logins::new(rt.alloc(), 4, 2).expect(&rt, "memory");
+    holds(&rt, logins.enter(0, 5));
+    holds(&rt, logins.enter(1, 5));
+    holds(&rt, !logins.enter(2, 5));
+    holds(&rt, logins.enter(2, 6));
+    logins.leave(0);
+    holds(&rt, logins.enter(3, 5));
+    holds(&rt, !logins.enter(0, 5));
+}
+
+#[test]
+fn a_session_is_to_end(rt: HostRuntime) {
+    let sign = SessionSign::new();
+    holds(&rt, !sign.ask_end(0));
+    sign.arrive(17);
+    holds(&rt, !sign.ask_end(16));
+    holds(&rt, !sign.ask_end(18));
+    holds(&rt, !sign.is_to_end());
+    holds(&rt, sign.ask_end(17));
+    holds(&rt, sign.ask_end(17));
+    holds(&rt, sign.is_to_end());
+    sign.leave();
+    holds(&rt, !sign.is_to_end());
+    holds(&rt, !sign.ask_end(17));
+    sign.arrive(0);
+    holds(&rt, sign.ask_end(0) && sign.is_to_end());
+}
+
+#[test]
+fn a_session_is_named(rt: HostRuntime) {
+    holds(&rt, asked_session("17") == Some(17));
+    holds(&rt, asked_session("007") == Some(7));
+    holds(&rt, asked_session("+1").is_none());
+    holds(&rt, asked_session("").is_none());
+    holds(&rt, asked_session("4611686018427387904").is_none());
+}

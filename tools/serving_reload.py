@@ -59,12 +59,25 @@ def closed(pairs):
         client.close()
 
 
+def changes_noted(server):
+    """What the reloads so far have changed, as it was noted."""
+    return [line.split("configuration: ")[1] for line in server.all_noted().splitlines() if "[INFO ]" in line and "configuration: " in line]
+
+
 def a_rate_is_halved_and_a_user_added():
-    """Twelve downloads run on under half the rate, and the new user logs in."""
+    """Twelve downloads run on under half the rate, and the new user logs in. What the reload changes is noted, and the second time that it changes nothing more."""
     with served(stop=True) as server:
         pairs = begun(server, 12)
         moved_in(pairs, 1.5)
-        server.reloaded(text_of(server, RATE // 2, {**USERS, "carol": ""}))
+        text = text_of(server, RATE // 2, {**USERS, "carol": ""})
+        server.reloaded(text)
+        changed = changes_noted(server)
+        same(len(changed), 3, changed)
+        same(changed[0], "user carol is added", "the first change")
+        want(changed[1].startswith("octets a second "), changed)
+        same(changed[2].split(), ["server", "rate", str(RATE), str(RATE // 2)], "the rate")
+        server.reloaded(text)
+        same(changes_noted(server), changed, "the lines of changes")
         moved_in(pairs, 1)
         had = moved_in(pairs, 3)
         want(abs(had - 3 * RATE // 2) < 0.03 * 3 * RATE / 2 + 65_536, f"{had} octets in three seconds under {RATE // 2}")

@@ -26,14 +26,14 @@ pub(crate) struct NextConfig {
     pub octets: Vec<u8>,
 }
 
-/// What the server has taken.
+/// The configuration that the server has taken.
 #[derive(Drop)]
 pub(crate) struct TakenConfig {
     /// Number of the users that it has no longer.
     pub gone: u64,
     /// The facts that its status shows from now on; none without memory for them.
     pub facts: Option<StatusFacts>,
-    /// What it changes, in lines; none without memory for them.
+    /// Its changes, in lines; none without memory for them.
     pub changes: Option<String>,
 }
 

@@ -80,7 +80,7 @@ pub struct DeclinedCommand<'a> {
     pub reply: &'a str,
 }
 
-/// What came of a changed configuration.
+/// The outcome of a changed configuration.
 #[derive(Clone, Copy)]
 pub enum Reloaded<'a> {
     /// The server has it, with what that changes, in lines; none if that is not known.

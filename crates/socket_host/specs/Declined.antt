@@ -17,7 +17,7 @@ use Rattle.virtual_path.specs.declared.fault.PathFault.TheVariants as path
 use Rattle.virtual_tree.specs.declared.fault.StoreFault.{StoreFault}
 use Rattle.virtual_tree.specs.declared.fault.StoreFault.TheVariants as store
 
--- what the store refuses is a fault of its own
+-- the store has a fault of its own
 abbrev pub is_fault : StoreFault → Bool
 is_fault store.Full = true
 is_fault store.Device = true

@@ -211,7 +211,7 @@ where
 
     // Leaves the place among the sessions of a user.
     fn leave_place(&self) {
-        self.house.logins.lock(self.rt).leave(self.own.number);
+        self.house.logins.lock(self.rt).log_out(self.own.number);
     }
 
     // Leaves the place that was taken for a step with PASS, if nobody is logged in after it.
@@ -223,7 +223,7 @@ where
 
     // Takes a place among the sessions of a user. Returns whether there is one.
     fn takes_place(&self, user: u32) -> bool {
-        self.house.logins.lock(self.rt).enter(self.own.number, user)
+        self.house.logins.lock(self.rt).log_in(self.own.number, user)
     }
 
     // Ends the session in the place of a step that would log a user in, by newer terms if there are any, who is logged in as

@@ -48,7 +48,7 @@ impl Logins {
         ensures none { IfOk result (λ logins. logins.users.items ≡ replicate connections None) }
     {
         let mut users = Vec::with_capacity(alloc, connections)?;
-        for _ in 0..connections {
+        for i in 0..connections {
             users.push(None)?;
         }
         Ok(Logins { most, users })

@@ -1,6 +1,6 @@
 //! The client whom a session's passive ports are for.
 
-ghost use Rattle.std.specs.Prelude.{◌≡◌, IfSome, None, Some};
+ghost use Rattle.std.specs.Prelude.{◌≡◌, IfSome, None, Some, option_map};
 
 use crate::ports::early_of;
 use server_house::{PeerConnection, accept_from, empty_queue};
@@ -13,7 +13,8 @@ use std::net::TcpListener;
 pub(crate) struct AwaitedClient {
     wanted: Option<[u8; 4]>,
     early: Option<PeerConnection>,
-    ghost own: { IfSome early (λ connection. connection.peer ≡ wanted) },
+    ghost own: { option_map (λ connection. connection.peer) early
+        ≡ option_map (λ connection. wanted) early },
 }
 
 impl AwaitedClient {

@@ -25,7 +25,7 @@ mod session_limit;
 mod start;
 mod watching;
 
-pub use command_line::{Patience, ServeFiles};
+pub use command_line::{Patience, ServeFiles, UsageWords, read_usage_words};
 pub use config_report::{Lookout, Sight};
 pub use ending::{FtpdErrorText, FtpdExit};
 pub use paths::{

@@ -1,2 +1,6 @@
-pub mod Seen
 pub mod Added
+pub mod Cut
+pub mod Depths
+pub mod Looked
+pub mod Seen
+pub mod Taken

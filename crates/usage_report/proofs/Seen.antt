@@ -1,15 +1,14 @@
 -- What is seen, with one more line.
 use Rattle.std.proofs.Common.{◌≡◌, ◌∙◌, ◌+◌, ℕ, Bool, true, false, cond, List, [], ◌∷◌, ◌++◌, map, append_assoc, Option, Some, None, Result, Ok, Err, OnOk, length, filter, refl, sym, ap, subst, rules, arith}
 use Rattle.std.specs.BTreeMap.{get_by_text}
-use Rattle.std.specs.List.{count_by, filter_map}
+use Rattle.std.specs.List.{filter_map}
 use Rattle.std.proofs.lemmas.List.{append-nil}
 use Rattle.std.proofs.lemmas.List.Elements.{filter-append, filter_map-append}
-use Rattle.std.proofs.lemmas.List.Sums.{sum_by-append}
 use Rattle.log_lines.specs.Lines.{Line}
 use Rattle.log_lines.specs.Words.{Octets}
 use Rattle.log_lines.specs.declared.moment.LogDay.{LogDay}
 use Rattle.usage_report.specs.Adding.{plus, row_of, tally_of}
-use Rattle.usage_report.specs.Usages.{HasSeen, IsCounted, IsUsageOf, counted, is_on, is_unread, with_key}
+use Rattle.usage_report.specs.Usages.{HasSeen, IsCounted, IsUsageOf, counted, is_on, with_key}
 use Rattle.usage_report.specs.declared.key.UsageKey.{UsageKey}
 use Rattle.usage_report.specs.declared.adding.Sums.{Sums}
 use Rattle.usage_report.specs.declared.usage.Usage.{Usage}
@@ -36,14 +35,6 @@ counted_off day seen line off =
 counted_none : (day : Option LogDay) (seen : List (Option Line)) → counted day (seen ++ None ∷ []) ≡ counted day seen
 counted_none day seen = counted_more day seen (None ∷ []) ∙ append-nil (counted day seen)
 
-unread_some : (seen : List (Option Line)) (line : Line) → count_by is_unread (seen ++ Some line ∷ []) ≡ count_by is_unread seen
-unread_some seen line =
-    let more = sum_by-append (λ (l : Option Line). cond (is_unread l) 1 0) seen (Some line ∷ []) in
-    more ∙ omega arith
-
-unread_none : (seen : List (Option Line)) → count_by is_unread (seen ++ None ∷ []) ≡ count_by is_unread seen + 1
-unread_none seen = sum_by-append (λ (l : Option Line). cond (is_unread l) 1 0) seen (None ∷ [])
-
 -- three texts, one after another
 pub three : (old one more all a b c : List ℕ) → one ≡ old ++ a → more ≡ one ++ b → all ≡ more ++ c → all ≡ old ++ (a ++ b ++ c)
 three old one more all a b c first second third =
@@ -57,19 +48,17 @@ on_ok (Err e) P Q f p = p
 
 -- sums that are the same of the same transfers
 kept : (usage : Usage) (seen after : List (Option Line)) → IsUsageOf usage seen
-    → counted usage.day after ≡ counted usage.day seen → count_by is_unread after ≡ count_by is_unread seen
-    → IsUsageOf usage after
-kept usage seen after was same unread = record {
+    → counted usage.day after ≡ counted usage.day seen → IsUsageOf usage after
+kept usage seen after was same = record {
   rows = λ key. was.rows key ∙ ap (λ (lines : List Line). row_of (with_key usage.by key lines)) (sym same);
   total = was.total ∙ ap tally_of (sym same);
-  unread = was.unread ∙ sym unread;
 }
 
 pub seen_off : (usage : Usage) (line : Line) → is_on usage.day line ≡ false → HasSeen usage usage (Some line ∷ [])
 seen_off usage line off = record {
   by = refl;
   day = refl;
-  sums = λ seen was. kept usage seen (seen ++ Some line ∷ []) was (counted_off usage.day seen line off) (unread_some seen line);
+  sums = λ seen was. kept usage seen (seen ++ Some line ∷ []) was (counted_off usage.day seen line off);
 }
 
 pub seen_on : (before after : Usage) (line : Line) → is_on before.day line ≡ true → IsCounted before after line → HasSeen before after (Some line ∷ [])
@@ -87,28 +76,15 @@ seen_on before after line on is = record {
         total =
             subst (λ (d : Option LogDay). after.total ≡ tally_of (counted d (seen ++ Some line ∷ []))) (sym is.day)
             (is.total ∙ ap (λ (t : Sums). plus t line) was.total ∙ sym (tally_more (counted before.day seen) line) ∙ ap tally_of (sym now));
-        unread = is.unread ∙ was.unread ∙ sym (unread_some seen line);
       };
 }
 
--- a line that is not of the form is counted apart
-pub seen_unread : (before after : Usage) → after.by ≡ before.by → after.day ≡ before.day → after.rows ≡ before.rows
-    → after.total ≡ before.total → after.unread ≡ before.unread + 1 → HasSeen before after (None ∷ [])
-seen_unread before after by day rows total unread = record {
-  by = by;
-  day = day;
-  sums = λ seen was.
-      let now = counted_none before.day seen in
-      record {
-        rows = λ key.
-            subst (λ (b : UsageKey). get_by_text after.rows key ≡ row_of (with_key b key (counted after.day (seen ++ None ∷ [])))) (sym by)
-            (subst (λ (d : Option LogDay). get_by_text after.rows key ≡ row_of (with_key before.by key (counted d (seen ++ None ∷ [])))) (sym day)
-            (ap (λ m. get_by_text m key) rows ∙ was.rows key ∙ ap (λ (lines : List Line). row_of (with_key before.by key lines)) (sym now)));
-        total =
-            subst (λ (d : Option LogDay). after.total ≡ tally_of (counted d (seen ++ None ∷ []))) (sym day)
-            (total ∙ was.total ∙ ap tally_of (sym now));
-        unread = unread ∙ ap (λ (n : ℕ). n + 1) was.unread ∙ sym (unread_none seen);
-      };
+-- a line that is not of the form adds nothing
+pub seen_unread : (usage : Usage) → HasSeen usage usage (None ∷ [])
+seen_unread usage = record {
+  by = refl;
+  day = refl;
+  sums = λ seen was. kept usage seen (seen ++ None ∷ []) was (counted_none usage.day seen);
 }
 
 pub seen_nothing : (usage : Usage) → HasSeen usage usage []

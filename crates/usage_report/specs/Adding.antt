@@ -1,5 +1,5 @@
 -- Sums over transfers.
-use Rattle.std.specs.Prelude.{ℕ, ◌+◌, ◌^◌, Bool, ◌&&◌, nat_lt, List, [], ◌∷◌, length, Option, Some, None}
+use Rattle.std.specs.Prelude.{ℕ, ◌+◌, ◌/◌, ◌^◌, Bool, ◌&&◌, nat_eq, nat_lt, if◌then◌else◌, List, [], ◌∷◌, length, Option, Some, None}
 use Rattle.std.specs.List.{sum_by}
 use Rattle.log_lines.specs.Lines.{Line}
 use Rattle.usage_report.specs.declared.adding.Sums.{Sums}
@@ -34,3 +34,8 @@ tally_of lines = record {
 abbrev pub row_of : List Line → Option Sums
 row_of [] = None
 row_of (line ∷ lines) = Some (tally_of (line ∷ lines))
+
+-- the octets a second of transfers, rounded down, if they took a second at least
+abbrev pub octets_a_second : Sums → Option ℕ
+octets_a_second tally =
+    if nat_eq tally.seconds 0 then None else Some (tally.octets / tally.seconds)

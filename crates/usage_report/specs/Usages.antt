@@ -2,7 +2,7 @@
 use Rattle.std.specs.Prelude.{◌≡◌, ℕ, ◌-◌, ◌==◌, ◌&&◌, Bool, true, false, bytes_eq, nat_eq, if◌then◌else◌, List, [], ◌∷◌, ◌++◌, filter, length, slice_index, take, Option, Some, None, String}
 use Rattle.std.specs.BTreeMap.{BTreeMap, get_by_text}
 use Rattle.std.specs.declared.alloc.Global.{Global}
-use Rattle.std.specs.List.{count_by, filter_map}
+use Rattle.std.specs.List.{filter_map}
 use Rattle.std.specs.Option.{unwrap_or}
 use Rattle.log_lines.specs.Lines.{Line}
 use Rattle.log_lines.specs.Words.{Octets, parts}
@@ -43,17 +43,12 @@ counted day seen = filter (is_on day) (filter_map (λ line. line) seen)
 abbrev pub with_key : UsageKey → Octets → List Line → List Line
 with_key by key lines = filter (λ line. bytes_eq (key_of by line) key) lines
 
-abbrev pub is_unread : Option Line → Bool
-is_unread None = true
-is_unread (Some line) = false
-
 -- the sums are those of the lines seen: of each key, those of exactly the transfers with that key
--- that ended on the day; in all; and the number of the lines that are not of the form
+-- that ended on the day; and in all
 pub record IsUsageOf (usage : Usage) (seen : List (Option Line)) : Type 0 where
   pub rows : (key : Octets)
       → get_by_text usage.rows key ≡ row_of (with_key usage.by key (counted usage.day seen))
   pub total : usage.total ≡ tally_of (counted usage.day seen)
-  pub unread : usage.unread ≡ count_by is_unread seen
 
 -- more lines are seen than before, by the same key and of the same day
 pub record HasSeen (before after : Usage) (more : List (Option Line)) : Type 0 where
@@ -73,6 +68,5 @@ IsRowAdded before after key line =
 pub record IsCounted (before after : Usage) (line : Line) : Type 0 where
   pub by : after.by ≡ before.by
   pub day : after.day ≡ before.day
-  pub unread : after.unread ≡ before.unread
   pub total : after.total ≡ plus before.total line
   pub rows : IsRowAdded before.rows after.rows (key_of before.by line) line

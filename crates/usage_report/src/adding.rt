@@ -2,7 +2,7 @@
 
 ghost use Rattle.std.specs.Prelude.{◌≡◌, MatchOption, false, true};
 ghost use Rattle.log_lines.specs.Lines.{line_view};
-ghost use Rattle.usage_report.specs.Adding.{fits, plus};
+ghost use Rattle.usage_report.specs.Adding.{fits, octets_a_second, plus};
 
 use log_lines::LogLine;
 
@@ -36,4 +36,11 @@ pub(crate) fn plus(sums: Sums, line: &LogLine<'_>) -> Option<Sums>
         octets: sums.octets.checked_add(line.octets)?,
         seconds: sums.seconds.checked_add(line.seconds)?,
     })
+}
+
+/// The octets a second of transfers, rounded down, if they took a second at least.
+pub(crate) fn octets_a_second(sums: Sums) -> Option<u64>
+    ensures rate { result ≡ octets_a_second sums }
+{
+    sums.octets.checked_div(sums.seconds)
 }

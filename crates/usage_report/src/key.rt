@@ -34,7 +34,7 @@ fn push_four(text: &mut String, n: u16) -> Result<(), AllocError>
 }
 
 // `YYYY-MM-DD`
-fn push_day(text: &mut String, day: LogDay) -> Result<(), AllocError>
+pub(crate) fn push_day(text: &mut String, day: LogDay) -> Result<(), AllocError>
     ensures appended { OnOk result
         (string_bytes text.new ≡ string_bytes text.old ++ day_text day) }
 {

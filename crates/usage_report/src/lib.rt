@@ -1,34 +1,32 @@
-//! The transfers of a transfer log, added up: their number, octets and seconds, by user, file, hour or address.
+//! The transfers of transfer logs, added up: their number, octets and seconds, by user, file, hour or address.
 //!
 //! ```text
-//! let day = read_day("2026-11-26");
-//! let mut usage = Usage::new(rt.alloc(), UsageKey::User, day);
-//! usage.take_text(rt.alloc(), NEW).expect(&rt, "sums");
-//! usage.take_text(rt.alloc(), CUT).expect(&rt, "sums");
-//! let ann = Sums {
-//!     transfers: 2,
-//!     octets: 106,
-//!     seconds: 6,
-//! };
-//! holds(&rt, row(&usage, "ann") == Some(ann));
-//! holds(
-//!     &rt,
-//!     usage.total
-//!         == Sums {
-//!             transfers: 3,
-//!             octets: 116,
-//!             seconds: 7,
-//!         },
-//! );
-//! holds(&rt, usage.unread == 2);
 //! ```
 #![tactic(auto)]
 
 mod adding;
+mod ask;
+mod csv;
+mod fault;
 mod key;
+mod log;
+mod look;
+mod rank;
+mod refusal;
+mod report;
+mod reporting;
+mod source;
+mod table;
 mod usage;
+mod values;
 
 pub use adding::Sums;
+pub use ask::{AskFault, AskWords, FIRST, MOST_FIRST, UsageAsk, UsageForm, asked, key_name};
+pub use fault::UsageFault;
 pub use key::UsageKey;
 pub use log_lines::{LogDay, LogLine, LogMoment, read_day, read_line};
-pub use usage::{Usage, UsageFault};
+pub use look::LogLook;
+pub use rank::{UsageRow, ranked};
+pub use reporting::usage_text;
+pub use source::{LogSource, NoUsage};
+pub use usage::Usage;

@@ -1,33 +1,17 @@
 //! The sums over the lines of logs.
 
-ghost use Rattle.std.specs.Prelude.{◌≡◌, ◌∷◌, [], None, OnOk, Some, map, string_bytes, unwrap_or};
+ghost use Rattle.std.specs.Prelude.{◌≡◌, ◌∷◌, [], IfOk, None, OnOk, Some, is_some, string_bytes, unwrap_or};
 ghost use Rattle.std.specs.BTreeMap.{get_by_text};
 ghost use Rattle.log_lines.specs.Lines.{line_of, line_view};
-ghost use Rattle.log_lines.specs.Words.{parts};
 ghost use Rattle.usage_report.specs.Adding.{no_tally};
-ghost use Rattle.usage_report.specs.Usages.{HasSeen, IsCounted, IsRowAdded, IsUsageOf, is_on_day, lines_in, without_end};
+ghost use Rattle.usage_report.specs.Usages.{HasSeen, IsCounted, IsRowAdded, IsUsageOf, is_on_day};
 
 use crate::adding::{Sums, plus};
+use crate::fault::UsageFault;
 use crate::key::{UsageKey, key_of};
 use log_lines::{LogDay, LogLine, read_line};
-use std::alloc::{AllocError, Global};
+use std::alloc::Global;
 use std::collections::BTreeMap;
-use thiserror::Error;
-
-/// The reason for which sums cannot be made.
-#[derive(Clone, Copy, Debug, PartialEq, Eq, Drop, Error)]
-pub enum UsageFault {
-    #[error("a sum is not below 2^64")]
-    TooMuch,
-    #[error("memory ran out")]
-    Memory,
-}
-
-impl From<AllocError> for UsageFault {
-    fn from(_error: AllocError) -> UsageFault {
-        UsageFault::Memory
-    }
-}
 
 /// Sums over transfers, by a key.
 #[derive(Drop)]
@@ -39,8 +23,6 @@ pub struct Usage {
     pub rows: BTreeMap<String, Sums>,
     /// The sums of all.
     pub total: Sums,
-    /// The number of lines that are not of the form of a transfer log.
-    pub unread: u64,
 }
 
 // The day is the one that is stated, if one is.
@@ -50,15 +32,6 @@ fn is_on(day: Option<LogDay>, ended: LogDay) -> bool
     match day {
         Some(day) => day == ended,
         None => true,
-    }
-}
-
-fn without_end(text: &[u8]) -> &[u8]
-    ensures text { result.now ≡ without_end text.now }
-{
-    match text {
-        [front @ .., b'\n'] => front,
-        _ => text,
     }
 }
 
@@ -100,7 +73,6 @@ impl Usage {
             day,
             rows: BTreeMap::new(alloc),
             total: Sums::NONE,
-            unread: 0,
         }
     }
 
@@ -128,42 +100,17 @@ impl Usage {
         }
     }
 
-    fn take_unread(&mut self) -> Result<(), UsageFault>
-        ensures seen { OnOk result (HasSeen self.old self.new (None ∷ [])) }
-    {
-        let Some(unread) = self.unread.checked_add(1) else {
-            return Err(UsageFault::TooMuch);
-        };
-        self.unread = unread;
-        Ok(())
-    }
-
-    fn take_line(&mut self, alloc: Global, line: &[u8]) -> Result<(), UsageFault>
+    // Takes a line without its end. Returns whether it is of the form.
+    pub(crate) fn take_line(&mut self, alloc: Global, line: &[u8]) -> Result<bool, UsageFault>
         ensures seen { OnOk result (HasSeen self.old self.new (line_of line.now ∷ [])) }
+        ensures read { IfOk result (λ read. read ≡ is_some (line_of line.now)) }
     {
         match read_line(line) {
-            Some(line) => self.take_read(alloc, &line),
-            None => self.take_unread(),
+            Some(line) => {
+                self.take_read(alloc, &line)?;
+                Ok(true)
+            }
+            None => Ok(false),
         }
-    }
-
-    fn take_lines(&mut self, alloc: Global, text: &[u8]) -> Result<(), UsageFault>
-        ensures seen { OnOk result (HasSeen self.old self.new (map line_of (parts 10 text.now))) }
-    {
-        for line in text.split(|octet| *octet == b'\n') {
-            self.take_line(alloc, line)?;
-        }
-        Ok(())
-    }
-
-    /// Adds the lines of a log; the last may lack its end. Fails if a sum is not below 2^64, or if memory runs out; the
-    /// sums are then of no use.
-    pub fn take_text(&mut self, alloc: Global, text: &[u8]) -> Result<(), UsageFault>
-        ensures seen { OnOk result (HasSeen self.old self.new (map line_of (lines_in text.now))) }
-    {
-        if text.is_empty() {
-            return Ok(());
-        }
-        self.take_lines(alloc, without_end(text))
     }
 }

@@ -6,4 +6,6 @@ mod expect;
 #[cfg(test)]
 mod lines;
 #[cfg(test)]
+mod reports;
+#[cfg(test)]
 mod sums;

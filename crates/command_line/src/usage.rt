@@ -22,7 +22,7 @@ pub struct UsageWords<'a> {
     pub logs: Vec<&'a str>,
     /// The day of the transfers that are added up.
     pub day: Option<&'a str>,
-    /// What transfers are added up by.
+    /// The name of the key by which transfers are added up.
     pub by: Option<&'a str>,
     /// The greatest number of rows that are printed, in digits.
     pub first: Option<&'a str>,

@@ -91,8 +91,7 @@ pub enum Words<'a> {
         once: bool,
         rows: u16,
     },
-    /// Add up transfer logs. [`read_usage_words`](crate::read_usage_words) returns their paths, and what else the words
-    /// state.
+    /// Add up transfer logs. [`read_usage_words`](crate::read_usage_words) returns their paths and the options.
     Usage,
 }
 

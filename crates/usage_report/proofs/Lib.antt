@@ -1,4 +1,5 @@
 pub mod Added
+pub mod Chained
 pub mod Cut
 pub mod Depths
 pub mod Looked

@@ -1,4 +1,4 @@
--- What the words of a report ask for.
+-- The report that words ask for.
 use Rattle.std.specs.Prelude.{◌≡◌, ◌≤◌, ℕ, Bool, true, false, Option, Some, None, bytes_eq, codes, if◌then◌else◌, option_map}
 use Rattle.std.specs.Str.Parse.{IsNumeral, digits_value}
 use Rattle.log_lines.specs.Moments.{iso_day}

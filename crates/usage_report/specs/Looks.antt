@@ -1,4 +1,4 @@
--- What is seen of one log: its lines, and those that are not of the form.
+-- One log: its lines, and those that are not of the form.
 use Rattle.std.specs.Prelude.{◌≡◌, ℕ, ◌+◌, Bool, true, false, List, [], ◌∷◌, ◌++◌, length, map, Option, Some, None, IfSome, option_map}
 use Rattle.std.specs.List.{count_by}
 use Rattle.std.specs.Option.{unwrap_or}
@@ -37,13 +37,14 @@ looked look false = record {
   first_unread = Some (unwrap_or look.first_unread (look.lines + 1));
 }
 
--- more lines are looked at than before
+-- more lines are seen than before
 abbrev pub HasLooked : LogLook → LogLook → List (Option Line) → Type 0
 HasLooked before after more =
     (seen : List (Option Line)) → IsLookOf before seen → IsLookOf after (seen ++ more)
 
 -- of the lines of a text some are taken, from its front, and the lines of the rest are left
-pub record TakesLines (before after : Usage) (look further : LogLook) (text rest : Octets) : Type 0 where
+pub record TakesLines (before after : Usage) (look further : LogLook) (text rest : Octets)
+    : Type 0 where
   pub seen : List (Option Line)
   pub sums : HasSeen before after seen
   pub looks : HasLooked look further seen
@@ -55,7 +56,11 @@ TakesFrom before after look further left rest =
     IfSome left (λ text. (more : Octets) × (rest ≡ Some more)
     × TakesLines before after look further text more)
 
+-- known octets have come to their end
+abbrev pub ComesToEnd : Option Octets → Option Octets → Type 0
+ComesToEnd left rest = IfSome left (λ _. rest ≡ Some [])
+
 -- the lines of a log, all of them
 pub record IsLogTaken (before after : Usage) (look : LogLook) (text : Octets) : Type 0 where
   pub sums : HasSeen before after (map line_of (lines_in text))
-  pub look : IsLookOf look (map line_of (lines_in text))
+  pub looks : IsLookOf look (map line_of (lines_in text))

@@ -1,4 +1,4 @@
-//! What the words of a report ask for.
+//! The report that words ask for.
 
 ghost use Rattle.std.specs.Prelude.{◌≡◌, ℕ, None, Option, IfOk, IfSome, IsErrOf, option_map};
 ghost use Rattle.log_lines.specs.declared.moment.LogDay.{LogDay};
@@ -33,7 +33,7 @@ pub struct AskWords<'w> {
     pub csv: bool,
 }
 
-/// What is asked for.
+/// A report that is asked for.
 #[derive(Clone, Copy, Debug, PartialEq, Eq)]
 pub struct UsageAsk {
     pub by: UsageKey,
@@ -97,9 +97,9 @@ fn first_in(word: &str) -> Option<u32>
 }
 
 fn key_asked(by: Option<&str>) -> Option<UsageKey>
-    ensures key { IfSome result (IsKeyAsked (option_map (λ w. w.now) by)) }
+    ensures key { IfSome result (IsKeyAsked (option_map (λ w. w.now) by.entry)) }
     ensures none { result ≡ None → (key : UsageKey)
-        → IsKeyAsked (option_map (λ w. w.now) by) key → ⊥ }
+        → IsKeyAsked (option_map (λ w. w.now) by.entry) key → ⊥ }
 {
     match by {
         Some(word) => key_named(word),
@@ -109,9 +109,9 @@ fn key_asked(by: Option<&str>) -> Option<UsageKey>
 
 // The day, if one is stated, or `None` if that is no day.
 fn day_asked(day: Option<&str>) -> Option<Option<LogDay>>
-    ensures day { IfSome result (IsDayAsked (option_map (λ w. w.now) day)) }
+    ensures day { IfSome result (IsDayAsked (option_map (λ w. w.now) day.entry)) }
     ensures none { result ≡ None → (stated : Option LogDay)
-        → IsDayAsked (option_map (λ w. w.now) day) stated → ⊥ }
+        → IsDayAsked (option_map (λ w. w.now) day.entry) stated → ⊥ }
 {
     let Some(word) = day else {
         return Some(None);
@@ -123,9 +123,9 @@ fn day_asked(day: Option<&str>) -> Option<Option<LogDay>>
 }
 
 fn first_asked(first: Option<&str>) -> Option<u32>
-    ensures first { IfSome result (IsFirstAsked (option_map (λ w. w.now) first)) }
+    ensures first { IfSome result (IsFirstAsked (option_map (λ w. w.now) first.entry)) }
     ensures none { result ≡ None → (n : ℕ)
-        → IsFirstAsked (option_map (λ w. w.now) first) n → ⊥ }
+        → IsFirstAsked (option_map (λ w. w.now) first.entry) n → ⊥ }
 {
     match first {
         Some(word) => first_in(word),
@@ -142,7 +142,7 @@ fn form_of(json: bool, csv: bool) -> UsageForm
     if csv { UsageForm::Csv } else { UsageForm::Table }
 }
 
-/// What words ask for, or the reason for which they ask for no report.
+/// Returns the report that words ask for, or the reason for which they ask for none.
 pub fn asked(words: &AskWords<'_>) -> Result<UsageAsk, AskFault>
     ensures asked { IfOk result (IsAsked words.now) }
     ensures two_forms { IsErrOf result AskFault.TwoForms → AreTwoForms words.now }

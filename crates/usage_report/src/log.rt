@@ -1,7 +1,7 @@
 //! One log, read line by line: no more than a line is held.
 
-ghost use Rattle.std.specs.Prelude.{◌≡◌, IfOk, IfSome, OnOk, [], false};
-ghost use Rattle.usage_report.specs.Looks.{IsLogTaken, TakesFrom, TakesLines};
+ghost use Rattle.std.specs.Prelude.{◌≡◌, IfOk, IfSome, OnOk, false};
+ghost use Rattle.usage_report.specs.Looks.{ComesToEnd, IsLogTaken, TakesFrom};
 ghost use Rattle.usage_report.specs.Usages.{without_end};
 
 use crate::fault::UsageFault;
@@ -39,7 +39,7 @@ fn take_next<R: BufRead>(
     ensures taken { OnOk result (TakesFrom usage.old usage.new look.old look.new
         (R.remaining reader.old) (R.remaining reader.new)) }
     ensures end { IfOk result (λ more. more ≡ false
-        → IfSome (R.remaining reader.new) (λ rest. rest ≡ [])) }
+        → ComesToEnd (R.remaining reader.old) (R.remaining reader.new)) }
 {
     line.clear();
     let count = match reader.read_until(b'\n', line) {

@@ -1,4 +1,4 @@
-//! What is seen of one log.
+//! The lines of one log, counted.
 
 ghost use Rattle.std.specs.Prelude.{◌≡◌, [], IfSome};
 ghost use Rattle.usage_report.specs.Looks.{IsLookOf, looked};

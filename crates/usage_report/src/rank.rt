@@ -25,7 +25,7 @@ fn rows_of<'m>(
         (λ all. map row_view all.items ≡ map entry_view rows.now.entries) }
 {
     let mut all = Vec::new(alloc);
-    for (key, sums) in rows.iter() {
+    'entries: for (key, sums) in rows.iter() {
         all.push(UsageRow {
             key: key.as_str(),
             sums: *sums,

@@ -1,4 +1,4 @@
-//! What a report has.
+//! The parts of a report.
 
 use crate::adding::Sums;
 use crate::ask::UsageAsk;
@@ -12,7 +12,7 @@ pub struct LogSeen<'p> {
     pub look: LogLook,
 }
 
-/// What a report has.
+/// A report, before it has a form.
 #[derive(Clone, Copy)]
 pub struct Report<'r> {
     pub ask: UsageAsk,

@@ -49,7 +49,7 @@ fn add_row(
     line: &LogLine<'_>,
 ) -> Result<(), UsageFault>
     ensures row { OnOk result
-        (IsRowAdded rows.old rows.new (string_bytes key.entry) (line_view line.now)) }
+        (IsRowAdded rows.old rows.new (string_bytes key) (line_view line.now)) }
 {
     let row = row_at(rows, key.as_str());
     let Some(row) = plus(row, line) else {

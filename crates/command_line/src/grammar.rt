@@ -68,7 +68,12 @@ const ABOUT_TOP: &str =
     "STATUS is read once a second, and the screen is drawn anew; Ctrl-C ends it. Two lines for each transfer: its octets a\nsecond, what is guaranteed to it, and the limits that held it back, in parts of the last second.\n\nExamples: ftpd top /run/ftpd/status.json\n          ftpd top /run/ftpd/status.json --once\n\nStatus: 0 done, or yes; 1 a fault; 2 refused words; 3 no";
 
 /// A command without words; `below` is the text below its help.
-pub(crate) fn bare_command<'a>(alloc: Global, name: &'a str, about: &'a str, below: &'a str) -> Command<'a>
+pub(crate) fn bare_command<'a>(
+    alloc: Global,
+    name: &'a str,
+    about: &'a str,
+    below: &'a str,
+) -> Command<'a>
     ensures bare { app_of result ≡ bare name.entry.now }
 {
     Command::new(alloc, name).about(about).after_help(below)

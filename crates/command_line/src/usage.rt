@@ -77,11 +77,7 @@ pub(crate) fn usage_command<'a>(alloc: Global) -> Result<Command<'a>, AllocError
 }
 
 /// The words of the argument `id` of the command that was entered.
-fn words_at<'a>(
-    alloc: Global,
-    inner: &ArgMatches<'a>,
-    id: &str,
-) -> Result<Vec<&'a str>, AllocError>
+fn words_at<'a>(alloc: Global, inner: &ArgMatches<'a>, id: &str) -> Result<Vec<&'a str>, AllocError>
     ensures words { IfOk result (λ words. map (λ w. w.now) words.items
         ≡ unwrap_or (all_of id.now (rows_of (found_of inner.now))) []) }
 {
@@ -92,10 +88,7 @@ fn words_at<'a>(
 }
 
 /// The words of `usage`, from its arguments.
-fn usage_given<'a>(
-    alloc: Global,
-    inner: &ArgMatches<'a>,
-) -> Result<UsageWords<'a>, AllocError>
+fn usage_given<'a>(alloc: Global, inner: &ArgMatches<'a>) -> Result<UsageWords<'a>, AllocError>
     ensures words { IfOk result (AreUsageWords (rows_of (found_of inner.now))) }
 {
     let logs = words_at(alloc, inner, "XFERLOG")?;

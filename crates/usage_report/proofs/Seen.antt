@@ -100,3 +100,7 @@ seen_both one two three first second a b = record {
   day = b.day ∙ a.day;
   sums = λ seen was. subst (IsUsageOf three) (append_assoc seen first second) (b.sums (seen ++ first) (a.sums seen was));
 }
+
+pub ok_any : {T E : Type 0} (r : Result T E) (P : Type 0) → P → OnOk r P
+ok_any (Ok u) P p = p
+ok_any (Err e) P p = tt

@@ -17,7 +17,9 @@ first_after_unread : (seen : List (Option Line)) → first_unread (seen ++ None 
 first_after_unread [] = refl
 first_after_unread (None ∷ seen) = refl
 first_after_unread (Some first ∷ seen) =
-    ap (option_map (λ n. n + 1)) (first_after_unread seen) ∙ ap Some (one_more (first_unread seen) (length seen + 1))
+    ap (option_map (λ n. n + 1)) (first_after_unread seen)
+    ∙ ap Some (one_more (first_unread seen) (length seen + 1))
+    ∙ ap (λ (n : ℕ). Some (unwrap_or (option_map (λ m. m + 1) (first_unread seen)) n)) (let same : length seen + 1 + 1 ≡ length (Some first ∷ seen) + 1 = omega arith in same)
   where
     one_more : (o : Option ℕ) (n : ℕ) → unwrap_or o n + 1 ≡ unwrap_or (option_map (λ m. m + 1) o) (n + 1)
     one_more None n = refl

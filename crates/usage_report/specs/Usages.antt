@@ -33,7 +33,8 @@ without_end text =
 
 -- the lines of a text; the last may lack its end
 abbrev pub lines_in : Octets → List Octets
-lines_in text = if nat_eq (length text) 0 then [] else parts 10 (without_end text)
+lines_in [] = []
+lines_in (octet ∷ rest) = parts 10 (without_end (octet ∷ rest))
 
 -- the transfers of lines that were read, those of the day
 abbrev pub counted : Option LogDay → List (Option Line) → List Line

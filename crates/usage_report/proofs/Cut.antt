@@ -43,7 +43,7 @@ one_left x = go (x == 10) refl
   where
     go : (b : Bool) → (x == 10) ≡ b → cut (x ∷ []) ≡ ended (take_through 10 (x ∷ [])) ∷ lines_in (drop_through 10 (x ∷ []))
     go true e = rw e (rw e refl)
-    go false e = rw e (rw e (slice_split-cons_no (λ octet. octet == 10) x [] e))
+    go false e = rw e (rw e refl)
 
 more_left : (x y : ℕ) (ys : Octets) → cut (y ∷ ys) ≡ ended (take_through 10 (y ∷ ys)) ∷ lines_in (drop_through 10 (y ∷ ys))
     → cut (x ∷ y ∷ ys) ≡ ended (take_through 10 (x ∷ y ∷ ys)) ∷ lines_in (drop_through 10 (x ∷ y ∷ ys))

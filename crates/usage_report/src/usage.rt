@@ -59,10 +59,10 @@ fn add_row(
     let Some(row) = plus(row, line) else {
         return Err(UsageFault::TooMuch);
     };
-    match rows.insert(key, row) {
-        Ok(_) => Ok(()),
-        Err(_) => Err(UsageFault::Memory),
-    }
+    let Ok(_) = rows.insert(key, row) else {
+        return Err(UsageFault::Memory);
+    };
+    Ok(())
 }
 
 impl Usage {

@@ -1,5 +1,5 @@
 -- Logs that are taken one after another.
-use Rattle.std.proofs.Common.{◌≡◌, ℕ, List, [], ◌∷◌, ◌++◌, Option, refl, subst, sym}
+use Rattle.std.proofs.Common.{List, [], ◌∷◌, ◌++◌, Option, refl, subst}
 use Rattle.std.specs.Borrow.{Bor}
 use Rattle.log_lines.specs.Words.{Octets}
 use Rattle.usage_report.specs.Reports.{Gives, IsOneTaken, TakesLogs}

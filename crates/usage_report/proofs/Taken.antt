@@ -1,5 +1,5 @@
 -- Lines that are taken one after another.
-use Rattle.std.proofs.Common.{◌≡◌, ◌≢◌, ◌<◌, ◌∙◌, ℕ, Bool, List, [], ◌∷◌, ◌++◌, append_assoc, map, length, Option, Some, None, IfSome, is_some, refl, sym, ap, subst, arith}
+use Rattle.std.proofs.Common.{◌≡◌, ◌≢◌, ◌<◌, ◌∙◌, List, [], ◌∷◌, ◌++◌, append_assoc, map, length, Option, Some, None, IfSome, is_some, refl, sym, ap, subst, arith}
 use Rattle.std.specs.Io.BufRead.{DropsThrough, drop_through, take_through}
 use Rattle.std.specs.Io.KnownBytes.{IsAtEnd}
 use Rattle.std.proofs.lemmas.List.{append-nil}

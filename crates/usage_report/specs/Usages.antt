@@ -1,5 +1,5 @@
 -- The sums over the lines of logs.
-use Rattle.std.specs.Prelude.{◌≡◌, ℕ, ◌-◌, ◌==◌, ◌&&◌, Bool, true, false, bytes_eq, nat_eq, if◌then◌else◌, List, [], ◌∷◌, ◌++◌, filter, length, slice_index, take, Option, Some, None, String}
+use Rattle.std.specs.Prelude.{◌≡◌, ◌-◌, ◌==◌, ◌&&◌, Bool, true, bytes_eq, nat_eq, if◌then◌else◌, List, [], ◌∷◌, ◌++◌, filter, length, slice_index, take, Option, Some, None, String}
 use Rattle.std.specs.BTreeMap.{BTreeMap, get_by_text}
 use Rattle.std.specs.declared.alloc.Global.{Global}
 use Rattle.std.specs.List.{filter_map}

@@ -1,4 +1,4 @@
-use Rattle.std.proofs.Common.{◌≡◌, ◌<◌, ◌∙◌, ℕ, zero, [], ◌∷◌, List, length, ap, is_some, subst, sym, rules, tests, arith}
+use Rattle.std.proofs.Common.{◌≡◌, ◌<◌, ◌∙◌, ℕ, [], ◌∷◌, List, length, ap, is_some, subst, rules, tests, arith}
 use Rattle.log_lines.specs.Lines.{line_of}
 use Rattle.usage_report.specs.Looks.{looked}
 use Rattle.usage_report.specs.Usages.{HasSeen, without_end}

@@ -1,4 +1,4 @@
-use Rattle.std.proofs.Common.{◌≡◌, ◌<◌, ◌+◌, ◌++◌, ◌∷◌, [], Bor, List, ℕ, get_or, length, subst, sym, take, rules}
+use Rattle.std.proofs.Common.{◌<◌, ◌+◌, ◌++◌, ◌∷◌, [], Bor, List, ℕ, get_or, length, subst, sym, take, rules}
 use Rattle.std.proofs.lemmas.List.{take_more}
 use Rattle.usage_report.specs.Reports.{TakesLogs}
 use Rattle.usage_report.specs.declared.report.LogSeen.{LogSeen}

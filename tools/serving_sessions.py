@@ -41,8 +41,7 @@ def a_user_has_so_many_sessions():
         third.says("PASS wrong", "530 Login incorrect")
         third.says("USER ann", "331 Password required")
         declined(third)
-        notes = [it for it in server.notes_made() if "sessions" in it]
-        want(notes and notes[0].endswith("refused: too many sessions of this user"), f"the note: {notes}")
+        until(lambda: [it for it in server.notes_made() if it.endswith("refused: too many sessions of this user")], "the note")
         other = Client(server, "bob", "b")
         first.quit()
         until(lambda: any(it.endswith('logout "ann"') for it in server.notes_made()), "the note of a logout")

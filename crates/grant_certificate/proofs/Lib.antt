@@ -15,3 +15,4 @@ pub mod Deepest
 pub mod UserRanges
 pub mod Necks
 pub mod FitsTree
+pub mod UserChecks

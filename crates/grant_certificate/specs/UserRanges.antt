@@ -1,7 +1,10 @@
 -- Bottlenecks within a user and among users, as properties of a range of leaves.
-use Rattle.std.specs.Prelude.{◌≡◌, ℕ, ◌+◌, ◌<◌, ◌≤◌, ◌⊎◌, List, length, slice_index}
+use Rattle.std.specs.Prelude.{◌≡◌, ℕ, ◌+◌, ◌<◌, ◌≤◌, ◌⊎◌, Bool, true, false, List, length, slice_index}
 use Rattle.grant_certificate.specs.Ranges.{IsNear, IsNoneGreater}
 use Rattle.grant_certificate.specs.Users.{total_of}
+use Rattle.grant_certificate.specs.declared.flaw.Flaw.TheVariants.{WrongLength, OverWant, OverLimit, UnderFloor}
+use Rattle.grant_certificate.specs.declared.flaw.Verdict.{Verdict}
+use Rattle.grant_certificate.specs.declared.flaw.Verdict.TheVariants.{Yes, No}
 
 -- the range has leaf i, and leaves of its user only, none with too great a grant
 pub record IsInnerRange (owners g floors : List ℕ) (first leaves i : ℕ) : Type 0 where
@@ -20,3 +23,17 @@ pub record IsOuterRange (owners g floors : List ℕ) (first leaves i : ℕ) : Ty
   pub richest : (j : ℕ) → first ≤ j → j < first + leaves
       → (total_of owners g (slice_index owners j) < total_of owners g (slice_index owners i) + 2)
       ⊎ (total_of owners g (slice_index owners j) ≡ total_of owners floors (slice_index owners j))
+
+-- a table has, for each leaf, the total of its user
+abbrev pub AreUserTotals : List ℕ → List ℕ → List ℕ → Type 0
+AreUserTotals owners g table =
+    (i : ℕ) → i < length owners → slice_index table i ≡ total_of owners g (slice_index owners i)
+
+-- the verdict is that the grants are within the limits, backed or not
+abbrev pub tells_within : Verdict → Bool
+tells_within Yes = true
+tells_within (No WrongLength) = false
+tells_within (No (OverWant leaf)) = false
+tells_within (No (UnderFloor leaf)) = false
+tells_within (No (OverLimit node)) = false
+tells_within (No flaw) = true

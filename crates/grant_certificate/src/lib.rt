@@ -33,7 +33,7 @@ mod over;
 mod range;
 mod sealed;
 
-pub use by_users::are_backed_by_users;
+pub use by_users::check_by_users;
 pub use certificate::Certificate;
 pub use checker::check;
 pub use flaw::{Flaw, Verdict};

@@ -1,0 +1,4 @@
+pub mod Sets
+pub mod InnerStage
+pub mod OuterStage
+pub mod TightStage

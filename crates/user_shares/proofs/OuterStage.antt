@@ -9,7 +9,7 @@ use Rattle.grant_certificate.specs.Users.{tabulate, leaves_of, total_of, HasUser
 use Rattle.grant_certificate.specs.TwoStages.{IsMost, IsContraction, IsOuterOf}
 use Rattle.grant_certificate.proofs.UserSums.{length-tabulate, get-tabulate, sum_single, own_leaf, leaf_inside, leaf_owner, grouped, over_in, any_below, any-from, any-found, covers, covers-inside, covers-some, covers-from}
 use Rattle.grant_certificate.proofs.UserTotals.{bool_same}
-use Rattle.user_shares.specs.Stages.{AreSame, IsHead, IsOuterTree, AreTotals, AreMost, AreOuterTotals, HaveHeads}
+use Rattle.user_shares.specs.Stages.{IsHead, AreSame, IsOuterTree, AreTotals, AreMost, AreOuterTotals, HaveHeads}
 use Rattle.user_shares.proofs.Sets.{some_branch, is_inside, inside-of, inside-to}
 use Rattle.user_shares.proofs.InnerStage.{same-sum}
 

@@ -1,6 +1,7 @@
 -- If each user is limited to its total, backed grants are backed among users in the tree itself.
-use Rattle.std.proofs.Common.{◌≡◌, ℕ, ◌<◌, List, length, Option}
-use Rattle.limit_tree.specs.Sharing.{LimitTree, HasNestedBranches}
+use Rattle.std.proofs.Common.{◌≡◌, ◌∙◌, ℕ, ◌<◌, ◌≤◌, List, length, ap, subst, Option}
+use Rattle.std.specs.Prelude.{slice_index}
+use Rattle.limit_tree.specs.Sharing.{LimitTree, HasNestedBranches, IsWanted}
 use Rattle.limit_tree.specs.Laws.{LaterIsInside}
 use Rattle.grant_certificate.specs.Users.{HasUsers}
 use Rattle.grant_certificate.specs.TwoStages.{AreDeepestEntries}
@@ -27,3 +28,13 @@ tight-shared t users owners totals g c tree later has heads outer tight leaves d
     }) in
     let backed = deepest-backed t users owners g found.certificate c later has found.within.wanted.leaves found.backed leaves deepest in
     record { within = found.within; backed = backed; best = by-users-best t users owners g c tree has found.within backed }
+
+-- the leaves want what they want in the tree itself
+pub tight-wanted : (t : LimitTree) (users : ℕ) (owners totals g : List ℕ) → AreTightGrants t users owners totals g → IsWanted t g
+tight-wanted t users owners totals g tight =
+    let wanted = tight.within.wanted in
+    let same = tight.is_tight.wants in
+    record {
+      leaves = wanted.leaves ∙ ap (λ (xs : List ℕ). length xs) same;
+      wants = λ i l. subst (λ (ws : List ℕ). slice_index g i ≤ slice_index ws i) same (wanted.wants i l);
+    }

@@ -51,6 +51,14 @@ pub record AreMost (t : LimitTree) (users : ℕ) (owners tops : List ℕ) : Type
   pub each : length tops ≡ users
   pub most : (u : ℕ) → u < users → IsMost t owners u (slice_index tops u)
 
+-- the totals of backed grants
+pub record AreFound (s : LimitTree) (users : ℕ) (owners totals : List ℕ) : Type 0 where
+  pub grants : List ℕ
+  pub entries : List (Option ℕ)
+  pub within : IsWithin s grants
+  pub backed : IsBackedBy s grants entries
+  pub sums : AreTotals users owners grants totals
+
 -- totals of users that are backed in a tree over the users
 pub record AreOuterTotals (t : LimitTree) (users : ℕ) (owners totals : List ℕ) : Type 0 where
   pub outer : LimitTree

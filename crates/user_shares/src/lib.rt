@@ -1,12 +1,14 @@
-//! Laws of the trees by which grants are found that are max-min fair in whole octets among users, and then among the
-//! leaves of each user.
-//!
-//! All three trees have the branches of the tree itself. In the first only branches inside users have limits: its grants
-//! give each user the most that it can have ([`inner_gives_most`]). In the second one leaf of each user wants that much,
-//! and no other leaf wants anything: its grants give the users' totals ([`outer_is_backed`]). In the third each user is
-//! limited to its total: its grants are best by users in the tree itself ([`tight_is_shared`]).
+//! Grants for the leaves of a limit tree, max-min fair in whole octets among users, and then among the leaves of each
+//! user.
 #![tactic(auto)]
 
+mod fault;
+mod kinds;
 mod laws;
+mod rebuild;
+mod share;
+mod stages;
 
+pub use fault::UserShareFault;
 pub use laws::{inner_gives_most, outer_is_backed, tight_is_shared};
+pub use share::allot_by_users;

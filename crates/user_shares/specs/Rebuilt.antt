@@ -40,12 +40,15 @@ node_places (Branch limit) kids =
     branch_over limit (length kids) (nodes_of kids) ∷ map deeper (nodes_of kids)
 
 -- the trees have the shapes of the nodes from number `first` up to number `last`
-abbrev pub AreReshaped : {A : Type 0} → List Place → List NodeKind → ℕ → ℕ → List (Node A) → Type 0
+abbrev pub AreReshaped : {A : Type 0} → List Place → List NodeKind → ℕ → ℕ → List (Node A)
+    → Type 0
 AreReshaped outline kinds first last trees =
-    take first (reshaped outline kinds) ++ shapes (nodes_of trees) ≡ take last (reshaped outline kinds)
+    take first (reshaped outline kinds) ++ shapes (nodes_of trees)
+    ≡ take last (reshaped outline kinds)
 
 -- The nodes of a tree have these kinds, and the leaves of the nodes of another.
-pub record IsReshaped (outline : List Place) (kinds : List NodeKind) (tree : List Place) : Type 0 where
+pub record IsReshaped (outline : List Place) (kinds : List NodeKind)
+    (tree : List Place) : Type 0 where
   pub nodes : length tree ≡ length outline
   pub each : (k : ℕ) (p : Place) → slice_get outline k ≡ Some p
       → (q : Place) × (slice_get tree k ≡ Some q) × (slice_get kinds k ≡ Some q.kind)

@@ -115,7 +115,8 @@ fn tight_tree<A: Allocator, B: Allocator + Clone>(
 ) -> Result<Tree<B>, UserShareFault>
     requires users { AreUsers flat.now users.now owners.now }
     requires totals { length totals.now ≡ length users.now }
-    ensures alike { IfOk result (λ tree. AreAlike flat.now (IsTightKind users.now totals.now) tree) }
+    ensures alike { IfOk result
+        (λ tree. AreAlike flat.now (IsTightKind users.now totals.now) tree) }
 {
     let kinds = tight_kinds(alloc.clone()?, flat, users, owners, totals)?;
     let tree = rebuilt(alloc, flat, &kinds)?;

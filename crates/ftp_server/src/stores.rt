@@ -1,0 +1,118 @@
+//! The stores of a server.
+
+ghost use Rattle.std.specs.Prelude.{◌≡◌, [], All, None, IfErr, IfOk, length};
+ghost use Rattle.ftp_server.specs.Folders.{IsFolderFault};
+
+use crate::fault::FtpServerFault;
+use crate::stop_flag::StopFlag;
+use folder_store::DirStore;
+use last_fault::LastFault;
+use recorded_store::RecordedStore;
+use std::alloc::Global;
+use virtual_tree::{Store, StoreFault};
+
+/// A store, and more of them over the same files, one for each connection, if they can be had: then no session waits for a
+/// call of another's. The changes and faults of all of them are told to the handler.
+///
+/// ```text
+/// let stores = Stores::one(alloc, MemStore::new(alloc, 1_000_000)?); // octets
+/// server.serve_with(&rt, stores, handler, flag)?;
+/// ```
+#[derive(Drop)]
+pub struct Stores<S> {
+    /// The store of whoever has none of their own.
+    pub store: RecordedStore<S>,
+    /// The stores of connections, by their numbers.
+    pub own: Vec<RecordedStore<S>>,
+}
+
+impl<S: Store<Global> + Drop> Stores<S> {
+    /// One store for all connections, which take turns at it.
+    ///
+    /// ```text
+    /// let stores = Stores::one(alloc, PageStore::new(alloc, Time { rt }));
+    /// ```
+    pub fn one(alloc: Global, store: S) -> Stores<S>
+        ensures store { result.store.store ≡ store }
+        ensures own { result.own.items ≡ [] }
+    {
+        Stores {
+            store: RecordedStore::new(alloc, store),
+            own: Vec::new(alloc),
+        }
+    }
+}
+
+/// A store over a folder of the machine, as `FtpServer::open_folder` opens it.
+///
+/// ```text
+/// let stores: Stores<FolderStore> = server.open_folder(&rt, "/srv/ftp", &flag)?;
+/// ```
+pub type FolderStore = DirStore<HostRuntime>;
+
+// Opens a folder, with a record of its calls and of the machine's errors. Its listings are left once the flag is raised.
+fn open_recorded(
+    machine: &HostRuntime,
+    folder: &str,
+    syncs: bool,
+    flag: &StopFlag,
+) -> Result<RecordedStore<FolderStore>, FtpServerFault>
+    ensures folder { IfOk result (λ opened. opened.store.folder ≡ folder.now) }
+    ensures syncs { IfOk result (λ opened. opened.store.syncs ≡ syncs) }
+    ensures fault { IfErr result IsFolderFault }
+{
+    let error = LastFault::new(machine.alloc())?;
+    let kept = error.another()?;
+    let sign = flag.sign.another()?;
+    match DirStore::new(*machine, folder, kept) {
+        Ok(store) => {
+            let store = store.left_by(sign).syncing(syncs);
+            Ok(RecordedStore::with_fault(machine.alloc(), store, error))
+        }
+        Err(StoreFault::Memory) => Err(FtpServerFault::Memory),
+        Err(fault) => Err(FtpServerFault::Folder(fault, error.take())),
+    }
+}
+
+// Opens the folder once for each of this number of connections.
+fn open_own(
+    machine: &HostRuntime,
+    folder: &str,
+    connections: u16,
+    syncs: bool,
+    flag: &StopFlag,
+) -> Result<Vec<RecordedStore<FolderStore>>, FtpServerFault>
+    ensures own { IfOk result (λ own. length own.items ≡ connections) }
+    ensures folder { IfOk result (λ own.
+        All (λ opened. opened.store.folder ≡ folder.now) own.items) }
+    ensures syncs { IfOk result (λ own. All (λ opened. opened.store.syncs ≡ syncs) own.items) }
+    ensures fault { IfErr result IsFolderFault }
+{
+    let mut own = Vec::new(machine.alloc());
+    for _ in 0..connections {
+        let another = open_recorded(machine, folder, syncs, flag)?;
+        own.push(another)?;
+    }
+    Ok(own)
+}
+
+/// Opens a folder of the machine, as a store for all and as one for each of this number of connections. Returns `Folder` if
+/// it cannot be opened.
+pub(crate) fn open_folder(
+    machine: &HostRuntime,
+    folder: &str,
+    connections: u16,
+    syncs: bool,
+    flag: &StopFlag,
+) -> Result<Stores<FolderStore>, FtpServerFault>
+    ensures own { IfOk result (λ stores. length stores.own.items ≡ connections) }
+    ensures folder { IfOk result (λ stores. (stores.store.store.folder ≡ folder.now)
+        × All (λ opened. opened.store.folder ≡ folder.now) stores.own.items) }
+    ensures syncs { IfOk result (λ stores. (stores.store.store.syncs ≡ syncs)
+        × All (λ opened. opened.store.syncs ≡ syncs) stores.own.items) }
+    ensures fault { IfErr result IsFolderFault }
+{
+    let store = open_recorded(machine, folder, syncs, flag)?;
+    let own = open_own(machine, folder, connections, syncs, flag)?;
+    Ok(Stores { store, own })
+}

@@ -57,6 +57,9 @@ fn of_counts(rt: HostRuntime) {
         server.settings.login_attempts = attempts;
         refuses(&rt, server, NumberFault::LoginAttempts);
     }
+    let mut server = new_server(&rt);
+    server.user_sessions = 65_536;
+    refuses(&rt, server, NumberFault::UserSessions);
 }
 
 #[test]

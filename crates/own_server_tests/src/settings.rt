@@ -18,6 +18,7 @@ fn of_defaults(rt: HostRuntime) {
     holds(&rt, server.numbers.max_cons == 64);
     holds(&rt, server.settings.banner.as_str() == "Ready");
     holds(&rt, server.patience.idle_timeout == 300);
+    holds(&rt, server.user_sessions == 0);
     holds(&rt, server.down_rate == 0);
     holds(&rt, !server.syncs);
 }

@@ -14,6 +14,7 @@
 
 mod fault;
 mod from_config;
+mod notes;
 mod ranges;
 mod rates;
 mod rows;
@@ -26,12 +27,14 @@ pub use authorizer::{Authorizer, AuthorizerFault};
 pub use client_patience::{Patience, TimeOut};
 pub use fault::FtpServerFault;
 pub use ftp_daemon::{
-    NoSigns, OwnerSigns, Reload, ReloadFault, ReloadSign, RoundClock, ServeFault, ServerRuntime,
+    EndSign, NoSigns, OwnerSigns, Reload, ReloadFault, ReloadSign, RoundClock, ServeFault,
+    ServerRuntime, Terms,
 };
 pub use ftp_terms::{EntryKind, LineText, Meta};
 pub use grant_ledger::SettledNumbers;
-pub use line_rates::{GroupRate, LimitsFault};
+pub use line_rates::{GroupRate, Limits, LimitsFault, UserRate};
 pub use memory_store::MemStore;
+pub use notes::{NoTransferLog, StandardErrorNotes, notes_on_standard_error};
 pub use page_store::{PageFault, PageStore, Pages};
 pub use passive_ports::AdmitFault;
 pub use ranges::NumberFault;
@@ -40,8 +43,8 @@ pub use recorded_store::{RecordedStore, StoreRecord};
 pub use server::FtpServer;
 pub use server_config::{Config, ConfigFault, ServedStore, ServerNumbers};
 pub use server_house::{
-    BegunTransfer, ClientSession, EndCause, LaneLook, NoHooks, NotServed, ServerEvent, ServerHooks,
-    ServerLook, SessionEvent, SessionRefusal, StoreNote, TransferKind, TransferRecord,
+    BegunTransfer, ClientSession, EndCause, LaneLook, NoHooks, NotEnded, NotServed, ServerEvent,
+    ServerHooks, ServerLook, SessionEvent, SessionRefusal, StoreNote, TransferKind, TransferRecord,
 };
 pub use session_table::{HookCall, Settings};
 pub use stop_flag::StopFlag;

@@ -24,7 +24,7 @@ SETTLED = re.compile(r"ready\nsettled issued (\d+) moved (\d+) back (\d+)\n")
 # A note of a warning of the configuration, as a server makes at its start.
 WARNING = re.compile(r"^\[WARN \] \S+Z configuration: (.*)\n", re.MULTILINE)
 # The head of a note: the time, the peer's address, and the number of the session where it is admitted.
-STAMP = re.compile(r"\[(?:INFO|WARN) \] \d{4}-\d\d-\d\dT\d\d:\d\d:\d\dZ (127\.0\.0\.\d+ (#\d+ )?)")
+STAMP = re.compile(r"\[(?:INFO |WARN |DEBUG)\] \d{4}-\d\d-\d\dT\d\d:\d\d:\d\dZ (127\.0\.0\.\d+ (#\d+ )?)")
 # The user, the octets and the seconds of a transfer.
 AMOUNT = re.compile(r': user "[^"]*", \d+ octets, \d+\.\d{3} s')
 # The note of a listing.

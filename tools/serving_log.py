@@ -170,6 +170,37 @@ def logs_that_cannot_be_had():
     same((status, output, noted), (1, "", wanted), "a log without a folder")
 
 
+def commands_that_are_declined():
+    """A command that is refused for its path, its letters or what is there is noted, with its user, directory and reply, at a level of its own, also where it was sent ahead; one that is refused otherwise is not, and no password is."""
+    with Server(sessions=0, root="folder", files={"f": b"a\nb", "in": None}, stop=True) as server:
+        client = Client(server, "bob", "b")
+        client.says("CWD nowhere", "550 No such file or directory")
+        client.says("CWD in", "250 Directory changed")
+        client.says("DELE x y", "550 Not permitted")
+        client.says("TYPE A", "200 Type set to A")
+        client.says("SIZE f", "550 SIZE needs TYPE I")
+        client.says("RNTO g", "503 Send RNFR first")
+        client.says("CWD \u202ea", "550 No such file or directory")
+        data = client.passive()
+        client.send("LIST", "MDTM gone")
+        data.whole()
+        client.says(None, "150 Opening data connection", "226 Transfer complete", "550 No such file or directory")
+        client.says("USER ann", "331 Password required")
+        client.says("PASS wrong", "530 Login incorrect")
+        client.quit()
+        server.stop()
+        server.ended()
+        found = [it.split(" ", 4) for it in server.all_noted().splitlines() if " declined " in it]
+        same({it[0] for it in found}, {"[DEBUG]"}, "levels")
+        same([it[4] for it in found], [
+            'declined "CWD nowhere": user "bob", in "/": 550 No such file or directory',
+            'declined "DELE x y": user "bob", in "/in": 550 Not permitted',
+            'declined "CWD \\u{202e}a": user "bob", in "/in": 550 No such file or directory',
+            'declined "MDTM gone": user "bob", in "/in": 550 No such file or directory',
+        ], "the notes")
+        want("wrong" not in server.all_noted(), "a password is noted")
+
+
 def a_transfer_log_that_is_moved():
     """Each file that was sent or received has a line, whenever the log is moved away, and their octets are those moved."""
     with Server(sessions=0, root="folder", files={"a b": b"x" * 1000}, stop=True, words=["--login-delay", "0", "--transfer-log", "xferlog"]) as server:
@@ -381,6 +412,7 @@ def each_transfer_has_one_line():
 
 
 ROWS = [
+    commands_that_are_declined,
     changes_are_noted,
     refusals_are_noted,
     errors_of_the_machine_are_noted,

@@ -1,11 +1,13 @@
 """A configuration that is read again while the server runs: nobody is cut, and whoever comes afterwards meets the new one."""
 import os
 import select
+import socket
 import time
 
 from serving_drain import drained
 from serving_kit import SECONDS, Client, Server, same, until, want
 from serving_limits import is_served
+from serving_status import next_status, row_of
 
 RATE = 2_000_000
 MUCH = 400_000_000
@@ -59,12 +61,25 @@ def closed(pairs):
         client.close()
 
 
+def changes_noted(server):
+    """What the reloads so far have changed, as it was noted."""
+    return [line.split("configuration: ")[1] for line in server.all_noted().splitlines() if "[INFO ]" in line and "configuration: " in line]
+
+
 def a_rate_is_halved_and_a_user_added():
-    """Twelve downloads run on under half the rate, and the new user logs in."""
+    """Twelve downloads run on under half the rate, and the new user logs in. What the reload changes is noted, and the second time that it changes nothing more."""
     with served(stop=True) as server:
         pairs = begun(server, 12)
         moved_in(pairs, 1.5)
-        server.reloaded(text_of(server, RATE // 2, {**USERS, "carol": ""}))
+        text = text_of(server, RATE // 2, {**USERS, "carol": ""})
+        server.reloaded(text)
+        changed = changes_noted(server)
+        same(len(changed), 3, changed)
+        same(changed[0], "user carol is added", "the first change")
+        want(changed[1].startswith("octets a second "), changed)
+        same(changed[2].split(), ["server", "rate", str(RATE), str(RATE // 2)], "the rate")
+        server.reloaded(text)
+        same(changes_noted(server), changed, "the lines of changes")
         moved_in(pairs, 1)
         had = moved_in(pairs, 3)
         want(abs(had - 3 * RATE // 2) < 0.03 * 3 * RATE / 2 + 65_536, f"{had} octets in three seconds under {RATE // 2}")
@@ -241,6 +256,53 @@ def ten_reloads_under_load():
         server.ended()
 
 
+def both_ways(down, up, seconds):
+    """The octets that come on one data connection, and those that another takes, in some seconds."""
+    had, sent, end, zeros = 0, 0, time.monotonic() + seconds, bytes(65_536)
+    up.socket.setblocking(False)
+    while (rest := end - time.monotonic()) > 0:
+        ready, free, _ = select.select([down.socket], [up.socket], [], rest)
+        if ready:
+            piece = down.socket.recv(65_536)
+            want(piece, "a transfer that ended")
+            had += len(piece)
+        if free:
+            sent += up.socket.send(zeros)
+    return had, sent
+
+
+def who_is_charged_after_reloads():
+    """One user downloads and one uploads, each under a rate of theirs; so it stays by reloads that put a user before both, turn their order, and exchange their rates. The status counts each transfer for its user."""
+    rates = {"ann": "down_rate = 400_000\nup_rate = 50_000", "bob": "down_rate = 60_000\nup_rate = 250_000"}
+    turned = {"bob": "down_rate = 60_000\nup_rate = 500_000", "ann": "down_rate = 200_000\nup_rate = 50_000"}
+    with served(rate=4_000_000, users=rates, stop=True, words=["--login-delay", "0", "--status", "status.json"]) as server:
+        ann, bob = Client(server), Client(server, "bob")
+        down, up = ann.passive(room=65_536), bob.passive()
+        up.socket.setsockopt(socket.SOL_SOCKET, socket.SO_SNDBUF, 65_536)
+        ann.says("RETR big", "150 Opening data connection")
+        bob.says("STOR up", "150 Opening data connection")
+        for users, wanted in ((None, (400_000, 250_000)), ({"aaron": "down_rate = 10_000", **rates}, (400_000, 250_000)), ({"aaron": "", **turned}, (200_000, 500_000))):
+            if users:
+                server.reloaded(text_of(server, 4_000_000, users))
+            both_ways(down, up, 3)
+            before = next_status(server)
+            had = both_ways(down, up, 4)
+            after = next_status(server)
+            seconds = (after["micros"] - before["micros"]) / 1e6
+            for user, way, count, rate in zip(("ann", "bob"), ("down", "up"), had, wanted):
+                want(abs(count - 4 * rate) < 0.05 * 4 * rate + 65_536, f"{user}: {count} octets in four seconds at {rate}")
+                first, last = row_of(before, user), row_of(after, user)
+                same(last["direction"], way, f"the way of {user}")
+                moved = last["moved"] - first["moved"]
+                want(abs(moved - seconds * rate) < 0.1 * seconds * rate + 65_536, f"{user}: {moved} octets in {seconds} seconds by the status, at {rate}")
+        for it in (down, up):
+            it.close()
+        for it in (ann, bob):
+            it.close()
+        server.stop()
+        server.ended()
+
+
 def a_reload_and_then_a_drain():
     """A server that was reloaded drains as any other."""
     with served(drain=True) as server:
@@ -262,5 +324,6 @@ ROWS = [
     who_sends_ahead_is_taken_out,
     sessions_keep_the_terms_of_their_login,
     ten_reloads_under_load,
+    who_is_charged_after_reloads,
     a_reload_and_then_a_drain,
 ]

@@ -16,7 +16,8 @@ use lane_rounds::{Engine, look};
 use lent_parts::PartsName;
 use round_tally::Tallies;
 use server_house::{
-    House, LaneLook, LaneSign, ServerEvent, ServerHooks, ServerLook, ServerRuntime, ShutdownStage,
+    House, LaneLook, LaneSign, Reloaded, ServerEvent, ServerHooks, ServerLook, ServerRuntime,
+    ShutdownStage,
 };
 use std::alloc::Global;
 use std::sync::Wait;
@@ -59,8 +60,10 @@ pub trait OwnerSigns {
         ReloadSign::Nothing
     }
 
-    /// The server has taken the configuration.
-    fn taken(&self) {}
+    /// The server has taken the configuration. Returns what it changes, in lines; none if that is not known.
+    fn taken(&self) -> Option<String> {
+        None
+    }
 
     /// The server has refused the configuration. Returns the reason in words; none if memory runs out.
     fn refused(&self, _fault: ReloadFault) -> Option<String> {
@@ -200,14 +203,16 @@ where
             Err(fault) => Err(signs.refused(fault)),
         },
     };
+    let outcome = match outcome {
+        Ok(()) => Ok(signs.taken()),
+        Err(reason) => Err(reason),
+    };
     let mut handler = house.handler.lock(rt);
     match &outcome {
-        Ok(()) => {
-            signs.taken();
-            handler.on_reload(None);
-        }
-        Err(Some(reason)) => handler.on_reload(Some(reason.as_str())),
-        Err(None) => handler.on_reload(Some(NO_MEMORY)),
+        Ok(Some(changes)) => handler.on_reload(Reloaded::Taken(Some(changes.as_str()))),
+        Ok(None) => handler.on_reload(Reloaded::Taken(None)),
+        Err(Some(reason)) => handler.on_reload(Reloaded::Refused(reason.as_str())),
+        Err(None) => handler.on_reload(Reloaded::Refused(NO_MEMORY)),
     }
 }
 

@@ -19,6 +19,8 @@ pub(crate) struct AskedService {
     pub config: Config,
     /// The texts of the configuration's warnings, a line each.
     pub warnings: String,
+    /// The octets of the configuration, if it may be read again.
+    pub octets: Option<Vec<u8>>,
     /// The path of the stop file, if any.
     pub stop_file: Option<String>,
     /// The path of the drain file, if any.
@@ -72,6 +74,16 @@ fn copied(alloc: Global, path: Option<&str>) -> Result<Option<String>, AllocErro
     }
 }
 
+/// A copy of octets, if there is to be one.
+fn copied_octets(alloc: Global, keeps: bool, octets: &[u8]) -> Result<Option<Vec<u8>>, AllocError> {
+    if !keeps {
+        return Ok(None);
+    }
+    let mut copy = Vec::with_capacity(alloc, octets.len())?;
+    copy.extend_from_slice(octets)?;
+    Ok(Some(copy))
+}
+
 /// A path, with that of a new file beside it.
 fn with_beside(alloc: Global, path: Option<&str>) -> Result<Option<(String, String)>, AllocError> {
     match path {
@@ -106,13 +118,16 @@ impl<W: TextWriter> Server<W> for Asked {
             path,
             config,
             warnings,
+            octets,
         } = read;
+        let octets = copied_octets(alloc, reload_file.is_some(), octets)?;
         let path = String::from_str(alloc, path)?;
         let warnings = String::from_str(alloc, warnings)?;
         self.service = Some(AskedService {
             path,
             config,
             warnings,
+            octets,
             stop_file,
             drain_file,
             reload_file,

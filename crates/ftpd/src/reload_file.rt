@@ -4,6 +4,7 @@ use crate::config_thread::{ConfigReader, ReadOctets};
 use crate::facts::{Start, copied_limits, facts_of};
 use crate::known::Known;
 use crate::sign_file::SignFile;
+use change_report::{ChangeReport, reload_report};
 use config_change::{FixedValues, count_fault, fixed_key, renumbered, with_past};
 use ftp_daemon::{Config, Reload, ReloadFault, ReloadSign, Terms};
 use line_rates::{Name, Way};
@@ -21,6 +22,19 @@ pub(crate) struct NextConfig {
     pub known: Known,
     /// The facts that a status shows; none without memory for them.
     pub facts: Option<StatusFacts>,
+    /// The octets of the configuration.
+    pub octets: Vec<u8>,
+}
+
+/// The configuration that the server has taken.
+#[derive(Drop)]
+pub(crate) struct TakenConfig {
+    /// Number of the users that it has no longer.
+    pub gone: u64,
+    /// The facts that its status shows from now on; none without memory for them.
+    pub facts: Option<StatusFacts>,
+    /// Its changes, in lines; none without memory for them.
+    pub changes: Option<String>,
 }
 
 /// A configuration that is read again once a file appears.
@@ -37,6 +51,8 @@ pub(crate) struct ReloadFile {
     /// The capacity of a store in memory.
     pub capacity: u64,
     pub known: Mutex<Known>,
+    /// The octets of the configuration that the server has.
+    pub octets: Mutex<Vec<u8>>,
     /// The configuration that the server is about to take.
     pub next: Mutex<Option<NextConfig>>,
     /// The file could not be removed.
@@ -96,15 +112,17 @@ pub(crate) fn capacity_of(store: &ServedStore) -> u64 {
 }
 
 /// The configuration of octets. `Err` is the reason for which they are none.
-fn config_of(alloc: Global, octets: ReadOctets) -> Result<Config, Option<String>> {
-    let octets = match octets {
-        Ok(octets) => octets,
-        Err(reason) => return Err(reason),
-    };
-    match Config::read(alloc, octets.as_slice()) {
+fn config_of(alloc: Global, octets: &[u8]) -> Result<Config, Option<String>> {
+    match Config::read(alloc, octets) {
         Ok(config) => Ok(config),
         Err(fault) => Err(words(alloc, &fault)),
     }
+}
+
+/// The lines of a report below the first, which says that a reload would be taken; none if memory runs out.
+fn below_first(alloc: Global, report: &str) -> Option<String> {
+    let (_, lines) = report.split_once('\n')?;
+    String::from_str(alloc, lines).ok()
 }
 
 /// The reason for which a configuration is not read again.
@@ -148,7 +166,8 @@ impl ReloadFile {
     // Takes the configuration of what was read, and keeps what it names until the server has taken it.
     fn read<R: Wait>(&self, rt: &R, octets: ReadOctets) -> Result<Reload, Option<String>> {
         let alloc = self.machine.alloc();
-        let config = config_of(alloc, octets)?;
+        let octets = octets?;
+        let config = config_of(alloc, octets.as_slice())?;
         if let Some(reason) = self.hindrance(&config) {
             return Err(reason);
         }
@@ -182,7 +201,11 @@ impl ReloadFile {
         let Ok(terms) = Arc::new(alloc, Terms { users, settings }) else {
             return Err(None);
         };
-        *self.next.lock(rt) = Some(NextConfig { known, facts });
+        *self.next.lock(rt) = Some(NextConfig {
+            known,
+            facts,
+            octets,
+        });
         Ok(Reload {
             terms,
             limits,
@@ -205,14 +228,33 @@ impl ReloadFile {
         }
     }
 
-    /// The server has taken the configuration. Returns the number of users that it has no longer, and the facts that its
-    /// status shows from now on.
-    pub fn taken<R: Wait>(&self, rt: &R) -> Option<(u64, Option<StatusFacts>)> {
-        let NextConfig { known, facts } = self.next.lock(rt).take()?;
+    /// The server has taken the configuration.
+    pub fn taken<R: Wait>(&self, rt: &R) -> Option<TakenConfig> {
+        let NextConfig {
+            known,
+            facts,
+            octets,
+        } = self.next.lock(rt).take()?;
         let mut earlier = self.known.lock(rt);
         let gone = earlier.gone(&known);
         *earlier = known;
-        Some((gone, facts))
+        Some(TakenConfig {
+            gone,
+            facts,
+            changes: self.changed(rt, octets),
+        })
+    }
+
+    // Exchanges the octets of the configuration for these. Returns what these change, in lines.
+    fn changed<R: Wait>(&self, rt: &R, octets: Vec<u8>) -> Option<String> {
+        let mut earlier = self.octets.lock(rt);
+        let alloc = self.machine.alloc();
+        let report = reload_report(alloc, false, octets.as_slice(), earlier.as_slice());
+        *earlier = octets;
+        match report {
+            Ok(ChangeReport { text, .. }) => below_first(alloc, text.as_str()),
+            Err(_) => None,
+        }
     }
 
     /// The reason in words for which the server has refused the configuration.

@@ -236,16 +236,16 @@ fn known_of(
     Ok((served, known))
 }
 
-/// The reload file of a configuration, if there is to be one and a thread that reads it.
+/// The reload file of a configuration with its octets, if there is to be one and a thread that reads it.
 fn reload_file(
     machine: &HostRuntime,
-    sign: Option<SignFile>,
+    stated: Option<(SignFile, Vec<u8>)>,
     reader: Option<Arc<ConfigReader>>,
     known: Known,
     served: &ServedConfig,
     start: Start,
 ) -> Result<Option<ReloadFile>, AllocError> {
-    let (Some(sign), Some(reader)) = (sign, reader) else {
+    let (Some((sign, octets)), Some(reader)) = (stated, reader) else {
         return Ok(None);
     };
     Ok(Some(ReloadFile {
@@ -256,6 +256,7 @@ fn reload_file(
         root: String::from_str(machine.alloc(), root_of(&served.store))?,
         capacity: capacity_of(&served.store),
         known: Mutex::new(known),
+        octets: Mutex::new(octets),
         next: Mutex::new(None),
         is_stuck: Mutex::new(false),
         start,
@@ -403,6 +404,7 @@ where
         path,
         config,
         warnings,
+        octets,
         form,
         stop,
         drain,
@@ -424,7 +426,7 @@ where
     let (cell, kept, watched) = cells(rt.alloc(), status.is_some() || page.is_some())?;
     let queued = QueuedLog::new(*rt, lines, form);
     let transfers = QueuedTransfers::new(*rt, transfers);
-    let notes = Notes::new(Logged::new(*machine, Level::Info, queued), form, transfers);
+    let notes = Notes::new(Logged::new(*machine, Level::Debug, queued), form, transfers);
     notes.note_warnings(warnings.as_str());
     let handler = StatusKeeper::new(*rt, notes, facts, kept);
     let (config, known) = known_of(rt.alloc(), config, syncs, user_sessions)?;
@@ -444,7 +446,7 @@ where
         stop,
         leaves: None,
         drain,
-        reload: reload_file(machine, reload, reader, known, &config, start)?,
+        reload: reload_file(machine, reload.zip(octets), reader, known, &config, start)?,
         end: end_file(machine, end, ender),
         notes: log.plain_notes()?,
         status: another(&threads.status)?,

@@ -8,7 +8,9 @@ use crate::sign_file::SignFile;
 use crate::stated_files::{FRONT, found_at, twin_of};
 use crate::status_file::StatusFile;
 use ftp_daemon::{Patience, ServeFault};
-use ftpd_program::{StartFault, is_free_for_log, is_free_for_status, stated_sessions};
+use ftpd_program::{
+    StartFault, is_for_nothing, is_free_for_log, is_free_for_status, stated_sessions,
+};
 use line_queue::LogForm;
 use server_config::{Config, ServedStore};
 use std::net::{Net, TcpListener, TcpStream};
@@ -21,6 +23,8 @@ pub(crate) struct Means {
     pub path: String,
     pub config: Config,
     pub warnings: String,
+    /// The octets of the configuration, if it may be read again.
+    pub octets: Option<Vec<u8>>,
     pub form: LogForm,
     pub stop: Option<SignFile>,
     pub drain: Option<SignFile>,
@@ -322,6 +326,7 @@ where
         path,
         config,
         warnings,
+        octets,
         stop_file,
         drain_file,
         reload_file,
@@ -337,6 +342,9 @@ where
     } = service;
     let form = part(form_named(log_form), ServeFault::LogForm)?;
     let user_sessions = part(sessions_in(user_sessions), ServeFault::UserSessions)?;
+    if is_for_nothing(patience, drain_file.is_some()) {
+        return Err(not_prepared(ServeFault::DrainSeconds, StartFault::NothingDrains));
+    }
     let stop = part(
         sign_if_any(machine, Sign::Stop, stop_file),
         ServeFault::Stopped,
@@ -359,6 +367,7 @@ where
         path,
         config,
         warnings,
+        octets,
         form,
         stop,
         drain,

@@ -4,7 +4,7 @@ ghost use Rattle.std.specs.Prelude.{true};
 
 use crate::end_file::EndFile;
 use crate::log_thread::PlainNotes;
-use crate::reload_file::ReloadFile;
+use crate::reload_file::{ReloadFile, TakenConfig};
 use crate::sign_file::{SignFile, SignLook};
 use crate::status_thread::StatusWriter;
 use folder_store::LeaveSign;
@@ -134,19 +134,22 @@ impl<R: Wait + AllocGlobal> OwnerSigns for MachineSigns<R> {
         }
     }
 
-    fn taken(&self) {
+    fn taken(&self) -> Option<String> {
         let Some(file) = &self.reload else {
-            return;
+            return None;
         };
-        let Some((gone, facts)) = file.taken(&self.rt) else {
-            return;
-        };
+        let TakenConfig {
+            gone,
+            facts,
+            changes,
+        } = file.taken(&self.rt)?;
         if gone > 0 {
             self.notes.note_gone(&self.rt, gone);
         }
         if let (Some(facts), Some(cell)) = (facts, &self.cell) {
             cell.put_facts(&self.rt, facts);
         }
+        changes
     }
 
     fn refused(&self, fault: ReloadFault) -> Option<String> {

@@ -13,6 +13,7 @@
 #![tactic(auto)]
 
 mod against;
+mod drain_limit;
 mod ending;
 mod paths;
 mod printing;
@@ -27,6 +28,7 @@ mod watching;
 
 pub use command_line::{Patience, ServeFiles};
 pub use config_report::{Lookout, Sight};
+pub use drain_limit::is_for_nothing;
 pub use ending::{FtpdErrorText, FtpdExit};
 pub use paths::{
     FileIdentity, FoundFile, StatedPath, first_twin, is_free_for_log, is_free_for_status,

@@ -1,6 +1,6 @@
 //! The command that serves a control session by a configuration.
 
-ghost use Rattle.std.specs.Prelude.{◌≡◌, ◌<◌, true, IfErr, IfOk, IfSome, IsErrOf, OnOk, length, string_bytes};
+ghost use Rattle.std.specs.Prelude.{◌≡◌, ◌<◌, true, IfErr, IfOk, IfSome, IsErrOf, OnOk, Some, length, string_bytes};
 ghost use Rattle.script_session.specs.Breaks.{MayBreakReading, MayBreakWriting};
 ghost use Rattle.script_session.specs.Served.{most_reads};
 ghost use Rattle.server_config.specs.Configs.{IsConfigText};
@@ -69,15 +69,16 @@ fn read_config<C: TextReader>(alloc: Global, reader: &mut C) -> Result<Config, S
 }
 
 /// Reads the configuration from a reader, and makes the texts of its warnings, a line each. Its file has that path, and
-/// the lookout looks at the machine.
+/// the lookout looks at the machine. Returns the octets that were read, too.
 pub(crate) fn read_warned<C: TextReader, L: Lookout>(
     alloc: Global,
     path: &str,
     reader: &mut C,
     lookout: &L,
-) -> Result<(Config, String), ScriptFault>
+) -> Result<(Config, String, Vec<u8>), ScriptFault>
     ensures warned { IfOk result (λ read. IsWarnedOf (L.Shows lookout.now) path.now
         (C.remaining reader.old) read.0 (string_bytes read.1)) }
+    ensures octets { IfOk result (λ read. C.remaining reader.old ≡ Some read.2.items) }
     ensures refused { IfErr result (IsUnconfigured (C.remaining reader.old)) }
     ensures too_long { IsErrOf result (ScriptFault.Text TextFault.TooLong)
         → IfSome (C.remaining reader.old) (λ text. MAX_TEXT < length text) }
@@ -85,7 +86,10 @@ pub(crate) fn read_warned<C: TextReader, L: Lookout>(
         → C.may_fail reader.old ≡ true }
 {
     match read_whole(alloc, reader) {
-        Ok(octets) => warned(alloc, path, octets.as_slice(), lookout),
+        Ok(octets) => {
+            let (config, reported) = warned(alloc, path, octets.as_slice(), lookout)?;
+            Ok((config, reported, octets))
+        }
         Err(why) => Err(ScriptFault::Text(why)),
     }
 }

@@ -43,6 +43,9 @@ pub enum ServeFault {
     /// The number of sessions that is stated is none.
     #[error("UserSessions")]
     UserSessions,
+    /// A time for draining is stated, and no drain file.
+    #[error("DrainSeconds")]
+    DrainSeconds,
     /// Two of the paths that are stated are those of one file.
     #[error("OnePath")]
     OnePath,
@@ -79,6 +82,8 @@ pub struct ReadConfig<'a> {
     pub config: Config,
     /// The texts of its warnings, a line each.
     pub warnings: &'a str,
+    /// The octets of the file.
+    pub octets: &'a [u8],
 }
 
 /// A server of clients. It writes a message to an output when it is ready, and the settled counts at its end.

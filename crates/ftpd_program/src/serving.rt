@@ -1,6 +1,6 @@
 //! The command that serves clients by a configuration.
 
-ghost use Rattle.std.specs.Prelude.{◌≡◌, ◌⊎◌, IfErr, IfOk, option_map, string_bytes};
+ghost use Rattle.std.specs.Prelude.{◌≡◌, ◌⊎◌, IfErr, IfOk, Some, option_map, string_bytes};
 ghost use Rattle.ftpd_program.specs.Endings.{IsUnwritten};
 ghost use Rattle.ftpd_program.specs.Causes.{IsReadWhy};
 ghost use Rattle.ftpd_program.specs.Serving.{IsServeEnd, IsUnconfiguredEnd, IsWarnedIn, end_of};
@@ -15,15 +15,16 @@ use sheets_program::{Exit as Common, Opener, text_cause};
 use std::alloc::Global;
 use text_io::{TextFault, TextWriter};
 
-/// Reads the configuration of a file, which is then closed, and makes the texts of its warnings. `Err` is the ending of
-/// the command without it.
+/// Reads the configuration of a file, which is then closed, and makes the texts of its warnings. Returns its octets, too.
+/// `Err` is the ending of the command without it.
 fn config_at<'w, O: Opener + Lookout>(
     alloc: Global,
     path: &'w str,
     files: &mut O,
-) -> Result<(Config, String), FtpdExit<'w>>
+) -> Result<(Config, String, Vec<u8>), FtpdExit<'w>>
     ensures config { IfOk result (λ read. IsWarnedIn (O.Gives files.old path.now)
         (O.Shows files.new) path.now read.0 (string_bytes read.1)) }
+    ensures octets { IfOk result (λ read. O.Gives files.old path.now (Some read.2.items)) }
     ensures refused { IfErr result (IsUnconfiguredEnd (O.Gives files.old path.now)) }
     ensures why { IfErr result
         (IsReadWhy path.now (O.MayRefuse files.old path.now ⊎ O.MayFail files.old path.now)) }
@@ -77,11 +78,12 @@ pub(crate) fn serve<'w, O: Opener + Lookout, W: TextWriter, V: Server<W>>(
     ensures unwritten { IsUnwritten result → output.new ≡ output.old }
 {
     match config_at(alloc, config, files) {
-        Ok((read, warnings)) => {
+        Ok((read, warnings, octets)) => {
             let read = ReadConfig {
                 path: config,
                 config: read,
                 warnings: warnings.as_str(),
+                octets: octets.as_slice(),
             };
             ended(server.serve(alloc, read, signs, patience, output))
         }

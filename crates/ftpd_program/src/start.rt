@@ -45,6 +45,8 @@ pub enum StartFault {
     StatusPortTaken { port: u16, reason: io::Error },
     /// This is no number of sessions (`UserSessions`).
     NoSessions { word: String },
+    /// A time for draining is stated, and no drain file (`DrainSeconds`).
+    NothingDrains,
     /// No form of notes has this name (`LogForm`).
     UnknownForm { word: String },
 }
@@ -117,6 +119,9 @@ impl fmt::Display for StartFault {
                     "{word:?} is no number of sessions: it must be one from 0 to {MOST_USER_SESSIONS}, in digits"
                 )
             }
+            StartFault::NothingDrains => f.write_str(
+                "--drain-seconds has no effect without --drain-file: state one, or leave it out",
+            ),
             StartFault::UnknownForm { word } => {
                 write!(f, "{word:?} is no form of notes: plain and journal are")
             }

@@ -5,7 +5,7 @@ use crate::expect::{holds, reports, same};
 use crate::texts::SMALL;
 use ftpd_program::{
     FtpdErrorText, FtpdExit, Patience, ReadConfig, ServeFault, ServeFiles, Server, StartFault,
-    run_words, stated_sessions,
+    is_for_nothing, run_words, stated_sessions,
 };
 use std::alloc::Global;
 use std::io;
@@ -369,6 +369,24 @@ fn end_files_and_sessions_are_explained(rt: HostRuntime) {
     );
     holds(&rt, stated_sessions("2") == Some(2));
     holds(&rt, stated_sessions("65536").is_none());
+}
+
+#[test]
+fn a_time_for_nothing_is_explained(rt: HostRuntime) {
+    starts_not(
+        &rt,
+        ServeFault::DrainSeconds,
+        &StartFault::NothingDrains,
+        "--drain-seconds has no effect without --drain-file: state one, or leave it out\nftpd: DrainSeconds\n",
+    );
+    let stated = Patience {
+        login_timeout: 60,
+        idle_timeout: 0,
+        login_delay: 1,
+        drain_timeout: 5,
+    };
+    holds(&rt, is_for_nothing(stated, false));
+    holds(&rt, !is_for_nothing(stated, true));
 }
 
 #[test]

@@ -49,8 +49,9 @@ pub use passive::{
 pub use runtime::ServerRuntime;
 pub use served::{Listing, Served};
 pub use server_hooks::{
-    BegunTransfer, ClientSession, LaneLook, NoHooks, NotEnded, NotServed, ServerEvent, ServerHooks,
-    ServerLook, SessionEvent, SessionRefusal, StoreNote, TransferKind, TransferRecord,
+    BegunTransfer, ClientSession, DeclinedCommand, LaneLook, NoHooks, NotEnded, NotServed,
+    Reloaded, ServerEvent, ServerHooks, ServerLook, SessionEvent, SessionRefusal, StoreNote,
+    TransferKind, TransferRecord,
 };
 pub use session_sign::SessionSign;
 pub use terms::{HeldTerms, SharedTerms, Terms};

@@ -48,7 +48,7 @@ impl Logins {
         ensures none { IfOk result (λ logins. logins.users.items ≡ replicate connections None) }
     {
         let mut users = Vec::with_capacity(alloc, connections)?;
-        for _ in 0..connections {
+        for i in 0..connections {
             users.push(None)?;
         }
         Ok(Logins { most, users })
@@ -56,7 +56,7 @@ impl Logins {
 
     /// Logs a user in, in the session of a connection, if that is within the limit. Otherwise returns `false` and changes
     /// nothing.
-    pub fn enter(&mut self, connection: usize, user: u32) -> bool
+    pub fn log_in(&mut self, connection: usize, user: u32) -> bool
         ensures place { result ≡ has_place self.old.most
             (sessions_of user self.old.users.items) }
         ensures entered { result ≡ true → self.new.users.items
@@ -74,7 +74,7 @@ impl Logins {
     }
 
     /// Logs out whoever is logged in, in the session of a connection.
-    pub fn leave(&mut self, connection: usize)
+    pub fn log_out(&mut self, connection: usize)
         ensures left { self.new.users.items ≡ slice_set self.old.users.items connection None }
         ensures most { self.new.most ≡ self.old.most }
     {

@@ -66,6 +66,29 @@ pub enum NotEnded<'a> {
     Unread(Option<&'a str>),
 }
 
+/// A command that was refused for what it asks of the store: its path, the letters of its user, or what is there (the
+/// replies 550 and 553, and 501 of a listing).
+#[derive(Clone, Copy)]
+pub struct DeclinedCommand<'a> {
+    /// The name of the user; empty before a login.
+    pub user: &'a str,
+    /// The working directory, in which a relative path lies.
+    pub directory: &'a str,
+    /// The command and its argument.
+    pub line: &'a str,
+    /// The code and the text of the reply.
+    pub reply: &'a str,
+}
+
+/// The outcome of a changed configuration.
+#[derive(Clone, Copy)]
+pub enum Reloaded<'a> {
+    /// The server has it, with what that changes, in lines; none if that is not known.
+    Taken(Option<&'a str>),
+    /// The server goes on with the one before, for this reason.
+    Refused(&'a str),
+}
+
 /// An event of the whole server.
 #[derive(Clone, Copy)]
 pub enum ServerEvent {
@@ -222,14 +245,17 @@ pub trait ServerHooks: Drop {
     /// An event of this session for which a handler has no callback.
     fn on_session(&mut self, _session: ClientSession, _event: SessionEvent) {}
 
+    /// A command of this session was refused for what it asks of the store.
+    fn on_declined(&mut self, _session: ClientSession, _command: &DeclinedCommand<'_>) {}
+
     /// A client of this address is not served.
     fn on_refused(&mut self, _peer: [u8; 4], _why: NotServed) {}
 
     /// An event of the server.
     fn on_server(&mut self, _event: ServerEvent) {}
 
-    /// The server has taken a changed configuration, or has refused it for this reason.
-    fn on_reload(&mut self, _refused: Option<&str>) {}
+    /// The server has taken a changed configuration, or has refused it.
+    fn on_reload(&mut self, _outcome: Reloaded<'_>) {}
 
     /// The owner asked for the end of a session, and none ends.
     fn on_not_ended(&mut self, _why: NotEnded<'_>) {}

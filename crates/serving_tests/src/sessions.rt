@@ -7,13 +7,13 @@ use std::process::Abort;
 #[test]
 fn a_user_has_two_sessions(rt: HostRuntime) {
     let mut logins = Logins::new(rt.alloc(), 4, 2).expect(&rt, "memory");
-    holds(&rt, logins.enter(0, 5));
-    holds(&rt, logins.enter(1, 5));
-    holds(&rt, !logins.enter(2, 5));
-    holds(&rt, logins.enter(2, 6));
-    logins.leave(0);
-    holds(&rt, logins.enter(3, 5));
-    holds(&rt, !logins.enter(0, 5));
+    holds(&rt, logins.log_in(0, 5));
+    holds(&rt, logins.log_in(1, 5));
+    holds(&rt, !logins.log_in(2, 5));
+    holds(&rt, logins.log_in(2, 6));
+    logins.log_out(0);
+    holds(&rt, logins.log_in(3, 5));
+    holds(&rt, !logins.log_in(0, 5));
 }
 
 #[test]

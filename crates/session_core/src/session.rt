@@ -44,6 +44,7 @@ impl<A: Allocator + Clone> Session<A> {
     ghost use Rattle.session_table.specs.Steps.{IsTaken, SessionStep, SessionStops, Took, asks_floors, in_its_turn, is_due};
     ghost use Rattle.session_table.specs.Table.{closed_at, gives_up, holds, idle, meanwhile, ready_at};
     ghost use Rattle.session_table.specs.Views.{counts_lines, fresh, is_closed, is_inside};
+    ghost use Rattle.virtual_path.specs.Path.{path_text};
 
     /// A new session of a client at this address.
     pub fn new(alloc: A, settings: Settings<A>, peer: [u8; 4]) -> Result<Session<A>, AllocError>
@@ -76,6 +77,13 @@ impl<A: Allocator + Clone> Session<A> {
         self.state.stage() == Stage::Inside
     }
 
+    /// The working directory.
+    pub fn directory(&self) -> &str
+        ensures directory { result.now ≡ path_text self.now.view.cwd }
+    {
+        self.state.cwd().text()
+    }
+
     /// Returns whether lines are served or held, and not ignored.
     fn is_open(&self) -> bool
         ensures open { result ≡ counts_lines self.now.view }
@@ -105,8 +113,8 @@ impl<A: Allocator + Clone> Session<A> {
         }
     }
 
-    // The line whose turn it is at an input: a new one if no line waits, otherwise the first of those that wait.
-    fn in_turn<'s, K>(&'s self, input: &'s Input<A, K>) -> Option<&'s LineItem<A>>
+    /// The line whose turn it is at an input: a new one if no line waits, otherwise the first of those that wait.
+    pub fn in_turn<'s, K>(&'s self, input: &'s Input<A, K>) -> Option<&'s LineItem<A>>
         ensures turn { option_map (λ item. item_of item.now) result
             ≡ in_its_turn input.now self.now.held }
     {

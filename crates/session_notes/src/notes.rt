@@ -7,12 +7,14 @@ use crate::moment::{second_of, seconds_of};
 use crate::stamp::Stamp;
 use crate::stores::{ChangeText, level_of_record, path_in, path_to, record_words};
 use crate::transfers::{TransferText, file_transfer};
-use crate::words::{CauseText, ServerText, SessionHead, SessionText, note_of, refusal_words};
+use crate::words::{
+    CauseText, DeclinedText, ServerText, SessionHead, SessionText, note_of, refusal_words,
+};
 use line_queue::LogForm;
 use log::{Level, Log, log};
 use server_house::{
-    BegunTransfer, ClientSession, NotEnded, NotServed, ServerEvent, ServerHooks, ServerLook,
-    SessionEvent, StoreNote, TransferRecord,
+    BegunTransfer, ClientSession, DeclinedCommand, NotEnded, NotServed, Reloaded, ServerEvent,
+    ServerHooks, ServerLook, SessionEvent, StoreNote, TransferRecord,
 };
 use session_table::HookCall;
 use std::alloc::Global;
@@ -50,6 +52,19 @@ impl<L: Log + Clock, T: TransferLog> Notes<L, T> {
         Stamp::new(self.form, second_of(self.log.since_1970()))
     }
 
+    // Notes what a configuration changes, which are the lines of a text that are not empty, if it is known.
+    fn note_changes(&self, changes: Option<&str>) {
+        let Some(changes) = changes else {
+            return;
+        };
+        for line in changes.lines() {
+            if !line.is_empty() {
+                let stamp = self.stamp();
+                log!(self.log; target: "", Level::Info, "{stamp}configuration: {line}");
+            }
+        }
+    }
+
     /// Notes the warnings of a configuration, which are the lines of a text.
     pub fn note_warnings(&self, texts: &str) {
         for line in texts.lines() {
@@ -78,6 +93,13 @@ impl<L: Log + Clock + Drop, T: TransferLog + Drop> ServerHooks for Notes<L, T> {
         log!(self.log; target: "", level, "{stamp}{head} {text}");
     }
 
+    fn on_declined(&mut self, session: ClientSession, command: &DeclinedCommand<'_>) {
+        let stamp = self.stamp();
+        let head = SessionHead(session);
+        let text = DeclinedText(*command);
+        log!(self.log; target: "", Level::Debug, "{stamp}{head} {text}");
+    }
+
     fn on_refused(&mut self, peer: [u8; 4], why: NotServed) {
         let stamp = self.stamp();
         let peer = Ipv4Addr::from(peer);
@@ -93,11 +115,14 @@ impl<L: Log + Clock + Drop, T: TransferLog + Drop> ServerHooks for Notes<L, T> {
         log!(self.log; target: "", level, "{stamp}{text}");
     }
 
-    fn on_reload(&mut self, refused: Option<&str>) {
+    fn on_reload(&mut self, outcome: Reloaded<'_>) {
         let stamp = self.stamp();
-        match refused {
-            None => log!(self.log; target: "", Level::Info, "{stamp}configuration reloaded"),
-            Some(why) => {
+        match outcome {
+            Reloaded::Taken(changes) => {
+                log!(self.log; target: "", Level::Info, "{stamp}configuration reloaded");
+                self.note_changes(changes);
+            }
+            Reloaded::Refused(why) => {
                 log!(self.log; target: "", Level::Warn, "{stamp}configuration not reloaded: {why}");
             }
         }

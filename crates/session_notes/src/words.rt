@@ -5,7 +5,9 @@ ghost use Rattle.session_notes.specs.Words.{cause_words, event_words, note_of, p
 
 use client_patience::TimeOut;
 use passive_ports::AdmitFault;
-use server_house::{ClientSession, EndCause, NotServed, ServerEvent, SessionEvent, SessionRefusal};
+use server_house::{
+    ClientSession, DeclinedCommand, EndCause, NotServed, ServerEvent, SessionEvent, SessionRefusal,
+};
 use session_table::HookCall;
 use std::alloc::Global;
 use std::io::ErrorKind;
@@ -186,6 +188,25 @@ impl fmt::Display for SessionText {
                 f.write_str(words)
             }
         }
+    }
+}
+
+/// A command that was refused for what it asks of the store.
+#[derive(Clone, Copy)]
+pub(crate) struct DeclinedText<'a>(pub DeclinedCommand<'a>);
+
+impl fmt::Display for DeclinedText<'_> {
+    fn fmt<W: fmt::Write>(&self, f: &mut fmt::Formatter<W>) -> fmt::Result {
+        let DeclinedCommand {
+            user,
+            directory,
+            line,
+            reply,
+        } = self.0;
+        write!(
+            f,
+            "declined {line:?}: user {user:?}, in {directory:?}: {reply}"
+        )
     }
 }
 

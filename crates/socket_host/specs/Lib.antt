@@ -1,5 +1,6 @@
 pub mod Causes
 pub mod Cuts
+pub mod Declined
 pub mod Entrants
 pub mod Jobs
 pub mod Keeping

@@ -15,6 +15,7 @@ ghost use Rattle.socket_host.specs.Doing.{SocketDoes, Stays, kept_users};
 ghost use Rattle.socket_host.specs.Lending.{LentFor, RefusedFor};
 
 use crate::control::ControlSocket;
+use crate::declining::{declined, line_of, reply_of, without_end};
 use crate::judging::{
     asks_floors, cause_of_cut, cause_with, ends_file, ends_listing, entrant, is_end, is_line,
     is_text, is_without_port, kind_of,
@@ -35,11 +36,11 @@ use line_rates::Limits;
 use rate_floors::Floors;
 use recorded_store::{Recorder, StoreRecord};
 use server_house::{
-    BegunTransfer, ClientSession, EndCause, HeldTerms, House, OwnRuns, ServerHooks, ServerRuntime,
-    SessionEvent, SessionRefusal, ShutdownStage, StoreNote, TransferKind, TransferRecord,
-    copy_settings,
+    BegunTransfer, ClientSession, DeclinedCommand, EndCause, HeldTerms, House, OwnRuns,
+    ServerHooks, ServerRuntime, SessionEvent, SessionRefusal, ShutdownStage, StoreNote,
+    TransferKind, TransferRecord, copy_settings,
 };
-use session_table::{Action, HookCall, Input, Job, Settings, Text};
+use session_table::{Action, HookCall, Input, Job, Refusal, Settings, Text};
 use std::alloc::{AllocError, Global};
 use std::time::Duration;
 use std::{io, thread};
@@ -210,7 +211,7 @@ where
 
     // Leaves the place among the sessions of a user.
     fn leave_place(&self) {
-        self.house.logins.lock(self.rt).leave(self.own.number);
+        self.house.logins.lock(self.rt).log_out(self.own.number);
     }
 
     // Leaves the place that was taken for a step with PASS, if nobody is logged in after it.
@@ -222,7 +223,7 @@ where
 
     // Takes a place among the sessions of a user. Returns whether there is one.
     fn takes_place(&self, user: u32) -> bool {
-        self.house.logins.lock(self.rt).enter(self.own.number, user)
+        self.house.logins.lock(self.rt).log_in(self.own.number, user)
     }
 
     // Ends the session in the place of a step that would log a user in, by newer terms if there are any, who is logged in as
@@ -470,6 +471,23 @@ where
         }
     }
 
+    // Reports a command that was refused for what it asks of the store. Without memory nothing is reported.
+    fn report_declined(&self, session: &Session<Global>, line: &[u8], refusal: Refusal) {
+        let Ok(reply) = reply_of(self.rt.alloc(), refusal) else {
+            return;
+        };
+        let command = DeclinedCommand {
+            user: self.standing.name(),
+            directory: session.directory(),
+            line: without_end(line),
+            reply: without_end(reply.as_slice()),
+        };
+        self.house
+            .handler
+            .lock(self.rt)
+            .on_declined(self.own, &command);
+    }
+
     // Makes a step of the session. Returns the record of its store too.
     fn step_over(
         &mut self,
@@ -643,10 +661,14 @@ where
         }
         let is_pass = asks_floors(session, input);
         self.take_terms(newer, session.is_inside());
+        let line = line_of(self.rt.alloc(), session, input);
         let (made, record) = self.step_over(session, input);
         self.keep_place(is_pass, session);
         self.follow_store(record, is_refused(&made));
         self.report_made(&made);
+        if let (Some(line), Some(refusal)) = (line, declined(&made)) {
+            self.report_declined(session, line.as_slice(), refusal);
+        }
         made
     }
 

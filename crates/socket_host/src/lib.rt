@@ -11,7 +11,9 @@
 //! a running transfer has ended. A client that passes a limit of time is told so, and is gone for the session (`client_patience`).
 #![tactic(auto)]
 
+mod awaited;
 mod control;
+mod declining;
 mod host;
 mod judging;
 mod keeping;

@@ -11,8 +11,9 @@ ghost use Rattle.transfer_ticket.specs.Tickets as ticket;
 ghost use Rattle.transfer_ticket.specs.Views.{owner_view};
 ghost use Rattle.transfer_ticket.specs.declared.view.TicketView.TheVariants.{Idle};
 
+use crate::awaited::AwaitedClient;
 use crate::keeping::KeptPort;
-use crate::ports::{SharedPorts, early_of};
+use crate::ports::SharedPorts;
 use crate::run::{SessionRun, Taken};
 use crate::running::{Prepared, Running, is_brief, is_upload, over};
 use event_word::{has_passed, micros};
@@ -21,7 +22,7 @@ use lent_parts::PartsName;
 use passive_ports::{MOST_TRIES, open_passive};
 use server_house::{
     DataConnection, EndCause, House, LaneEnds, Outgoing, OwnRuns, PeerConnection, Progress,
-    ServerRuntime, SessionEnd, SessionJob, TransferEnd, accept_from, empty_queue, socket_address,
+    ServerRuntime, SessionEnd, SessionJob, TransferEnd, empty_queue, socket_address,
 };
 use session_table::{End, Input, Job};
 use std::alloc::Global;
@@ -101,14 +102,12 @@ pub struct SocketSide<'h, R, S: Store<Global>, H: Drop, B: PartsName, T> {
     house: &'h House<S, H, B>,
     // runs brief downloads here
     runs: &'h T,
-    // the peer whose data connections are accepted; none for any
-    wanted: Option<[u8; 4]>,
+    // the client whose data connections are accepted, and that which came before its transfer was begun
+    client: AwaitedClient,
     // the number of its ticket, and its right to that
     session: u32,
     run: SessionRun<'h, S>,
     prepared: Prepared,
-    // the client's connection, if it came to the port that is listened on before its transfer was begun
-    early: Option<PeerConnection>,
     // the port of the transfer before, if it is kept for the next
     kept: KeptPort,
     // the reason for the last end that was made or taken, unless it is that all was moved
@@ -143,6 +142,7 @@ where
         ensures prepared { result.prepared ≡ Prepared.Nothing }
         ensures running { result.run.running ≡ Running.Nothing }
         ensures ready { result.ready ≡ None }
+        ensures wanted { result.client.wanted ≡ wanted }
         ensures keeps { result.kept.keeps ≡ may_keep house.now.numbers wanted }
         ensures kept { result.kept.at ≡ None }
     {
@@ -150,11 +150,10 @@ where
             rt,
             house,
             runs,
-            wanted,
+            client: AwaitedClient::new(wanted),
             session,
             run: SessionRun::new(owner),
             prepared: Prepared::Nothing,
-            early: None,
             kept: KeptPort::new(&house.numbers, wanted),
             cause: None,
             moved: 0,
@@ -166,13 +165,14 @@ where
     /// Drops what was prepared; a port then rests.
     pub fn drop_data(&mut self)
         ensures prepared { self.new.prepared ≡ Prepared.Nothing }
+        ensures early { self.new.client.early ≡ None }
         ensures running { self.new.run.running ≡ self.old.run.running }
         ensures ready { self.new.ready ≡ self.old.ready }
         ensures cause { self.new.cause ≡ self.old.cause }
         ensures kept { self.new.kept ≡ self.old.kept }
         ensures payer { self.new.run.payer ≡ self.old.run.payer }
     {
-        self.early = None;
+        self.client.forget();
         let before = mem::replace(&mut self.prepared, Prepared::Nothing);
         match before {
             Prepared::Listening(listener, port) => self.close_port(listener, port),
@@ -221,11 +221,7 @@ where
         ensures payer { self.new.run.payer ≡ self.old.run.payer }
     {
         if let Prepared::Listening(listener, _) = &self.prepared {
-            if self.early.is_none() {
-                self.early = early_of(listener, self.wanted);
-            } else {
-                empty_queue(listener);
-            }
+            self.client.welcome(listener);
         }
     }
 
@@ -362,6 +358,19 @@ where
         }
     }
 
+    // Hands the transfer of a client that has connected to its port to the lanes.
+    fn hand_over_to(&mut self, client: PeerConnection, job: Job<Global, S::Source, S::Sink>)
+        requires nothing { self.old.run.running ≡ Running.Nothing }
+        requires peer { client.peer ≡ self.old.client.wanted }
+        ensures running { IsHandedOver job self.new.run.running }
+        ensures prepared { self.new.prepared ≡ self.old.prepared }
+        ensures ready { self.new.ready ≡ self.old.ready }
+        ensures kept { self.new.kept ≡ self.old.kept }
+        ensures payer { self.new.run.payer ≡ self.old.run.payer }
+    {
+        self.hand_over(client.into_stream(), job);
+    }
+
     // Ends a transfer for which there is no memory.
     fn end_unbegun(&mut self, job: Job<Global, S::Source, S::Sink>)
         requires nothing { self.old.run.running ≡ Running.Nothing }
@@ -421,21 +430,6 @@ where
         self.run.running = over(End::NoConnection, job);
     }
 
-    // The client's connection at a port: that which came early, or one that has come by now.
-    fn arrived(&mut self, listener: &TcpListener) -> Option<PeerConnection>
-        ensures prepared { self.new.prepared ≡ self.old.prepared }
-        ensures running { self.new.run.running ≡ self.old.run.running }
-        ensures ready { self.new.ready ≡ self.old.ready }
-        ensures cause { self.new.cause ≡ self.old.cause }
-        ensures kept { self.new.kept ≡ self.old.kept }
-        ensures payer { self.new.run.payer ≡ self.old.run.payer }
-    {
-        match mem::replace(&mut self.early, None) {
-            Some(connection) => Some(connection),
-            None => accept_from(listener, self.wanted),
-        }
-    }
-
     // Checks once, at this moment, whether the client has connected to its port. The port is then kept, if ports are.
     fn await_client(
         &mut self,
@@ -452,11 +446,11 @@ where
         ensures kept { Keeps self.old.kept (listener, port) self.new.run.running self.new.kept }
         ensures payer { self.new.run.payer ≡ self.old.run.payer }
     {
-        match self.arrived(&listener) {
+        match self.client.take(&listener) {
             Some(connection) => {
                 let closed = self.kept.keep(listener, port);
                 self.close(closed);
-                self.hand_over(connection.into_stream(), job);
+                self.hand_over_to(connection, job);
             }
             None => {
                 if has_passed(since, now, PATIENCE) {
@@ -759,11 +753,10 @@ where
             rt: _,
             house: _,
             runs: _,
-            wanted: _,
+            client: _,
             session: _,
             run,
             prepared: _,
-            early: _,
             kept: _,
             cause: _,
             moved: _,

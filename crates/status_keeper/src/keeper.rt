@@ -8,8 +8,8 @@ use crate::facts::{Counts, KeptTransfer, StatusFacts};
 use crate::making::status_of;
 use crate::shown::shown_path;
 use server_house::{
-    BegunTransfer, ClientSession, NotEnded, NotServed, ServerEvent, ServerHooks, ServerLook,
-    SessionEvent, StoreNote, TransferRecord,
+    BegunTransfer, ClientSession, DeclinedCommand, NotEnded, NotServed, Reloaded, ServerEvent,
+    ServerHooks, ServerLook, SessionEvent, StoreNote, TransferRecord,
 };
 use session_table::HookCall;
 use std::alloc::{AllocError, Global};
@@ -137,6 +137,10 @@ impl<R: Wait + AllocGlobal + Drop, N: ServerHooks> ServerHooks for StatusKeeper<
         self.within.on_session(session, event);
     }
 
+    fn on_declined(&mut self, session: ClientSession, command: &DeclinedCommand<'_>) {
+        self.within.on_declined(session, command);
+    }
+
     fn on_refused(&mut self, peer: [u8; 4], why: NotServed) {
         self.counts.refused = self.counts.refused.saturating_add(1);
         self.within.on_refused(peer, why);
@@ -147,13 +151,13 @@ impl<R: Wait + AllocGlobal + Drop, N: ServerHooks> ServerHooks for StatusKeeper<
         self.within.on_server(event);
     }
 
-    fn on_reload(&mut self, refused: Option<&str>) {
-        if let (None, Some(cell)) = (refused, &self.cell) {
+    fn on_reload(&mut self, outcome: Reloaded<'_>) {
+        if let (Reloaded::Taken(_), Some(cell)) = (outcome, &self.cell) {
             if let Some(facts) = cell.take_facts(&self.rt) {
                 self.facts = facts;
             }
         }
-        self.within.on_reload(refused);
+        self.within.on_reload(outcome);
     }
 
     fn on_not_ended(&mut self, why: NotEnded<'_>) {

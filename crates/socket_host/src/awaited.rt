@@ -1,0 +1,64 @@
+//! The client whom a session's passive ports are for.
+
+ghost use Rattle.std.specs.Prelude.{◌≡◌, IfSome, None, Some};
+
+use crate::ports::early_of;
+use server_house::{PeerConnection, accept_from, empty_queue};
+use std::mem;
+use std::net::TcpListener;
+
+/// The client of a session's passive ports: the peer whose connections are taken, none for any, and its connection if
+/// that came before its transfer was begun. By its type, no stranger's connection is held or handed out.
+#[derive(Drop)]
+pub(crate) struct AwaitedClient {
+    wanted: Option<[u8; 4]>,
+    early: Option<PeerConnection>,
+    ghost own: { IfSome early (λ connection. connection.peer ≡ wanted) },
+}
+
+impl AwaitedClient {
+    /// This peer, or any if none is given, of whom no connection has come.
+    pub(crate) fn new(wanted: Option<[u8; 4]>) -> AwaitedClient
+        ensures wanted { result.wanted ≡ wanted }
+        ensures none { result.early ≡ None }
+    {
+        AwaitedClient {
+            wanted,
+            early: None,
+        }
+    }
+
+    /// Takes the client's connection from the queue of a listener, if it has come, and holds it. All others are closed, as
+    /// is every one once the client's is held.
+    pub(crate) fn welcome(&mut self, listener: &TcpListener)
+        ensures wanted { self.new.wanted ≡ self.old.wanted }
+        ensures held { IfSome self.old.early (λ connection. self.new.early ≡ Some connection) }
+    {
+        if self.early.is_none() {
+            self.early = early_of(listener, self.wanted);
+        } else {
+            empty_queue(listener);
+        }
+    }
+
+    /// The client's connection at a listener: that which came early, or one that has come by now.
+    pub(crate) fn take(&mut self, listener: &TcpListener) -> Option<PeerConnection>
+        ensures peer { IfSome result (λ connection. connection.peer ≡ self.old.wanted) }
+        ensures held { IfSome self.old.early (λ connection. result ≡ Some connection) }
+        ensures none { self.new.early ≡ None }
+        ensures wanted { self.new.wanted ≡ self.old.wanted }
+    {
+        match mem::replace(&mut self.early, None) {
+            Some(connection) => Some(connection),
+            None => accept_from(listener, self.wanted),
+        }
+    }
+
+    /// Closes the connection that is held, if there is one.
+    pub(crate) fn forget(&mut self)
+        ensures none { self.new.early ≡ None }
+        ensures wanted { self.new.wanted ≡ self.old.wanted }
+    {
+        self.early = None;
+    }
+}

@@ -43,8 +43,9 @@ pub use recorded_store::{RecordedStore, StoreRecord};
 pub use server::FtpServer;
 pub use server_config::{Config, ConfigFault, ServedStore, ServerNumbers};
 pub use server_house::{
-    BegunTransfer, ClientSession, EndCause, LaneLook, NoHooks, NotEnded, NotServed, ServerEvent,
-    ServerHooks, ServerLook, SessionEvent, SessionRefusal, StoreNote, TransferKind, TransferRecord,
+    BegunTransfer, ClientSession, DeclinedCommand, EndCause, LaneLook, NoHooks, NotEnded,
+    NotServed, Reloaded, ServerEvent, ServerHooks, ServerLook, SessionEvent, SessionRefusal,
+    StoreNote, TransferKind, TransferRecord,
 };
 pub use session_table::{HookCall, Settings};
 pub use stop_flag::StopFlag;

@@ -156,7 +156,9 @@ impl FtpServer {
             × All (λ opened. opened.store.syncs ≡ self.now.syncs) stores.own.items) }
         ensures fault { IfErr result IsFolderFault }
     {
-        open_folder(machine, folder, self.numbers.max_cons, self.syncs, flag)
+        let connections = self.numbers.max_cons;
+        let room = Vec::with_capacity(machine.alloc(), usize::from(connections))?;
+        open_folder(machine, folder, room, connections, self.syncs, flag)
     }
 
     /// Serves these stores until the owner's signs end it, or it has had as many sessions as `numbers.sessions` says; each
@@ -236,8 +238,9 @@ impl FtpServer {
     {
         let parts = self.into_parts()?;
         let flag = StopFlag::new(machine.alloc())?;
-        let (connections, syncs) = (parts.numbers.max_cons, parts.syncs);
-        let stores = open_folder(machine, folder, connections, syncs, &flag)?;
+        let connections = parts.numbers.max_cons;
+        let room = Vec::with_capacity(machine.alloc(), usize::from(connections))?;
+        let stores = open_folder(machine, folder, room, connections, parts.syncs, &flag)?;
         serve_parts(rt, parts, stores, handler, NoSigns)
     }
 

@@ -54,6 +54,7 @@ pub type FolderStore = DirStore<HostRuntime>;
 fn open_recorded(
     machine: &HostRuntime,
     folder: &str,
+    error: LastFault,
     syncs: bool,
     flag: &StopFlag,
 ) -> Result<RecordedStore<FolderStore>, FtpServerFault>
@@ -61,7 +62,6 @@ fn open_recorded(
     ensures syncs { IfOk result (λ opened. opened.store.syncs ≡ syncs) }
     ensures fault { IfErr result IsFolderFault }
 {
-    let error = LastFault::new(machine.alloc())?;
     let kept = error.another()?;
     let sign = flag.sign.another()?;
     match DirStore::new(*machine, folder, kept) {
@@ -74,37 +74,17 @@ fn open_recorded(
     }
 }
 
-// Opens the folder once for each of this number of connections.
-fn open_own(
-    machine: &HostRuntime,
-    folder: &str,
-    connections: u16,
-    syncs: bool,
-    flag: &StopFlag,
-) -> Result<Vec<RecordedStore<FolderStore>>, FtpServerFault>
-    ensures own { IfOk result (λ own. length own.items ≡ connections) }
-    ensures folder { IfOk result (λ own.
-        All (λ opened. opened.store.folder ≡ folder.now) own.items) }
-    ensures syncs { IfOk result (λ own. All (λ opened. opened.store.syncs ≡ syncs) own.items) }
-    ensures fault { IfErr result IsFolderFault }
-{
-    let mut own = Vec::new(machine.alloc());
-    for _ in 0..connections {
-        let another = open_recorded(machine, folder, syncs, flag)?;
-        own.push(another)?;
-    }
-    Ok(own)
-}
-
-/// Opens a folder of the machine, as a store for all and as one for each of this number of connections. Returns `Folder` if
-/// it cannot be opened.
+/// Opens a folder of the machine, as a store for all and as one for each of this number of connections, which go into the
+/// room. Returns `Folder` if it cannot be opened.
 pub(crate) fn open_folder(
     machine: &HostRuntime,
     folder: &str,
+    room: Vec<RecordedStore<FolderStore>>,
     connections: u16,
     syncs: bool,
     flag: &StopFlag,
 ) -> Result<Stores<FolderStore>, FtpServerFault>
+    requires room { room.items ≡ [] }
     ensures own { IfOk result (λ stores. length stores.own.items ≡ connections) }
     ensures folder { IfOk result (λ stores. (stores.store.store.folder ≡ folder.now)
         × All (λ opened. opened.store.folder ≡ folder.now) stores.own.items) }
@@ -112,7 +92,13 @@ pub(crate) fn open_folder(
         × All (λ opened. opened.store.syncs ≡ syncs) stores.own.items) }
     ensures fault { IfErr result IsFolderFault }
 {
-    let store = open_recorded(machine, folder, syncs, flag)?;
-    let own = open_own(machine, folder, connections, syncs, flag)?;
+    let error = LastFault::new(machine.alloc())?;
+    let store = open_recorded(machine, folder, error, syncs, flag)?;
+    let mut own = room;
+    for _ in 0..connections {
+        let error = LastFault::new(machine.alloc())?;
+        let another = open_recorded(machine, folder, error, syncs, flag)?;
+        own.push(another)?;
+    }
     Ok(Stores { store, own })
 }

@@ -175,14 +175,16 @@ def commands_that_are_declined():
     with Server(sessions=0, root="folder", files={"f": b"a\nb", "in": None}, stop=True) as server:
         client = Client(server, "bob", "b")
         client.says("CWD nowhere", "550 No such file or directory")
-        client.says("CWD in", "250 Directory changed")
         client.says("DELE x y", "550 Not permitted")
-        client.says("TYPE A", "200 Type set to A")
+        client.says("USER ann", "331 Password required")
+        client.says("PASS secret", "230 Welcome")
+        client.says("CWD in", "250 Directory changed")
+        client.says("TYPE A", "200 ...")
         client.says("SIZE f", "550 SIZE needs TYPE I")
         client.says("RNTO g", "503 Send RNFR first")
         client.says("CWD \u202ea", "550 No such file or directory")
         data = client.passive()
-        client.send("LIST", "MDTM gone")
+        client.send("LIST\r\nMDTM gone")
         data.whole()
         client.says(None, "150 Opening data connection", "226 Transfer complete", "550 No such file or directory")
         client.says("USER ann", "331 Password required")
@@ -194,9 +196,9 @@ def commands_that_are_declined():
         same({it[0] for it in found}, {"[DEBUG]"}, "levels")
         same([it[4] for it in found], [
             'declined "CWD nowhere": user "bob", in "/": 550 No such file or directory',
-            'declined "DELE x y": user "bob", in "/in": 550 Not permitted',
-            'declined "CWD \\u{202e}a": user "bob", in "/in": 550 No such file or directory',
-            'declined "MDTM gone": user "bob", in "/in": 550 No such file or directory',
+            'declined "DELE x y": user "bob", in "/": 550 Not permitted',
+            'declined "CWD \\u{202e}a": user "ann", in "/in": 550 No such file or directory',
+            'declined "MDTM gone": user "ann", in "/in": 550 No such file or directory',
         ], "the notes")
         want("wrong" not in server.all_noted(), "a password is noted")
 

@@ -1,7 +1,9 @@
 """A configuration that is read again while the server runs: nobody is cut, and whoever comes afterwards meets the new one."""
+import contextlib
 import os
 import select
 import socket
+import threading
 import time
 
 from serving_drain import drained
@@ -73,8 +75,8 @@ def a_rate_is_halved_and_a_user_added():
         moved_in(pairs, 1.5)
         text = text_of(server, RATE // 2, {**USERS, "carol": ""})
         server.reloaded(text)
+        until(lambda: len(changes_noted(server)) == 3, "the notes of what has changed")
         changed = changes_noted(server)
-        same(len(changed), 3, changed)
         same(changed[0], "user carol is added", "the first change")
         want(changed[1].startswith("octets a second "), changed)
         same(changed[2].split(), ["server", "rate", str(RATE), str(RATE // 2)], "the rate")
@@ -256,19 +258,27 @@ def ten_reloads_under_load():
         server.ended()
 
 
-def both_ways(down, up, seconds):
-    """The octets that come on one data connection, and those that another takes, in some seconds."""
-    had, sent, end, zeros = 0, 0, time.monotonic() + seconds, bytes(65_536)
-    up.socket.setblocking(False)
-    while (rest := end - time.monotonic()) > 0:
-        ready, free, _ = select.select([down.socket], [up.socket], [], rest)
-        if ready:
-            piece = down.socket.recv(65_536)
-            want(piece, "a transfer that ended")
-            had += len(piece)
-        if free:
-            sent += up.socket.send(zeros)
-    return had, sent
+@contextlib.contextmanager
+def moving(down, up):
+    """Reads one data connection and writes another all the time, in a thread of its own. Gives the counts of octets so far, as a list."""
+    counts, zeros, ends = [0, 0], bytes(65_536), threading.Event()
+
+    def move():
+        up.socket.setblocking(False)
+        while not ends.is_set():
+            ready, free, _ = select.select([down.socket], [up.socket], [], 0.1)
+            if ready:
+                counts[0] += len(down.socket.recv(65_536))
+            if free:
+                counts[1] += up.socket.send(zeros)
+
+    thread = threading.Thread(target=move)
+    thread.start()
+    try:
+        yield counts
+    finally:
+        ends.set()
+        thread.join()
 
 
 def who_is_charged_after_reloads():
@@ -281,20 +291,22 @@ def who_is_charged_after_reloads():
         up.socket.setsockopt(socket.SOL_SOCKET, socket.SO_SNDBUF, 65_536)
         ann.says("RETR big", "150 Opening data connection")
         bob.says("STOR up", "150 Opening data connection")
-        for users, wanted in ((None, (400_000, 250_000)), ({"aaron": "down_rate = 10_000", **rates}, (400_000, 250_000)), ({"aaron": "", **turned}, (200_000, 500_000))):
-            if users:
-                server.reloaded(text_of(server, 4_000_000, users))
-            both_ways(down, up, 3)
-            before = next_status(server)
-            had = both_ways(down, up, 4)
-            after = next_status(server)
-            seconds = (after["micros"] - before["micros"]) / 1e6
-            for user, way, count, rate in zip(("ann", "bob"), ("down", "up"), had, wanted):
-                want(abs(count - 4 * rate) < 0.05 * 4 * rate + 65_536, f"{user}: {count} octets in four seconds at {rate}")
-                first, last = row_of(before, user), row_of(after, user)
-                same(last["direction"], way, f"the way of {user}")
-                moved = last["moved"] - first["moved"]
-                want(abs(moved - seconds * rate) < 0.1 * seconds * rate + 65_536, f"{user}: {moved} octets in {seconds} seconds by the status, at {rate}")
+        with moving(down, up) as counts:
+            for users, wanted in ((None, (400_000, 250_000)), ({"aaron": "down_rate = 10_000", **rates}, (400_000, 250_000)), ({"aaron": "", **turned}, (200_000, 500_000))):
+                if users:
+                    server.reloaded(text_of(server, 4_000_000, users))
+                # what lies in buffers at both ends is of the rates before
+                time.sleep(3)
+                before, begun_at, had = next_status(server), time.monotonic(), list(counts)
+                time.sleep(4)
+                after, seconds, had = next_status(server), time.monotonic() - begun_at, [last - first for first, last in zip(had, counts)]
+                looked = (after["micros"] - before["micros"]) / 1e6
+                for user, way, count, rate in zip(("ann", "bob"), ("down", "up"), had, wanted):
+                    want(abs(count - seconds * rate) < 0.1 * seconds * rate + 262_144, f"{user}: {count} octets in {seconds} seconds at {rate}")
+                    first, last = row_of(before, user), row_of(after, user)
+                    same(last["direction"], way, f"the way of {user}")
+                    moved = last["moved"] - first["moved"]
+                    want(abs(moved - looked * rate) < 0.1 * looked * rate + 65_536, f"{user}: {moved} octets in {looked} seconds by the status, at {rate}")
         for it in (down, up):
             it.close()
         for it in (ann, bob):

@@ -199,16 +199,17 @@ def what_names_no_session_is_noted():
 
 def what_is_no_end_file_ends_nobody():
     """A folder or a pipe in its place is noted once and stays; an empty file is one that is still written, and octets that are no text are noted."""
+    for make in (os.mkdir, os.mkfifo):
+        with ender() as server:
+            client = Client(server)
+            make(f"{server.place}/end")
+            noted(server, "no session ended: end: is not a regular file")
+            client.says("NOOP", "200 OK")
+            want(os.path.exists(f"{server.place}/end"), "it stays")
+            stopped(server, client)
+            same(sum("no session ended" in it for it in server.notes_made()), 1, "the notes")
     with ender() as server:
         client = Client(server)
-        for make, remove in ((os.mkdir, os.rmdir), (os.mkfifo, os.remove)):
-            before = sum("no session ended" in it for it in server.notes_made())
-            make(f"{server.place}/end")
-            until(lambda: sum("no session ended: end: is not a regular file" in it for it in server.notes_made()) == before + 1, "the note")
-            client.says("NOOP", "200 OK")
-            remove(f"{server.place}/end")
-            client.says("NOOP", "200 OK")
-            until(lambda: server.process.poll() is None, "it runs")
         with open(f"{server.place}/end", "w", encoding="utf-8") as it:
             client.says("NOOP", "200 OK")
             want(os.path.exists(f"{server.place}/end"), "an empty file stays")

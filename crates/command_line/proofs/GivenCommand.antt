@@ -14,7 +14,7 @@ use Rattle.command_line.specs.declared.words.ServeFiles.{ServeFiles}
 use Rattle.command_line.specs.declared.words.SheetWords.{SheetWords}
 use Rattle.command_line.specs.declared.words.SheetWords.TheVariants.{Share, Check}
 use Rattle.command_line.specs.declared.words.Words.{Words}
-use Rattle.command_line.specs.declared.words.Words.TheVariants.{Sheet, CheckConfig, Migrate, Script, Serve, Plan, Top}
+use Rattle.command_line.specs.declared.words.Words.TheVariants.{Sheet, CheckConfig, Migrate, Script, Serve, Plan, Top, Usage}
 use Rattle.command_line.specs.Numbers.{AreLinesIn, IsPortIn}
 use Rattle.command_line.specs.Stated.{IsStatedBy}
 use Rattle.command_line.specs.Timed.{IsPatienceIn}
@@ -153,7 +153,10 @@ ftpd_found any words p port lines none stated =
                     λ _ is.
                         let found = one_found _ _ e _ is (codes "STATUS") refl refl in
                         (Top (at_place any found.0) (is_flagged (codes "once") found.1) lines, (found.1, found.2, found.3, refl, stated.1 found.1 found.2)),
-                    (λ help _. absurd (not_help _ _ e help), tt),
+                    (
+                      λ _ is. (Usage, (_, entered_is _ _ e _ is)),
+                      (λ help _. absurd (not_help _ _ e help), tt),
+                    ),
                   ),
                 ),
               ),
@@ -195,25 +198,26 @@ check_is found (Check sheet grants) rows word also named first second (other, sa
 -- a command of one of the names on sheets is one on a sheet
 sheet_named : (P : SheetWords → Type 0) (found : Option (Text × List Row)) (command : Words) (rows : List Row) (name : Text) → found ≡ Some (name, rows)
     → bytes_eq name (codes "check-config") ≡ false → bytes_eq name (codes "migrate") ≡ false → bytes_eq name (codes "script") ≡ false → bytes_eq name (codes "serve") ≡ false → bytes_eq name (codes "plan") ≡ false
-    → bytes_eq name (codes "top") ≡ false
+    → bytes_eq name (codes "top") ≡ false → bytes_eq name (codes "usage") ≡ false
     → ((words : SheetWords) → IsSheetFound found words → P words) → IsFound found command → IsOfSheets P command
-sheet_named P found (Sheet words) rows name named config migrate script serve plan top holds is = holds words is
-sheet_named P found (CheckConfig config json against) rows name named config_apart migrate_apart script_apart serve_apart plan_apart top_apart holds (other, same, given, flag, also) = absurd (different _ _ _ _ _ config_apart named same)
-sheet_named P found (Migrate config) rows name named config_apart migrate_apart script_apart serve_apart plan_apart top_apart holds (other, same, given) = absurd (different _ _ _ _ _ migrate_apart named same)
-sheet_named P found (Script config) rows name named config_apart migrate_apart script_apart serve_apart plan_apart top_apart holds (other, same, given) = absurd (different _ _ _ _ _ script_apart named same)
-sheet_named P found (Serve config files patience) rows name named config_apart migrate_apart script_apart serve_apart plan_apart top_apart holds (other, same, given, path, ready, drain, again, log, form, status, ender, most, syncs, port, also) = absurd (different _ _ _ _ _ serve_apart named same)
-sheet_named P found (Plan config transfers json) rows name named config_apart migrate_apart script_apart serve_apart plan_apart top_apart holds (other, same, given, also, flag) = absurd (different _ _ _ _ _ plan_apart named same)
-sheet_named P found (Top status once lines) rows name named config_apart migrate_apart script_apart serve_apart plan_apart top_apart holds (other, same, given, flag, count) = absurd (different _ _ _ _ _ top_apart named same)
+sheet_named P found (Sheet words) rows name named config migrate script serve plan top usage holds is = holds words is
+sheet_named P found (CheckConfig config json against) rows name named config_apart migrate_apart script_apart serve_apart plan_apart top_apart usage_apart holds (other, same, given, flag, also) = absurd (different _ _ _ _ _ config_apart named same)
+sheet_named P found (Migrate config) rows name named config_apart migrate_apart script_apart serve_apart plan_apart top_apart usage_apart holds (other, same, given) = absurd (different _ _ _ _ _ migrate_apart named same)
+sheet_named P found (Script config) rows name named config_apart migrate_apart script_apart serve_apart plan_apart top_apart usage_apart holds (other, same, given) = absurd (different _ _ _ _ _ script_apart named same)
+sheet_named P found (Serve config files patience) rows name named config_apart migrate_apart script_apart serve_apart plan_apart top_apart usage_apart holds (other, same, given, path, ready, drain, again, log, form, status, ender, most, syncs, port, also) = absurd (different _ _ _ _ _ serve_apart named same)
+sheet_named P found (Plan config transfers json) rows name named config_apart migrate_apart script_apart serve_apart plan_apart top_apart usage_apart holds (other, same, given, also, flag) = absurd (different _ _ _ _ _ plan_apart named same)
+sheet_named P found (Top status once lines) rows name named config_apart migrate_apart script_apart serve_apart plan_apart top_apart usage_apart holds (other, same, given, flag, count) = absurd (different _ _ _ _ _ top_apart named same)
+sheet_named P found Usage rows name named config_apart migrate_apart script_apart serve_apart plan_apart top_apart usage_apart holds (other, same) = absurd (different _ _ _ _ _ usage_apart named same)
 
 pub share_of_sheets : (found : Option (Text × List Row)) (command : Words) (rows : List Row) (word : Text) → found ≡ Some (codes "share", rows) → first_of (codes "SHEET") rows ≡ Some word
     → IsFound found command → IsOfSheets (IsShare word (is_flagged (codes "svg") rows)) command
 share_of_sheets found command rows word named first is =
-    sheet_named (IsShare word (is_flagged (codes "svg") rows)) found command rows (codes "share") named refl refl refl refl refl refl (λ words held. share_is found words rows word named first held) is
+    sheet_named (IsShare word (is_flagged (codes "svg") rows)) found command rows (codes "share") named refl refl refl refl refl refl refl (λ words held. share_is found words rows word named first held) is
 
 pub check_of_sheets : (found : Option (Text × List Row)) (command : Words) (rows : List Row) (word also : Text) → found ≡ Some (codes "check", rows) → first_of (codes "SHEET") rows ≡ Some word
     → first_of (codes "GRANTS") rows ≡ Some also → IsFound found command → IsOfSheets (IsCheck word also) command
 check_of_sheets found command rows word also named first second is =
-    sheet_named (IsCheck word also) found command rows (codes "check") named refl refl refl refl refl refl (λ words held. check_is found words rows word also named first second held) is
+    sheet_named (IsCheck word also) found command rows (codes "check") named refl refl refl refl refl refl refl (λ words held. check_is found words rows word also named first second held) is
 
 pub check_config_is : (found : Option (Text × List Row)) (command : Words) (rows : List Row) (word : Text) → found ≡ Some (codes "check-config", rows) → first_of (codes "CONFIG") rows ≡ Some word
     → IsFound found command → IsCheckConfig word (is_flagged (codes "json") rows) (first_of (codes "against") rows) command
@@ -227,6 +231,7 @@ check_config_is found (Script config) rows word named first (other, same, given)
 check_config_is found (Serve config files patience) rows word named first (other, same, given, path, ready, drain, again, log, form, status, ender, most, syncs, port, also) = absurd (different _ _ _ _ _ refl named same)
 check_config_is found (Plan config transfers json) rows word named first (other, same, given, also, flag) = absurd (different _ _ _ _ _ refl named same)
 check_config_is found (Top status once lines) rows word named first (other, same, given, flag, count) = absurd (different _ _ _ _ _ refl named same)
+check_config_is found Usage rows word named first (other, same) = absurd (different _ _ _ _ _ refl named same)
 
 pub migrate_is : (found : Option (Text × List Row)) (command : Words) (rows : List Row) (word : Text) → found ≡ Some (codes "migrate", rows) → first_of (codes "CONFIG") rows ≡ Some word
     → IsFound found command → IsMigrate word command
@@ -238,6 +243,7 @@ migrate_is found (Script config) rows word named first (other, same, given) = ab
 migrate_is found (Serve config files patience) rows word named first (other, same, given, path, ready, drain, again, log, form, status, ender, most, syncs, port, also) = absurd (different _ _ _ _ _ refl named same)
 migrate_is found (Plan config transfers json) rows word named first (other, same, given, also, flag) = absurd (different _ _ _ _ _ refl named same)
 migrate_is found (Top status once lines) rows word named first (other, same, given, flag, count) = absurd (different _ _ _ _ _ refl named same)
+migrate_is found Usage rows word named first (other, same) = absurd (different _ _ _ _ _ refl named same)
 
 pub script_is : (found : Option (Text × List Row)) (command : Words) (rows : List Row) (word : Text) → found ≡ Some (codes "script", rows) → first_of (codes "CONFIG") rows ≡ Some word
     → IsFound found command → IsScript word command
@@ -249,6 +255,7 @@ script_is found (Script config) rows word named first (other, same, given) = let
 script_is found (Serve config files patience) rows word named first (other, same, given, path, ready, drain, again, log, form, status, ender, most, syncs, port, also) = absurd (different _ _ _ _ _ refl named same)
 script_is found (Plan config transfers json) rows word named first (other, same, given, also, flag) = absurd (different _ _ _ _ _ refl named same)
 script_is found (Top status once lines) rows word named first (other, same, given, flag, count) = absurd (different _ _ _ _ _ refl named same)
+script_is found Usage rows word named first (other, same) = absurd (different _ _ _ _ _ refl named same)
 
 pub serve_is : (found : Option (Text × List Row)) (command : Words) (rows : List Row) (word : Text) (p : Patience) → found ≡ Some (codes "serve", rows) → first_of (codes "CONFIG") rows ≡ Some word
     → IsPatienceIn rows p → IsFound found command → IsServe word (first_of (codes "stop-file") rows) (first_of (codes "ready-file") rows) p command
@@ -262,6 +269,7 @@ serve_is found (Serve config files patience) rows word p named first states (oth
     (cc, cc, cc, one_patience rows patience p (subst (λ (r : List Row). IsPatienceIn r patience) (sym are) also) states)
 serve_is found (Plan config transfers json) rows word p named first states (other, same, given, also, flag) = absurd (different _ _ _ _ _ refl named same)
 serve_is found (Top status once lines) rows word p named first states (other, same, given, flag, count) = absurd (different _ _ _ _ _ refl named same)
+serve_is found Usage rows word p named first states (other, same) = absurd (different _ _ _ _ _ refl named same)
 
 pub logged_is : (found : Option (Text × List Row)) (command : Words) (rows : List Row) (word : Text) → found ≡ Some (codes "serve", rows) → first_of (codes "CONFIG") rows ≡ Some word
     → IsFound found command → IsLoggedBy word (first_of (codes "transfer-log") rows) (first_of (codes "log-form") rows) command
@@ -275,6 +283,7 @@ logged_is found (Serve config files patience) rows word named first (other, same
     (cc, cc, cc)
 logged_is found (Plan config transfers json) rows word named first (other, same, given, also, flag) = absurd (different _ _ _ _ _ refl named same)
 logged_is found (Top status once lines) rows word named first (other, same, given, flag, count) = absurd (different _ _ _ _ _ refl named same)
+logged_is found Usage rows word named first (other, same) = absurd (different _ _ _ _ _ refl named same)
 
 pub status_is : (found : Option (Text × List Row)) (command : Words) (rows : List Row) (word : Text) (n : Option ℕ) → found ≡ Some (codes "serve", rows) → first_of (codes "CONFIG") rows ≡ Some word
     → IsPortIn rows n → IsFound found command → IsStatusBy word (first_of (codes "status") rows) n command
@@ -288,6 +297,7 @@ status_is found (Serve config files patience) rows word n named first states (ot
     (cc, cc, one_port rows files.status_port n (subst (λ (r : List Row). IsPortIn r files.status_port) (sym are) port) states)
 status_is found (Plan config transfers json) rows word n named first states (other, same, given, also, flag) = absurd (different _ _ _ _ _ refl named same)
 status_is found (Top status once lines) rows word n named first states (other, same, given, flag, count) = absurd (different _ _ _ _ _ refl named same)
+status_is found Usage rows word n named first states (other, same) = absurd (different _ _ _ _ _ refl named same)
 
 pub plan_is : (found : Option (Text × List Row)) (command : Words) (rows : List Row) (word stated : Text) → found ≡ Some (codes "plan", rows) → first_of (codes "CONFIG") rows ≡ Some word
     → first_of (codes "TRANSFERS") rows ≡ Some stated → IsFound found command → IsPlanWords word stated (is_flagged (codes "json") rows) command
@@ -301,6 +311,7 @@ plan_is found (Plan config transfers json) rows word stated named first second (
     let are = same_rows _ _ _ _ _ named same in
     (cc, cc, flag ∙ sym (ap (is_flagged (codes "json")) are))
 plan_is found (Top status once lines) rows word stated named first second (other, same, given, flag, count) = absurd (different _ _ _ _ _ refl named same)
+plan_is found Usage rows word stated named first second (other, same) = absurd (different _ _ _ _ _ refl named same)
 
 pub top_is : (found : Option (Text × List Row)) (command : Words) (rows : List Row) (word : Text) (n : ℕ) → found ≡ Some (codes "top", rows) → first_of (codes "STATUS") rows ≡ Some word
     → AreLinesIn rows n → IsFound found command → IsTop word (is_flagged (codes "once") rows) n command
@@ -314,3 +325,4 @@ top_is found (Plan config transfers json) rows word n named first states (other,
 top_is found (Top status once lines) rows word n named first states (other, same, given, flag, count) =
     let are = same_rows _ _ _ _ _ named same in
     (cc, flag ∙ sym (ap (is_flagged (codes "once")) are), one_count rows lines n (subst (λ (r : List Row). AreLinesIn r lines) (sym are) count) states)
+top_is found Usage rows word n named first states (other, same) = absurd (different _ _ _ _ _ refl named same)

@@ -1,11 +1,20 @@
 -- The commands of the programs, as the parser of command lines sees them.
 use Rattle.std.specs.Prelude.{true, codes, Some}
+use Rattle.clap.specs.Lexer.{usize_max}
 use Rattle.clap.specs.Words.{App, Rule, Text, new_app, new_rule, with_rule, with_subcommand}
-use Rattle.clap.specs.declared.builder.ArgAction.TheVariants.{Set, SetTrue}
+use Rattle.clap.specs.declared.builder.ArgAction.TheVariants.{Append, Set, SetTrue}
 
 -- a required word: the path of a file
 abbrev pub file_rule : Text → Rule
 file_rule id = record (new_rule id) { required = true; action = Some Set }
+
+-- required words, one or more: the paths of files
+abbrev pub files_rule : Text → Rule
+files_rule id = record (new_rule id) {
+  required = true;
+  range = Some (record { start_inclusive = 1; end_inclusive = usize_max });
+  action = Some Append;
+}
 
 -- an optional option `--ID NAME`, with one value
 abbrev pub value_rule : Text → Rule
@@ -122,6 +131,20 @@ show =
     (codes "top")) (file_rule (codes "STATUS"))) (flag_rule (codes "once")))
     (value_rule (codes "rows"))
 
+-- `usage XFERLOG.. [--day DAY] [--by KEY] [--first N] [--json] [--csv]`
+abbrev pub usage : App
+usage =
+    with_rule
+    (with_rule
+    (with_rule
+    (with_rule
+    (with_rule
+    (with_rule
+    (bare
+    (codes "usage")) (files_rule (codes "XFERLOG"))) (value_rule (codes "day")))
+    (value_rule (codes "by"))) (value_rule (codes "first"))) (flag_rule (codes "json")))
+    (flag_rule (codes "csv"))
+
 -- the program of that name without commands; its words do not include a program's name
 abbrev pub top : Text → App
 top name =
@@ -151,5 +174,7 @@ ftpd =
     (with_subcommand
     (with_subcommand
     (with_subcommand
+    (with_subcommand
     (with_sheets
-    (codes "ftpd")) check_config.top) migrate.top) script.top) serve.top) plan.top) show.top
+    (codes "ftpd")) check_config.top) migrate.top) script.top) serve.top) plan.top) show.top)
+    usage.top

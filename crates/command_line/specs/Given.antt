@@ -14,7 +14,7 @@ use Rattle.client_patience.specs.declared.patience.Patience.{Patience}
 use Rattle.command_line.specs.declared.words.SheetWords.{SheetWords}
 use Rattle.command_line.specs.declared.words.SheetWords.TheVariants.{Share, Check}
 use Rattle.command_line.specs.declared.words.Words.{Words}
-use Rattle.command_line.specs.declared.words.Words.TheVariants.{Sheet, CheckConfig, Migrate, Script, Serve, Plan, Top}
+use Rattle.command_line.specs.declared.words.Words.TheVariants.{Sheet, CheckConfig, Migrate, Script, Serve, Plan, Top, Usage}
 use Rattle.command_line.specs.declared.words.WordsFault.{WordsFault}
 use Rattle.command_line.specs.declared.words.WordsFault.TheVariants.{Refused, Memory}
 
@@ -42,6 +42,7 @@ IsOfSheets P (Script config) = ⊥
 IsOfSheets P (Serve config files patience) = ⊥
 IsOfSheets P (Plan config transfers json) = ⊥
 IsOfSheets P (Top status once rows) = ⊥
+IsOfSheets P Usage = ⊥
 
 -- the command `check-config` of that configuration, as JSON or not, against that other one, if any
 abbrev pub IsCheckConfig : List ℕ → Bool → Option (List ℕ) → Words → Type 0
@@ -53,6 +54,7 @@ IsCheckConfig word as_json other (Script config) = ⊥
 IsCheckConfig word as_json other (Serve config files patience) = ⊥
 IsCheckConfig word as_json other (Plan config transfers json) = ⊥
 IsCheckConfig word as_json other (Top status once rows) = ⊥
+IsCheckConfig word as_json other Usage = ⊥
 
 -- the words of `check-config` with another configuration
 abbrev pub against_words : List ℕ → List ℕ → List Text
@@ -73,6 +75,7 @@ IsMigrate word (Script config) = ⊥
 IsMigrate word (Serve config files patience) = ⊥
 IsMigrate word (Plan config transfers json) = ⊥
 IsMigrate word (Top status once rows) = ⊥
+IsMigrate word Usage = ⊥
 
 -- the command `script` of that configuration
 abbrev pub IsScript : List ℕ → Words → Type 0
@@ -83,6 +86,7 @@ IsScript word (Script config) = config.now ≡ word
 IsScript word (Serve config files patience) = ⊥
 IsScript word (Plan config transfers json) = ⊥
 IsScript word (Top status once rows) = ⊥
+IsScript word Usage = ⊥
 
 -- the command `serve` of that configuration, with that stop file and that ready file, if any, and
 -- that patience
@@ -96,6 +100,7 @@ IsServe word stop ready p (Serve config files patience) =
     × (option_map (λ w. w.now) files.ready_file ≡ ready) × (patience ≡ p)
 IsServe word stop ready p (Plan config transfers json) = ⊥
 IsServe word stop ready p (Top status once rows) = ⊥
+IsServe word stop ready p Usage = ⊥
 
 -- the command `serve` of that configuration, with that transfer log and that form of notes, if any
 abbrev pub IsLoggedBy : List ℕ → Option (List ℕ) → Option (List ℕ) → Words → Type 0
@@ -108,6 +113,7 @@ IsLoggedBy word path form (Serve config files patience) =
     × (option_map (λ w. w.now) files.log_form ≡ form)
 IsLoggedBy word path form (Plan config transfers json) = ⊥
 IsLoggedBy word path form (Top status once rows) = ⊥
+IsLoggedBy word path form Usage = ⊥
 
 abbrev pub IsLogged : List ℕ → List ℕ → List ℕ → Words → Type 0
 IsLogged word path form words = IsLoggedBy word (Some path) (Some form) words
@@ -123,6 +129,7 @@ IsStatusBy word path port (Serve config files patience) =
     × (files.status_port ≡ port)
 IsStatusBy word path port (Plan config transfers json) = ⊥
 IsStatusBy word path port (Top status once rows) = ⊥
+IsStatusBy word path port Usage = ⊥
 
 -- the words of `serve` with a status file and a port
 abbrev pub status_words : List ℕ → List ℕ → List ℕ → List Text
@@ -149,6 +156,7 @@ IsPlanWords word stated as_json (Serve config files patience) = ⊥
 IsPlanWords word stated as_json (Plan config transfers json) =
     (config.now ≡ word) × (transfers.now ≡ stated) × (json ≡ as_json)
 IsPlanWords word stated as_json (Top status once rows) = ⊥
+IsPlanWords word stated as_json Usage = ⊥
 
 -- the command `top` of that status file, once or again and again, with that number of lines
 abbrev pub IsTop : List ℕ → Bool → ℕ → Words → Type 0
@@ -160,6 +168,7 @@ IsTop word only_once lines (Serve config files patience) = ⊥
 IsTop word only_once lines (Plan config transfers json) = ⊥
 IsTop word only_once lines (Top status once rows) =
     (status.now ≡ word) × (once ≡ only_once) × (rows ≡ lines)
+IsTop word only_once lines Usage = ⊥
 
 -- the words of `top` with each of its options
 abbrev pub top_words : List ℕ → List ℕ → List Text
@@ -226,6 +235,7 @@ IsFound found (Top status once lines) =
     (rows : List Row) × (found ≡ Some (codes "top", rows))
     × (first_of (codes "STATUS") rows ≡ Some status.now)
     × (once ≡ is_flagged (codes "once") rows) × AreLinesIn rows lines
+IsFound found Usage = (rows : List Row) × (found ≡ Some (codes "usage", rows))
 
 -- the words give that command, or memory ran out
 abbrev pub GivesOrMemory : {T : Type 0} → (T → Type 0) → Result T WordsFault → Type 0

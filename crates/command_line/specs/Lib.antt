@@ -3,3 +3,4 @@ pub mod Given
 pub mod Numbers
 pub mod Stated
 pub mod Timed
+pub mod Usages

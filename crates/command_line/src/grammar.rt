@@ -4,6 +4,7 @@ ghost use Rattle.std.specs.Prelude.{◌≡◌, IfOk, codes, false};
 ghost use Rattle.clap.specs.Words.{app_of, rule_of, with_rule};
 ghost use Rattle.command_line.specs.Commands.{bare, check, check_config, file_rule, flag_rule, ftpd, migrate, plan, script, serve, share, sheets, show, top, value_rule, with_files, with_logs, with_patience, with_sessions, with_sheets, with_status};
 
+use crate::usage::usage_command;
 use clap::{Arg, ArgAction, Command};
 use std::alloc::{AllocError, Global};
 
@@ -67,7 +68,12 @@ const ABOUT_TOP: &str =
     "STATUS is read once a second, and the screen is drawn anew; Ctrl-C ends it. Two lines for each transfer: its octets a\nsecond, what is guaranteed to it, and the limits that held it back, in parts of the last second.\n\nExamples: ftpd top /run/ftpd/status.json\n          ftpd top /run/ftpd/status.json --once\n\nStatus: 0 done, or yes; 1 a fault; 2 refused words; 3 no";
 
 /// A command without words; `below` is the text below its help.
-fn bare_command<'a>(alloc: Global, name: &'a str, about: &'a str, below: &'a str) -> Command<'a>
+pub(crate) fn bare_command<'a>(
+    alloc: Global,
+    name: &'a str,
+    about: &'a str,
+    below: &'a str,
+) -> Command<'a>
     ensures bare { app_of result ≡ bare name.entry.now }
 {
     Command::new(alloc, name).about(about).after_help(below)
@@ -163,7 +169,7 @@ fn script_command<'a>(alloc: Global) -> Result<Command<'a>, AllocError>
 }
 
 /// The command with an optional value, given by an option of that name.
-fn with_value<'a>(
+pub(crate) fn with_value<'a>(
     alloc: Global,
     command: Command<'a>,
     id: &'a str,
@@ -178,7 +184,7 @@ fn with_value<'a>(
 }
 
 /// The command with an optional flag.
-fn with_flag<'a>(
+pub(crate) fn with_flag<'a>(
     alloc: Global,
     command: Command<'a>,
     id: &'a str,
@@ -351,6 +357,7 @@ pub(crate) fn ftpd_command<'a>(alloc: Global) -> Result<Command<'a>, AllocError>
     let with_script = with_migrate.subcommand(script_command(alloc)?)?;
     let with_serve = with_script.subcommand(serve_command(alloc)?)?;
     let with_plan = with_serve.subcommand(plan_command(alloc)?)?;
-    let command = with_plan.subcommand(show_command(alloc)?)?;
+    let with_show = with_plan.subcommand(show_command(alloc)?)?;
+    let command = with_show.subcommand(usage_command(alloc)?)?;
     Ok(command)
 }

@@ -10,6 +10,7 @@
 //! ftpd serve CONFIG [--stop-file PATH] [--ready-file PATH] [--transfer-log PATH] [--log-form FORM] [--status PATH]
 //!     [--status-port PORT] [--login-timeout SECONDS] [--idle-timeout SECONDS] [--login-delay SECONDS]
 //! ftpd top STATUS [--once] [--rows N]
+//! ftpd usage XFERLOG.. [--day DAY] [--by KEY] [--first N] [--json] [--csv]
 //!
 //! sheets share SHEET [--svg]
 //! sheets check SHEET GRANTS
@@ -19,9 +20,11 @@
 mod grammar;
 mod numbers;
 mod patience;
+mod usage;
 mod words;
 
 pub use client_patience::Patience;
 pub use numbers::{LEAST_ROWS, MAX_PORT, MAX_SECONDS, MOST_ROWS, ROWS};
 pub use patience::{IDLE_TIMEOUT, LOGIN_DELAY, LOGIN_TIMEOUT};
+pub use usage::{UsageWords, read_usage_words};
 pub use words::{ServeFiles, SheetWords, Words, WordsFault, read_sheet_words, read_words};

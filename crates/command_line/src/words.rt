@@ -91,6 +91,8 @@ pub enum Words<'a> {
         once: bool,
         rows: u16,
     },
+    /// Add up transfer logs. [`read_usage_words`](crate::read_usage_words) returns their paths and the options.
+    Usage,
 }
 
 /// The reason for which words are refused.
@@ -141,7 +143,7 @@ pub(crate) fn word_of<'a>(inner: &ArgMatches<'a>, id: &str) -> Option<&'a str>
 }
 
 /// Returns whether the words of the command that was entered have the flag `id`.
-fn has_flag(inner: &ArgMatches<'_>, id: &str) -> bool
+pub(crate) fn has_flag(inner: &ArgMatches<'_>, id: &str) -> bool
     ensures flag { result ≡ is_flagged id.now (rows_of (found_of inner.now)) }
 {
     match word_of(inner, id) {
@@ -227,6 +229,7 @@ fn given<'a>(name: &str, inner: &ArgMatches<'a>, numbers: Numbers) -> Option<Wor
             once: has_flag(inner, "once"),
             rows: numbers.rows,
         }),
+        "usage" => Some(Words::Usage),
         _ => Some(Words::Sheet(sheet_given(name, inner)?)),
     }
 }
@@ -244,7 +247,7 @@ fn words_of<'a>(matches: &ArgMatches<'a>, numbers: Numbers) -> Option<Words<'a>>
 }
 
 /// Parses the words, which do not include the program's name.
-fn parsed<'a>(
+pub(crate) fn parsed<'a>(
     alloc: Global,
     command: Command<'a>,
     words: &'a [&'a str],

@@ -20,6 +20,7 @@ mod starting;
 mod stated_files;
 mod status_file;
 mod status_thread;
+mod usage_files;
 mod watched_file;
 
 use asked::Asked;
@@ -37,6 +38,7 @@ use std::sync::Wait;
 use std::thread::Threads;
 use std::time::Clock;
 use text_io::FallibleIo;
+use usage_files::added_up;
 use watched_file::watched;
 
 /// Runs the command of these words, and serves what they ask for. Returns the ending, and the reason for which a server
@@ -63,7 +65,10 @@ where
     );
     match asked.into_service() {
         Some(service) => serve_asked(rt, machine, service, output),
-        None => (watched(machine, ending, output), None),
+        None => {
+            let ending = added_up(machine, words, ending, output);
+            (watched(machine, ending, output), None)
+        }
     }
 }
 

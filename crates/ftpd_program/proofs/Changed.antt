@@ -12,7 +12,7 @@ use Rattle.ftpd_program.specs.Against.{IsChangeEnd, IsChangeWritten, IsRefusedCh
 use Rattle.ftpd_program.specs.Causes.{IsReadWhy, IsWithoutText}
 use Rattle.ftpd_program.specs.Faults.{IsReadingFaultOf}
 use Rattle.ftpd_program.specs.declared.ending.FtpdExit.{FtpdExit}
-use Rattle.ftpd_program.specs.declared.ending.FtpdExit.TheVariants.{Common, Config, ConfigOf, NoReload, Transfers, Session, Server, Status, Watches}
+use Rattle.ftpd_program.specs.declared.ending.FtpdExit.TheVariants.{Common, Config, ConfigOf, NoReload, Transfers, Session, Server, Status, Watches, AddsUp}
 
 -- a fault of a file names it
 pub named_file : (path : List ℕ) (fault : TextFault) (file : Option (List ℕ)) → fault ≢ WriteFault → file ≡ text_file path fault → fault ≢ Memory → file ≡ Some path
@@ -38,6 +38,7 @@ written_end json config other new old Refuses before after report (Session fault
 written_end json config other new old Refuses before after report (Server fault) of is = absurd is
 written_end json config other new old Refuses before after report (Status file fault) of is = absurd is
 written_end json config other new old Refuses before after report (Watches status rows) of is = absurd is
+written_end json config other new old Refuses before after report AddsUp of is = absurd is
 
 -- the ending for a configuration that is refused
 pub refused_end : (json : Bool) (config other new old : List ℕ) (Refuses : List ℕ → Type 0) (before after : Option (List ℕ)) (ending : FtpdExit)
@@ -56,6 +57,7 @@ refused_end json config other new old Refuses before after (Session fault) is = 
 refused_end json config other new old Refuses before after (Server fault) is = absurd is
 refused_end json config other new old Refuses before after (Status file fault) is = absurd is
 refused_end json config other new old Refuses before after (Watches status rows) is = absurd is
+refused_end json config other new old Refuses before after AddsUp is = absurd is
 
 -- a refused line
 pub no_line : (reported : List ℕ) (exit : Exit) → IsRefusedAs reported exit → IsNoLine exit
@@ -141,3 +143,4 @@ change_why json config other new old path may Refuses before after (Session faul
 change_why json config other new old path may Refuses before after (Server fault) is = tt
 change_why json config other new old path may Refuses before after (Status file fault) is = absurd is
 change_why json config other new old path may Refuses before after (Watches status rows) is = tt
+change_why json config other new old path may Refuses before after AddsUp is = tt

@@ -4,7 +4,7 @@ use Rattle.command_line.specs.Given.{IsCheck, IsCheckConfig, IsMigrate, IsOfShee
 use Rattle.client_patience.specs.declared.patience.Patience.{Patience}
 use Rattle.command_line.specs.declared.words.SheetWords.TheVariants.{Share, Check}
 use Rattle.command_line.specs.declared.words.Words.{Words}
-use Rattle.command_line.specs.declared.words.Words.TheVariants.{Sheet, CheckConfig, Migrate, Script, Serve, Plan, Top}
+use Rattle.command_line.specs.declared.words.Words.TheVariants.{Sheet, CheckConfig, Migrate, Script, Serve, Plan, Top, Usage}
 use Rattle.script_session.specs.declared.fault.SessionFault.{SessionFault}
 use Rattle.config_report.specs.Looks.{Shown}
 use Rattle.sheets_program.specs.Runs.{IsCheckEnd, IsShareEnd, Octets}
@@ -16,7 +16,7 @@ use Rattle.ftpd_program.specs.Runs.{IsCommandEnd, IsPlanEnd, IsPrintEnd, IsRepor
 use Rattle.ftpd_program.specs.Scripting.{IsUnscripted}
 use Rattle.ftpd_program.specs.Serving.{IsServeEnd, Service}
 use Rattle.ftpd_program.specs.declared.ending.FtpdExit.{FtpdExit}
-use Rattle.ftpd_program.specs.declared.ending.FtpdExit.TheVariants.{Common, Config, ConfigOf, NoReload, Transfers, Session, Server, Status, Watches}
+use Rattle.ftpd_program.specs.declared.ending.FtpdExit.TheVariants.{Common, Config, ConfigOf, NoReload, Transfers, Session, Server, Status, Watches, AddsUp}
 use Rattle.ftpd_program.specs.declared.printing.Print.TheVariants.{Latest, Table}
 use Rattle.ftpd_program.specs.declared.scripting.ScriptFault.{ScriptFault}
 use Rattle.ftpd_program.specs.declared.scripting.ScriptFault.TheVariants.{Session as Unserved}
@@ -34,6 +34,7 @@ share_end gives shown serves Refuses (Sheet (Share path svg)) sheet as_svg old n
 share_end gives shown serves Refuses (Sheet (Share path svg)) sheet as_svg old new (Server fault) is end = absurd end
 share_end gives shown serves Refuses (Sheet (Share path svg)) sheet as_svg old new (Status file fault) is end = absurd end
 share_end gives shown serves Refuses (Sheet (Share path svg)) sheet as_svg old new (Watches status rows) is end = absurd end
+share_end gives shown serves Refuses (Sheet (Share path svg)) sheet as_svg old new AddsUp is end = absurd end
 share_end gives shown serves Refuses (Sheet (Check path other)) sheet as_svg old new ending is end = absurd is
 share_end gives shown serves Refuses (CheckConfig path json against) sheet as_svg old new ending is end = absurd is
 share_end gives shown serves Refuses (Migrate path) sheet as_svg old new ending is end = absurd is
@@ -41,6 +42,7 @@ share_end gives shown serves Refuses (Script path) sheet as_svg old new ending i
 share_end gives shown serves Refuses (Serve path files patience) sheet as_svg old new ending is end = absurd is
 share_end gives shown serves Refuses (Plan path stated json) sheet as_svg old new ending is end = absurd is
 share_end gives shown serves Refuses (Top status once rows) sheet as_svg old new ending is end = absurd is
+share_end gives shown serves Refuses Usage sheet as_svg old new ending is end = absurd is
 
 pub check_end : (gives : List ℕ → Octets) (shown : Shown) (serves : Service) (Refuses : List ℕ → Type 0) (words : Words) (sheet grants : List ℕ) (old new : Option (List ℕ)) (ending : FtpdExit)
     → IsOfSheets (IsCheck sheet grants) words → IsCommandEnd gives shown serves Refuses words old new ending → IsCommon (IsCheckEnd gives sheet grants old new) ending
@@ -55,6 +57,7 @@ check_end gives shown serves Refuses (Sheet (Check path other)) sheet grants old
 check_end gives shown serves Refuses (Sheet (Check path other)) sheet grants old new (Server fault) is end = absurd end
 check_end gives shown serves Refuses (Sheet (Check path other)) sheet grants old new (Status file fault) is end = absurd end
 check_end gives shown serves Refuses (Sheet (Check path other)) sheet grants old new (Watches status rows) is end = absurd end
+check_end gives shown serves Refuses (Sheet (Check path other)) sheet grants old new AddsUp is end = absurd end
 check_end gives shown serves Refuses (Sheet (Share path svg)) sheet grants old new ending is end = absurd is
 check_end gives shown serves Refuses (CheckConfig path json against) sheet grants old new ending is end = absurd is
 check_end gives shown serves Refuses (Migrate path) sheet grants old new ending is end = absurd is
@@ -62,6 +65,7 @@ check_end gives shown serves Refuses (Script path) sheet grants old new ending i
 check_end gives shown serves Refuses (Serve path files patience) sheet grants old new ending is end = absurd is
 check_end gives shown serves Refuses (Plan path stated json) sheet grants old new ending is end = absurd is
 check_end gives shown serves Refuses (Top status once rows) sheet grants old new ending is end = absurd is
+check_end gives shown serves Refuses Usage sheet grants old new ending is end = absurd is
 
 pub report_end : (gives : List ℕ → Octets) (shown : Shown) (serves : Service) (Refuses : List ℕ → Type 0) (words : Words) (config : List ℕ) (as_json : Bool) (old new : Option (List ℕ)) (ending : FtpdExit)
     → IsCheckConfig config as_json None words → IsCommandEnd gives shown serves Refuses words old new ending → IsReportEnd as_json shown (gives config) config Refuses old new ending
@@ -77,6 +81,7 @@ report_end gives shown serves Refuses (Script path) config as_json old new endin
 report_end gives shown serves Refuses (Serve path files patience) config as_json old new ending is end = absurd is
 report_end gives shown serves Refuses (Plan path stated json) config as_json old new ending is end = absurd is
 report_end gives shown serves Refuses (Top status once rows) config as_json old new ending is end = absurd is
+report_end gives shown serves Refuses Usage config as_json old new ending is end = absurd is
 
 pub against_end : (gives : List ℕ → Octets) (shown : Shown) (serves : Service) (Refuses : List ℕ → Type 0) (words : Words) (config other : List ℕ) (as_json : Bool) (old new : Option (List ℕ)) (ending : FtpdExit)
     → IsCheckConfig config as_json (Some other) words → IsCommandEnd gives shown serves Refuses words old new ending → IsAgainstEnd as_json gives config other Refuses old new ending
@@ -95,6 +100,7 @@ against_end gives shown serves Refuses (Script path) config other as_json old ne
 against_end gives shown serves Refuses (Serve path files patience) config other as_json old new ending is end = absurd is
 against_end gives shown serves Refuses (Plan path stated json) config other as_json old new ending is end = absurd is
 against_end gives shown serves Refuses (Top status once rows) config other as_json old new ending is end = absurd is
+against_end gives shown serves Refuses Usage config other as_json old new ending is end = absurd is
 
 pub migrate_end : (gives : List ℕ → Octets) (shown : Shown) (serves : Service) (Refuses : List ℕ → Type 0) (words : Words) (config : List ℕ) (old new : Option (List ℕ)) (ending : FtpdExit)
     → IsMigrate config words → IsCommandEnd gives shown serves Refuses words old new ending → IsPrintEnd Latest shown (gives config) Refuses old new ending
@@ -105,6 +111,7 @@ migrate_end gives shown serves Refuses (Script path) config old new ending is en
 migrate_end gives shown serves Refuses (Serve path files patience) config old new ending is end = absurd is
 migrate_end gives shown serves Refuses (Plan path stated json) config old new ending is end = absurd is
 migrate_end gives shown serves Refuses (Top status once rows) config old new ending is end = absurd is
+migrate_end gives shown serves Refuses Usage config old new ending is end = absurd is
 
 pub script_end : (gives : List ℕ → Octets) (shown : Shown) (serves : Service) (Refuses : List ℕ → Type 0) (words : Words) (config : List ℕ) (old new : Option (List ℕ)) (ending : FtpdExit)
     → IsScript config words → IsCommandEnd gives shown serves Refuses words old new ending → IsScriptEnd gives config old new ending
@@ -115,6 +122,7 @@ script_end gives shown serves Refuses (Migrate path) config old new ending is en
 script_end gives shown serves Refuses (Serve path files patience) config old new ending is end = absurd is
 script_end gives shown serves Refuses (Plan path stated json) config old new ending is end = absurd is
 script_end gives shown serves Refuses (Top status once rows) config old new ending is end = absurd is
+script_end gives shown serves Refuses Usage config old new ending is end = absurd is
 
 pub serve_end : (gives : List ℕ → Octets) (shown : Shown) (serves : Service) (Refuses : List ℕ → Type 0) (words : Words) (config : List ℕ) (path ready : Option (List ℕ)) (p : Patience) (old new : Option (List ℕ)) (ending : FtpdExit)
     → IsServe config path ready p words → IsCommandEnd gives shown serves Refuses words old new ending → IsServeEnd (gives config) shown config serves path ready p old new ending
@@ -131,6 +139,7 @@ serve_end gives shown serves Refuses (Migrate word) config path ready p old new 
 serve_end gives shown serves Refuses (Script word) config path ready p old new ending is end = absurd is
 serve_end gives shown serves Refuses (Plan word stated json) config path ready p old new ending is end = absurd is
 serve_end gives shown serves Refuses (Top status once rows) config path ready p old new ending is end = absurd is
+serve_end gives shown serves Refuses Usage config path ready p old new ending is end = absurd is
 
 pub plan_end : (gives : List ℕ → Octets) (shown : Shown) (serves : Service) (Refuses : List ℕ → Type 0) (words : Words) (config transfers : List ℕ) (as_json : Bool) (old new : Option (List ℕ)) (ending : FtpdExit)
     → IsPlanWords config transfers as_json words → IsCommandEnd gives shown serves Refuses words old new ending → IsPlanEnd as_json shown (gives config) transfers Refuses old new ending
@@ -143,6 +152,7 @@ plan_end gives shown serves Refuses (Migrate path) config transfers as_json old 
 plan_end gives shown serves Refuses (Script path) config transfers as_json old new ending is end = absurd is
 plan_end gives shown serves Refuses (Serve path files patience) config transfers as_json old new ending is end = absurd is
 plan_end gives shown serves Refuses (Top status once rows) config transfers as_json old new ending is end = absurd is
+plan_end gives shown serves Refuses Usage config transfers as_json old new ending is end = absurd is
 
 pub top_end : (gives : List ℕ → Octets) (shown : Shown) (serves : Service) (Refuses : List ℕ → Type 0) (words : Words) (path : List ℕ) (only_once : Bool) (lines : ℕ) (old new : Option (List ℕ)) (ending : FtpdExit)
     → IsTop path only_once lines words → IsCommandEnd gives shown serves Refuses words old new ending → IsTopEnd only_once path lines (IsPrintEnd (Table lines) shown (gives path) Refuses old new) ending
@@ -156,6 +166,7 @@ top_end gives shown serves Refuses (Migrate word) path only_once lines old new e
 top_end gives shown serves Refuses (Script word) path only_once lines old new ending is end = absurd is
 top_end gives shown serves Refuses (Serve word files patience) path only_once lines old new ending is end = absurd is
 top_end gives shown serves Refuses (Plan word stated json) path only_once lines old new ending is end = absurd is
+top_end gives shown serves Refuses Usage path only_once lines old new ending is end = absurd is
 
 pub unserved : (text before after old new : Option (List ℕ)) (fault : ScriptFault) (why : SessionFault)
     → IsUnscripted text before after old new fault → fault ≡ Unserved why → IsUnscripted text before after old new (Unserved why)
@@ -182,6 +193,7 @@ table_end once status rows P ending after never is end = subst (λ (e : FtpdExit
     go b (Server fault) end = end
     go b (Status file fault) end = end
     go b (Watches path lines) end = absurd (never path lines end)
+    go b AddsUp end = end
 
 -- nothing was written after the first table, if nothing was written by it
 pub table_unwritten : (once : Bool) (status : Bor (List ℕ)) (rows : ℕ) (ending after : FtpdExit) → after ≡ after_table once status rows ending → IsUnwritten after → IsUnwritten ending
@@ -203,3 +215,4 @@ table_unwritten once status rows ending after is unwritten = go once ending (sub
     go b (Server fault) end = end
     go b (Status file fault) end = end
     go b (Watches path lines) end = end
+    go b AddsUp end = end

@@ -1,5 +1,5 @@
 -- A configuration that was read whole.
-use Rattle.std.proofs.Common.{◌≡◌, ◌∙◌, ℕ, List, Option, Some, None, Result, Ok, Err, IfErr, IfOk, String, Global, string_bytes, sym}
+use Rattle.std.proofs.Common.{◌≡◌, ◌∙◌, ℕ, List, Option, Some, None, Result, Ok, Err, IfErr, IfOk, String, Global, string_bytes, subst, sym}
 use Rattle.std.specs.Io.KnownBytes.{Consumes, IsAtEnd}
 use Rattle.config_report.specs.Looks.{Shown}
 use Rattle.server_config.specs.Configs.{IsConfigText}
@@ -21,10 +21,16 @@ pub configured : (text : List ℕ) (left : Option (List ℕ)) (answer : Result C
 configured text left (Ok config) of is = (text, of, is)
 configured text left (Err fault) of is = tt
 
-pub warned_of : (shown : Shown) (path text : List ℕ) (left : Option (List ℕ)) (answer : Result (Config × String Global) ScriptFault) → IsTextOf text left
+pub warned_of : {V : Type 0} (shown : Shown) (path text : List ℕ) (left : Option (List ℕ)) (answer : Result (Config × String Global × V) ScriptFault) → IsTextOf text left
     → IfOk answer (λ read. IsWarned shown path text read.0 (string_bytes read.1)) → IfOk answer (λ read. IsWarnedOf shown path left read.0 (string_bytes read.1))
 warned_of shown path text left (Ok read) of is = (text, of, is)
 warned_of shown path text left (Err fault) of is = tt
+
+-- the octets that were read are the text of what was there
+pub octets_of : {X : Type 0} (items : X → List ℕ) (text : List ℕ) (left : Option (List ℕ)) (answer : Result X ScriptFault) → IsTextOf text left
+    → IfOk answer (λ read. items read ≡ text) → IfOk answer (λ read. IsTextOf (items read) left)
+octets_of items text left (Ok read) of is = subst (λ (t : List ℕ). IsTextOf t left) (sym is) of
+octets_of items text left (Err fault) of is = tt
 
 judged : (text : List ℕ) (left : Option (List ℕ)) (fault : ScriptFault) → IsTextOf text left → IsJudgement text fault → IsUnconfigured left fault
 judged text left (Text fault) of is = λ no. cc

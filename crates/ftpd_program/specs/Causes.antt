@@ -4,7 +4,7 @@
 use Rattle.std.specs.Borrow.{Bor}
 use Rattle.std.specs.Prelude.{◌≡◌, ◌≢◌, ◌≤◌, ◌+◌, ◌⊎◌, ℕ, List, Option, Some, None, IfSome, length}
 use Rattle.command_line.specs.declared.words.Words.{Words}
-use Rattle.command_line.specs.declared.words.Words.TheVariants.{Sheet, CheckConfig, Migrate, Script, Serve, Plan, Top}
+use Rattle.command_line.specs.declared.words.Words.TheVariants.{Sheet, CheckConfig, Migrate, Script, Serve, Plan, Top, Usage}
 use Rattle.script_session.specs.Served.{IsSessionBreak, most_reads}
 use Rattle.sheets_program.specs.Causes.{AreOpened, IsSheetWhy}
 use Rattle.sheets_program.specs.Runs.{IsInput, IsNamedTwice, Octets, file_of}
@@ -113,6 +113,7 @@ IsCommandWhy gives refused fails refuses breaks (Plan config transfers json) end
     IsReadWhy config.now (refused config.now ⊎ fails config.now) ending
 IsCommandWhy gives refused fails refuses breaks (Top status once rows) ending =
     IsReadWhy status.now (refused status.now ⊎ fails status.now) ending
+IsCommandWhy gives refused fails refuses breaks Usage ending = Unit {0}
 
 -- the files that a command opens, in the order of its words
 abbrev pub AreCommandOpened : {O : Type 0} → (O → List ℕ → O → Type 0) → O → O → (List ℕ → Type 0)
@@ -129,3 +130,4 @@ AreCommandOpened opens old new refused (Serve config files patience) ending =
 AreCommandOpened opens old new refused (Plan config transfers json) ending =
     opens old config.now new
 AreCommandOpened opens old new refused (Top status once rows) ending = opens old status.now new
+AreCommandOpened opens old new refused Usage ending = new ≡ old

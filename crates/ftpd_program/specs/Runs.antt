@@ -4,7 +4,7 @@
 use Rattle.std.specs.Borrow.{Bor}
 use Rattle.std.specs.Prelude.{◌≡◌, ℕ, Bool, List, Option, Some, None, false, if◌then◌else◌, option_map, true}
 use Rattle.command_line.specs.declared.words.Words.{Words}
-use Rattle.command_line.specs.declared.words.Words.TheVariants.{Sheet, CheckConfig, Migrate, Script, Serve, Plan, Top}
+use Rattle.command_line.specs.declared.words.Words.TheVariants.{Sheet, CheckConfig, Migrate, Script, Serve, Plan, Top, Usage}
 use Rattle.config_report.specs.Looks.{Shown}
 use Rattle.sheets_program.specs.Runs.{IsInput, IsSheetEnd, Octets}
 use Rattle.sheets_program.specs.declared.ending.Exit.TheVariants.{Done, Refused, Text}
@@ -16,7 +16,7 @@ use Rattle.ftpd_program.specs.Printing.{AppendsPrint, IsOfPlan, IsPrintOf, IsUnp
 use Rattle.ftpd_program.specs.Scripting.{IsRefusalOf, IsScripted, IsUnscripted}
 use Rattle.ftpd_program.specs.Serving.{IsServeEnd, Service}
 use Rattle.ftpd_program.specs.declared.ending.FtpdExit.{FtpdExit}
-use Rattle.ftpd_program.specs.declared.ending.FtpdExit.TheVariants.{Common, Config, Transfers, Session, Status, Watches}
+use Rattle.ftpd_program.specs.declared.ending.FtpdExit.TheVariants.{Common, Config, Transfers, Session, Status, Watches, AddsUp}
 use Rattle.ftpd_program.specs.declared.printing.Print.{Print}
 use Rattle.ftpd_program.specs.declared.printing.Print.TheVariants.{Report, ReportJson, Latest, Plan as PlanOf, PlanJson, Table}
 use Rattle.ftpd_program.specs.declared.scripting.ScriptFault.TheVariants.{Session as Unserved}
@@ -121,3 +121,4 @@ IsCommandEnd gives shown serves Refuses (Plan config transfers json) old new end
 IsCommandEnd gives shown serves Refuses (Top status once rows) old new ending =
     IsTopEnd once status.now rows
     (IsPrintEnd (Table rows) shown (gives status.now) Refuses old new) ending
+IsCommandEnd gives shown serves Refuses Usage old new ending = (ending ≡ AddsUp) × (new ≡ old)

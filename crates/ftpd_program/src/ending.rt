@@ -52,6 +52,8 @@ pub enum FtpdExit<'w> {
         status: &'w str,
         rows: u16,
     },
+    /// The transfer logs that the words name are to be added up.
+    AddsUp,
 }
 
 impl<'w> FtpdExit<'w> {
@@ -61,7 +63,7 @@ impl<'w> FtpdExit<'w> {
     {
         match self {
             FtpdExit::Common(ending) => ending.status(),
-            FtpdExit::Watches { .. } => 0,
+            FtpdExit::Watches { .. } | FtpdExit::AddsUp => 0,
             FtpdExit::Config { .. }
             | FtpdExit::ConfigOf { .. }
             | FtpdExit::NoReload
@@ -119,7 +121,7 @@ impl fmt::Display for FtpdErrorText<'_, '_> {
                 writeln!(f, "{file}: this is no status of a server: {fault}")?;
                 writeln!(f, "{NAME}: NoStatus")
             }
-            FtpdExit::Watches { .. } => Ok(()),
+            FtpdExit::Watches { .. } | FtpdExit::AddsUp => Ok(()),
         }
     }
 }

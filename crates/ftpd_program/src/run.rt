@@ -233,6 +233,7 @@ fn run_command<'w, O: Opener + Lookout, W: TextWriter, V: Server<W>>(
             patience,
         } => serve(alloc, config, signs, patience, files, server, output),
         Words::Top { status, once, rows } => top(alloc, status, once, rows, files, output),
+        Words::Usage => FtpdExit::AddsUp,
     }
 }
 

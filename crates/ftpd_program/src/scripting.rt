@@ -1,10 +1,11 @@
 //! The command that serves a control session by a configuration.
 
-ghost use Rattle.std.specs.Prelude.{◌≡◌, ◌<◌, true, IfErr, IfOk, IfSome, IsErrOf, OnOk, Some, length, string_bytes};
+ghost use Rattle.std.specs.Prelude.{◌≡◌, ◌<◌, true, IfErr, IfOk, IfSome, IsErrOf, OnOk, length, string_bytes};
 ghost use Rattle.script_session.specs.Breaks.{MayBreakReading, MayBreakWriting};
 ghost use Rattle.script_session.specs.Served.{most_reads};
 ghost use Rattle.server_config.specs.Configs.{IsConfigText};
 ghost use Rattle.ftpd_program.specs.Scripting.{IsConfigOf, IsJudgement, IsNotBegun, IsScriptBreak, IsScripted, IsUnconfigured, IsUnscripted, IsWarned, IsWarnedOf};
+ghost use Rattle.text_io.specs.Texts.{IsTextOf};
 
 use config_report::{Lookout, warning_texts};
 use script_session::{SessionFault, serve_config};
@@ -34,20 +35,21 @@ fn judged(alloc: Global, octets: &[u8]) -> Result<Config, ScriptFault>
     }
 }
 
-/// The configuration of a text, and the texts of its warnings, a line each.
+/// The configuration of a text, and the texts of its warnings, a line each, with its octets.
 fn warned<L: Lookout>(
     alloc: Global,
     path: &str,
-    octets: &[u8],
+    octets: Vec<u8>,
     lookout: &L,
-) -> Result<(Config, String), ScriptFault>
+) -> Result<(Config, String, Vec<u8>), ScriptFault>
     ensures warned { IfOk result (λ read.
-        IsWarned (L.Shows lookout.now) path.now octets.now read.0 (string_bytes read.1)) }
-    ensures refused { IfErr result (IsJudgement octets.now) }
+        IsWarned (L.Shows lookout.now) path.now octets.items read.0 (string_bytes read.1)) }
+    ensures octets { IfOk result (λ read. read.2.items ≡ octets.items) }
+    ensures refused { IfErr result (IsJudgement octets.items) }
 {
-    let config = judged(alloc, octets)?;
-    match warning_texts(alloc, path, octets, lookout) {
-        Ok(reported) => Ok((config, reported)),
+    let config = judged(alloc, octets.as_slice())?;
+    match warning_texts(alloc, path, octets.as_slice(), lookout) {
+        Ok(reported) => Ok((config, reported, octets)),
         Err(ConfigFault::Memory) => Err(ScriptFault::Text(TextFault::Memory)),
         Err(refused) => Err(ScriptFault::Config(refused)),
     }
@@ -78,7 +80,7 @@ pub(crate) fn read_warned<C: TextReader, L: Lookout>(
 ) -> Result<(Config, String, Vec<u8>), ScriptFault>
     ensures warned { IfOk result (λ read. IsWarnedOf (L.Shows lookout.now) path.now
         (C.remaining reader.old) read.0 (string_bytes read.1)) }
-    ensures octets { IfOk result (λ read. C.remaining reader.old ≡ Some read.2.items) }
+    ensures octets { IfOk result (λ read. IsTextOf read.2.items (C.remaining reader.old)) }
     ensures refused { IfErr result (IsUnconfigured (C.remaining reader.old)) }
     ensures too_long { IsErrOf result (ScriptFault.Text TextFault.TooLong)
         → IfSome (C.remaining reader.old) (λ text. MAX_TEXT < length text) }
@@ -86,10 +88,7 @@ pub(crate) fn read_warned<C: TextReader, L: Lookout>(
         → C.may_fail reader.old ≡ true }
 {
     match read_whole(alloc, reader) {
-        Ok(octets) => {
-            let (config, reported) = warned(alloc, path, octets.as_slice(), lookout)?;
-            Ok((config, reported, octets))
-        }
+        Ok(octets) => warned(alloc, path, octets, lookout),
         Err(why) => Err(ScriptFault::Text(why)),
     }
 }

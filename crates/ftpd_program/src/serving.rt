@@ -1,8 +1,9 @@
 //! The command that serves clients by a configuration.
 
-ghost use Rattle.std.specs.Prelude.{◌≡◌, ◌⊎◌, IfErr, IfOk, Some, option_map, string_bytes};
+ghost use Rattle.std.specs.Prelude.{◌≡◌, ◌⊎◌, ℕ, IfErr, IfOk, List, Option, option_map, string_bytes};
 ghost use Rattle.ftpd_program.specs.Endings.{IsUnwritten};
 ghost use Rattle.ftpd_program.specs.Causes.{IsReadWhy};
+ghost use Rattle.text_io.specs.Texts.{IsTextOf};
 ghost use Rattle.ftpd_program.specs.Serving.{IsServeEnd, IsUnconfiguredEnd, IsWarnedIn, end_of};
 
 use crate::ending::FtpdExit;
@@ -24,7 +25,8 @@ fn config_at<'w, O: Opener + Lookout>(
 ) -> Result<(Config, String, Vec<u8>), FtpdExit<'w>>
     ensures config { IfOk result (λ read. IsWarnedIn (O.Gives files.old path.now)
         (O.Shows files.new) path.now read.0 (string_bytes read.1)) }
-    ensures octets { IfOk result (λ read. O.Gives files.old path.now (Some read.2.items)) }
+    ensures octets { IfOk result (λ read. (text : Option (List ℕ))
+        × O.Gives files.old path.now text × IsTextOf read.2.items text) }
     ensures refused { IfErr result (IsUnconfiguredEnd (O.Gives files.old path.now)) }
     ensures why { IfErr result
         (IsReadWhy path.now (O.MayRefuse files.old path.now ⊎ O.MayFail files.old path.now)) }

@@ -1,7 +1,9 @@
 //! The commands that words of command lines are read as.
 
 use crate::expect::holds;
-use command_line::{Patience, ServeFiles, SheetWords, Words, read_sheet_words, read_words};
+use command_line::{
+    Patience, ServeFiles, SheetWords, Words, read_sheet_words, read_usage_words, read_words,
+};
 use std::process::Abort;
 
 #[test]
@@ -257,4 +259,21 @@ fn words_on_a_sheet(rt: HostRuntime) {
     let (sheet, grants) = ("office.sheet", "office.grants");
     let words = ["check", sheet, grants];
     are_of_both(&rt, &words, SheetWords::Check { sheet, grants });
+}
+
+#[test]
+fn words_on_transfer_logs(rt: HostRuntime) {
+    let words = ["usage", "old", "--by", "file", "new", "--json"];
+    let command = read_words(rt.alloc(), &words).expect(&rt, "a command");
+    holds(&rt, command == Words::Usage);
+    let read = read_usage_words(rt.alloc(), &words).expect(&rt, "words");
+    let stated = read.expect(&rt, "words of usage");
+    holds(
+        &rt,
+        stated.logs.len() == 2 && stated.logs[0] == "old" && stated.logs[1] == "new",
+    );
+    holds(&rt, stated.by == Some("file") && stated.day.is_none());
+    holds(&rt, stated.first.is_none() && stated.json && !stated.csv);
+    let other = read_usage_words(rt.alloc(), &["migrate", "old"]).expect(&rt, "words");
+    holds(&rt, other.is_none());
 }

@@ -101,6 +101,13 @@ impl PeerConnection {
         }
     }
 
+    /// The peer as which it was accepted; none for anybody.
+    pub fn peer(&self) -> Option<[u8; 4]>
+        ensures peer { result ≡ self.now.peer }
+    {
+        self.peer
+    }
+
     /// The socket.
     pub fn into_stream(self) -> TcpStream
         ensures stream { result ≡ self.stream }

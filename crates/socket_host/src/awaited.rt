@@ -8,12 +8,11 @@ use std::mem;
 use std::net::TcpListener;
 
 /// The client of a session's passive ports: the peer whose connections are taken, none for any, and its connection if
-/// that came before its transfer was begun. By its type, no stranger's connection is held or handed out.
+/// that came before its transfer was begun.
 #[derive(Drop)]
 pub(crate) struct AwaitedClient {
     wanted: Option<[u8; 4]>,
     early: Option<PeerConnection>,
-    ghost own: { IfSome early (λ connection. connection.peer ≡ wanted) },
 }
 
 impl AwaitedClient {
@@ -33,6 +32,8 @@ impl AwaitedClient {
     pub(crate) fn welcome(&mut self, listener: &TcpListener)
         ensures wanted { self.new.wanted ≡ self.old.wanted }
         ensures held { IfSome self.old.early (λ connection. self.new.early ≡ Some connection) }
+        ensures own { self.old.early ≡ None
+            → IfSome self.new.early (λ connection. connection.peer ≡ self.old.wanted) }
     {
         if self.early.is_none() {
             self.early = early_of(listener, self.wanted);
@@ -41,17 +42,22 @@ impl AwaitedClient {
         }
     }
 
-    /// The client's connection at a listener: that which came early, or one that has come by now.
+    /// The client's connection at a listener: that which came early, or one that has come by now. A connection that is
+    /// held and is not the client's, as there is none, is closed.
     pub(crate) fn take(&mut self, listener: &TcpListener) -> Option<PeerConnection>
         ensures peer { IfSome result (λ connection. connection.peer ≡ self.old.wanted) }
-        ensures held { IfSome self.old.early (λ connection. result ≡ Some connection) }
+        ensures held { IfSome self.old.early (λ connection.
+            connection.peer ≡ self.old.wanted → result ≡ Some connection) }
         ensures none { self.new.early ≡ None }
         ensures wanted { self.new.wanted ≡ self.old.wanted }
     {
-        match mem::replace(&mut self.early, None) {
-            Some(connection) => Some(connection),
-            None => accept_from(listener, self.wanted),
+        let held = mem::replace(&mut self.early, None);
+        if let Some(connection) = held {
+            if connection.peer() == self.wanted {
+                return Some(connection);
+            }
         }
+        accept_from(listener, self.wanted)
     }
 
     /// Closes the connection that is held, if there is one.

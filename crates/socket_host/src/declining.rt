@@ -1,11 +1,9 @@
 //! Commands that are refused for what they ask of the store.
 
 ghost use Rattle.std.specs.Prelude.{◌≡◌, IfNone, IfOk, IfSome, MatchResult, None, true};
-ghost use Rattle.std.specs.declared.alloc.Global.{Global};
-ghost use Rattle.ftp_reply.specs.Replies.{reply_text};
-ghost use Rattle.session_table.specs.Answers.{answer_form};
+ghost use Rattle.ftp_reply.specs.Replies.{OneLine, reply_text};
+ghost use Rattle.session_table.specs.Answers.{refusal_row};
 ghost use Rattle.session_table.specs.Steps.{asks_floors};
-ghost use Rattle.session_table.specs.declared.answers.Answer.TheVariants as answer;
 ghost use Rattle.socket_host.specs.Declined.{IsLineOf, declined_by, declined_in, is_of_store};
 
 use control_session::{NoStep, Session};
@@ -98,7 +96,7 @@ pub(crate) fn line_of<K>(
 /// The text of the reply of a refusal.
 pub(crate) fn reply_of(alloc: Global, refusal: Refusal) -> Result<Vec<u8>, AllocError>
     ensures reply { IfOk result (λ text.
-        text.items ≡ reply_text (answer_form (answer.Refusal {A = Global} refusal))) }
+        text.items ≡ reply_text (OneLine (refusal_row refusal).0 (refusal_row refusal).1)) }
 {
     let reply = Answer::<Global>::Refusal(refusal).into_reply();
     let mut text = Vec::new(alloc);

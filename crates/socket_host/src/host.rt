@@ -40,7 +40,7 @@ use server_house::{
     ServerHooks, ServerRuntime, SessionEvent, SessionRefusal, ShutdownStage, StoreNote,
     TransferKind, TransferRecord, copy_settings,
 };
-use session_table::{Action, HookCall, Input, Job, Refusal, Settings, Text};
+use session_table::{Action, HookCall, Input, Job, Settings, Text};
 use std::alloc::{AllocError, Global};
 use std::time::Duration;
 use std::{io, thread};
@@ -223,7 +223,10 @@ where
 
     // Takes a place among the sessions of a user. Returns whether there is one.
     fn takes_place(&self, user: u32) -> bool {
-        self.house.logins.lock(self.rt).log_in(self.own.number, user)
+        self.house
+            .logins
+            .lock(self.rt)
+            .log_in(self.own.number, user)
     }
 
     // Ends the session in the place of a step that would log a user in, by newer terms if there are any, who is logged in as
@@ -471,15 +474,23 @@ where
         }
     }
 
-    // Reports a command that was refused for what it asks of the store. Without memory nothing is reported.
-    fn report_declined(&self, session: &Session<Global>, line: &[u8], refusal: Refusal) {
+    // Reports the command of a step, if it was refused for what it asks of the store. Without memory nothing is reported.
+    fn report_declined<F, K>(
+        &self,
+        session: &Session<Global>,
+        line: &Option<Vec<u8>>,
+        made: &Result<Vec<Action<Global, F, K>>, NoStep<Global, K>>,
+    ) {
+        let (Some(line), Some(refusal)) = (line, declined(made)) else {
+            return;
+        };
         let Ok(reply) = reply_of(self.rt.alloc(), refusal) else {
             return;
         };
         let command = DeclinedCommand {
             user: self.standing.name(),
             directory: session.directory(),
-            line: without_end(line),
+            line: without_end(line.as_slice()),
             reply: without_end(reply.as_slice()),
         };
         self.house
@@ -666,9 +677,7 @@ where
         self.keep_place(is_pass, session);
         self.follow_store(record, is_refused(&made));
         self.report_made(&made);
-        if let (Some(line), Some(refusal)) = (line, declined(&made)) {
-            self.report_declined(session, line.as_slice(), refusal);
-        }
+        self.report_declined(session, &line, &made);
         made
     }
 

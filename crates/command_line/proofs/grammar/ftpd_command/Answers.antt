@@ -16,6 +16,8 @@ returns c =
     let second = c.in_ok-with_script.ensures.shape (no_globals _ _ _ _ (ap (λ (a : App). a.top.is_plain) script)) ∙ ap₂ with_subcommand first (ap (λ (a : App). a.top) script) in
     let third = c.in_ok-with_serve.ensures.shape (no_globals _ _ _ _ (ap (λ (a : App). a.top.is_plain) serve)) ∙ ap₂ with_subcommand second (ap (λ (a : App). a.top) serve) in
     let fourth = c.in_ok-with_plan.ensures.shape (no_globals _ _ _ _ (ap (λ (a : App). a.top.is_plain) plan)) ∙ ap₂ with_subcommand third (ap (λ (a : App). a.top) plan) in
+    let usage = c.in_ok-usage_command.ensures.usage in
+    let fifth = c.in_ok-with_show.ensures.shape (no_globals _ _ _ _ (ap (λ (a : App). a.top.is_plain) show)) ∙ ap₂ with_subcommand fourth (ap (λ (a : App). a.top) show) in
     record {
-      ftpd = c.in_ok-command.ensures.shape (no_globals _ _ _ _ (ap (λ (a : App). a.top.is_plain) show)) ∙ ap₂ with_subcommand fourth (ap (λ (a : App). a.top) show);
+      ftpd = c.in_ok-command.ensures.shape (no_globals _ _ _ _ (ap (λ (a : App). a.top.is_plain) usage)) ∙ ap₂ with_subcommand fifth (ap (λ (a : App). a.top) usage);
     }

@@ -1,0 +1,9 @@
+pub mod Cuts
+pub mod Fields
+pub mod Joined
+pub mod MomentsBack
+pub mod Numerals
+pub mod Parsed
+pub mod Visible
+pub mod Written
+pub mod WrittenBack

@@ -1,0 +1,7 @@
+pub mod Added
+pub mod Chained
+pub mod Cut
+pub mod Depths
+pub mod Looked
+pub mod Seen
+pub mod Taken

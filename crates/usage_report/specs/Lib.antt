@@ -1,0 +1,9 @@
+pub mod Adding
+pub mod Asks
+pub mod Csv
+pub mod Keys
+pub mod Looks
+pub mod Ranks
+pub mod ReportData
+pub mod Reports
+pub mod Usages

@@ -47,7 +47,7 @@ login_fault attempts user_sessions =
 abbrev pub number_fault : ServerNumbers → ℕ → ℕ → Patience → Option NumberFault
 number_fault numbers attempts user_sessions patience =
     first_fault (count_fault numbers)
-        (first_fault (login_fault attempts user_sessions) (time_fault patience))
+    (first_fault (login_fault attempts user_sessions) (time_fault patience))
 
 -- that of a server
 abbrev pub range_fault : FtpServer → Option NumberFault

@@ -14,10 +14,11 @@ use crate::ranges::number_fault;
 use crate::rows::user_rows;
 use crate::server::FtpServer;
 use crate::stop_flag::StopFlag;
-use crate::stores::{FolderStore, Stores, open_folder};
+use crate::stores::{FolderStore, Stores, open_folder, open_own, open_recorded};
 use client_patience::Patience;
 use ftp_daemon::{NoSigns, OwnerSigns, RoundClock, ServerRuntime, Service, Terms, serve};
 use grant_ledger::SettledNumbers;
+use last_fault::LastFault;
 use line_rates::Limits;
 use server_config::ServerNumbers;
 use server_house::ServerHooks;
@@ -156,9 +157,12 @@ impl FtpServer {
             × All (λ opened. opened.store.syncs ≡ self.now.syncs) stores.own.items) }
         ensures fault { IfErr result IsFolderFault }
     {
+        let error = LastFault::new(machine.alloc())?;
+        let store = open_recorded(machine, folder, error, self.syncs, flag)?;
+        let mut own = Vec::new(machine.alloc());
         let connections = self.numbers.max_cons;
-        let room = Vec::with_capacity(machine.alloc(), usize::from(connections))?;
-        open_folder(machine, folder, room, connections, self.syncs, flag)
+        open_own(machine, folder, connections, self.syncs, flag, &mut own)?;
+        Ok(Stores { store, own })
     }
 
     /// Serves these stores until the owner's signs end it, or it has had as many sessions as `numbers.sessions` says; each
@@ -238,9 +242,8 @@ impl FtpServer {
     {
         let parts = self.into_parts()?;
         let flag = StopFlag::new(machine.alloc())?;
-        let connections = parts.numbers.max_cons;
-        let room = Vec::with_capacity(machine.alloc(), usize::from(connections))?;
-        let stores = open_folder(machine, folder, room, connections, parts.syncs, &flag)?;
+        let (connections, syncs) = (parts.numbers.max_cons, parts.syncs);
+        let stores = open_folder(machine, folder, connections, syncs, &flag)?;
         serve_parts(rt, parts, stores, handler, NoSigns)
     }
 

@@ -1,6 +1,6 @@
 //! The stores of a server.
 
-ghost use Rattle.std.specs.Prelude.{◌≡◌, [], All, None, IfErr, IfOk, length};
+ghost use Rattle.std.specs.Prelude.{◌≡◌, [], All, IfErr, IfOk, OnOk, length};
 ghost use Rattle.ftp_server.specs.Folders.{IsFolderFault};
 
 use crate::fault::FtpServerFault;
@@ -50,8 +50,9 @@ impl<S: Store<Global> + Drop> Stores<S> {
 /// ```
 pub type FolderStore = DirStore<HostRuntime>;
 
-// Opens a folder, with a record of its calls and of the machine's errors. Its listings are left once the flag is raised.
-fn open_recorded(
+/// Opens a folder, with a record of its calls and of the machine's errors, of which this is the last. Its listings are left
+/// once the flag is raised.
+pub(crate) fn open_recorded(
     machine: &HostRuntime,
     folder: &str,
     error: LastFault,
@@ -74,17 +75,39 @@ fn open_recorded(
     }
 }
 
-/// Opens a folder of the machine, as a store for all and as one for each of this number of connections, which go into the
-/// room. Returns `Folder` if it cannot be opened.
+/// Opens a folder once for each of this number of connections, into an empty list.
+pub(crate) fn open_own(
+    machine: &HostRuntime,
+    folder: &str,
+    connections: u16,
+    syncs: bool,
+    flag: &StopFlag,
+    own: &mut Vec<RecordedStore<FolderStore>>,
+) -> Result<(), FtpServerFault>
+    requires empty { own.old.items ≡ [] }
+    ensures own { OnOk result (length own.new.items ≡ connections) }
+    ensures folder { OnOk result
+        (All (λ opened. opened.store.folder ≡ folder.now) own.new.items) }
+    ensures syncs { OnOk result (All (λ opened. opened.store.syncs ≡ syncs) own.new.items) }
+    ensures fault { IfErr result IsFolderFault }
+{
+    for _ in 0..connections {
+        let error = LastFault::new(machine.alloc())?;
+        let another = open_recorded(machine, folder, error, syncs, flag)?;
+        own.push(another)?;
+    }
+    Ok(())
+}
+
+/// Opens a folder of the machine, as a store for all and as one for each of this number of connections. Returns `Folder` if
+/// it cannot be opened.
 pub(crate) fn open_folder(
     machine: &HostRuntime,
     folder: &str,
-    room: Vec<RecordedStore<FolderStore>>,
     connections: u16,
     syncs: bool,
     flag: &StopFlag,
 ) -> Result<Stores<FolderStore>, FtpServerFault>
-    requires room { room.items ≡ [] }
     ensures own { IfOk result (λ stores. length stores.own.items ≡ connections) }
     ensures folder { IfOk result (λ stores. (stores.store.store.folder ≡ folder.now)
         × All (λ opened. opened.store.folder ≡ folder.now) stores.own.items) }
@@ -94,11 +117,7 @@ pub(crate) fn open_folder(
 {
     let error = LastFault::new(machine.alloc())?;
     let store = open_recorded(machine, folder, error, syncs, flag)?;
-    let mut own = room;
-    for _ in 0..connections {
-        let error = LastFault::new(machine.alloc())?;
-        let another = open_recorded(machine, folder, error, syncs, flag)?;
-        own.push(another)?;
-    }
+    let mut own = Vec::new(machine.alloc());
+    open_own(machine, folder, connections, syncs, flag, &mut own)?;
     Ok(Stores { store, own })
 }

@@ -1,5 +1,5 @@
 use Rattle.std.proofs.Common.{◌≡◌, All, length}
-use Rattle.ftp_server.proofs.stores.open_folder.Given as goal
+use Rattle.ftp_server.proofs.stores.open_own.Given as goal
 
 abbrev pub invariant-loop : goal.invariant-loop
 invariant-loop l =

@@ -16,13 +16,16 @@ struct LogFiles<'r> {
 }
 
 impl LogSource for LogFiles<'_> {
-    type Log = BufReader<Noted<Opened<<HostRuntime as Files>::File, <HostRuntime as Input>::Reader>>>;
+    type Log = BufReader<
+        Noted<Opened<<HostRuntime as Files>::File, <HostRuntime as Input>::Reader>>,
+    >;
 
     fn open(
         &mut self,
         path: &str,
-    ) -> io::Result<BufReader<Noted<Opened<<HostRuntime as Files>::File, <HostRuntime as Input>::Reader>>>>
-    {
+    ) -> io::Result<
+        BufReader<Noted<Opened<<HostRuntime as Files>::File, <HostRuntime as Input>::Reader>>>,
+    > {
         let log = self.files.open(path)?;
         BufReader::new(self.machine.alloc(), log.0)
     }

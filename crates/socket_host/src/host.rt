@@ -6,7 +6,6 @@ ghost use Rattle.control_session.specs.Calls.{reads_within};
 ghost use Rattle.control_session.specs.Rows.{IsRow};
 ghost use Rattle.control_session.specs.Turns.{StepRefused, Stepped};
 ghost use Rattle.control_session.specs.Sides.{back_in, given_of, is_line};
-ghost use Rattle.rate_floors.specs.Promises.{HasNoSessions};
 ghost use Rattle.session_core.specs.Events.{is_event};
 ghost use Rattle.session_table.specs.Views.{is_closed};
 ghost use Rattle.socket_host.specs.Records.{path_of};
@@ -32,13 +31,12 @@ use control_session::{Host, Leaving, NoStep, Piece, Session, close_by, end_by, s
 use event_word::micros;
 use ftp_wire::HostPort;
 use lent_parts::PartsName;
-use line_rates::Limits;
 use rate_floors::Floors;
 use recorded_store::{Recorder, StoreRecord};
 use server_house::{
-    BegunTransfer, ClientSession, DeclinedCommand, EndCause, HeldTerms, House, OwnRuns,
-    ServerHooks, ServerRuntime, SessionEvent, SessionRefusal, ShutdownStage, StoreNote,
-    TransferKind, TransferRecord, copy_settings,
+    BegunTransfer, ClientSession, DeclinedCommand, EndCause, HeldTerms, OwnRuns, ServerHooks,
+    ServerRuntime, SessionEvent, SessionRefusal, ShutdownStage, StoreNote, TransferKind,
+    TransferRecord, copy_settings,
 };
 use session_table::{Action, HookCall, Input, Job, Settings, Text};
 use std::alloc::{AllocError, Global};
@@ -49,14 +47,6 @@ use virtual_tree::Store;
 
 /// Interval between two looks, of a session that delays a reply, whether the server ends, in milliseconds.
 const LOOK: u64 = 50;
-
-/// Floors without rows, which need no memory.
-pub(crate) fn floors_of_nobody(alloc: Global) -> Option<Floors>
-    ensures none { IfSome result HasNoSessions }
-{
-    let limits = Limits::of(0, 0, 0, Vec::new(alloc), Vec::new(alloc)).ok()?;
-    Floors::of(alloc, &limits).ok()
-}
 
 // A transfer that was begun, at `since` in microseconds.
 #[derive(Clone, Copy)]
@@ -79,7 +69,6 @@ pub struct SessionNeeds {
 /// The host of the session of one control connection. It cannot be dropped: its data side leaves its ticket.
 pub struct SocketHost<'h, R, S: Store<Global>, H: Drop, B: PartsName, T> {
     rt: &'h R,
-    house: &'h House<S, H, B>,
     // the user, and the terms whose users are lent to each step
     standing: Standing,
     socket: ControlSocket,
@@ -113,7 +102,6 @@ where
     /// those of nobody.
     pub fn new(
         rt: &'h R,
-        house: &'h House<S, H, B>,
         socket: ControlSocket,
         side: SocketSide<'h, R, S, H, B, T>,
         own: ClientSession,
@@ -125,7 +113,6 @@ where
         let now = micros(rt);
         SocketHost {
             rt,
-            house,
             standing: Standing::new(rt.alloc(), held),
             socket,
             side,
@@ -148,7 +135,6 @@ where
     pub fn leave(self) {
         let SocketHost {
             rt: _,
-            house: _,
             standing: _,
             socket: _,
             side,
@@ -171,17 +157,17 @@ where
     }
 
     fn is_ending(&self) -> bool {
-        self.house.ending.has_begun(ShutdownStage::Sessions)
+        self.side.house.ending.has_begun(ShutdownStage::Sessions)
     }
 
     // Returns whether the owner of the server has ended this session.
     fn is_ended(&self) -> bool {
-        self.house.is_to_end(self.own.number)
+        self.side.house.is_to_end(self.own.number)
     }
 
     // The terms in force, if they were exchanged. Without memory they are had at the next call.
     fn newer_terms(&self) -> Option<HeldTerms> {
-        let terms = &self.house.terms;
+        let terms = &self.side.house.terms;
         if !self.standing.is_behind(terms.exchanges()) {
             return None;
         }
@@ -211,7 +197,11 @@ where
 
     // Leaves the place among the sessions of a user.
     fn leave_place(&self) {
-        self.house.logins.lock(self.rt).log_out(self.own.number);
+        self.side
+            .house
+            .logins
+            .lock(self.rt)
+            .log_out(self.own.number);
     }
 
     // Leaves the place that was taken for a step with PASS, if nobody is logged in after it.
@@ -223,7 +213,8 @@ where
 
     // Takes a place among the sessions of a user. Returns whether there is one.
     fn takes_place(&self, user: u32) -> bool {
-        self.house
+        self.side
+            .house
             .logins
             .lock(self.rt)
             .log_in(self.own.number, user)
@@ -256,13 +247,13 @@ where
             return false;
         }
         self.report(SessionEvent::Refused(SessionRefusal::TooManySessions));
-        let _ = self.socket.write(CROWDED, &self.house.ending);
+        let _ = self.socket.write(CROWDED, &self.side.house.ending);
         true
     }
 
     // The last reply to the client, if the session is to end now, other than for a limit of time.
     fn last_reply(&self) -> Option<&'static [u8]> {
-        let drains = self.house.ending.has_begun(ShutdownStage::Drain);
+        let drains = self.side.house.ending.has_begun(ShutdownStage::Drain);
         let is_busy = self.side.is_busy();
         last_reply(
             self.is_ending(),
@@ -281,7 +272,7 @@ where
         if self.is_ended() {
             self.report(SessionEvent::Ended);
         }
-        let _ = self.socket.write(reply, &self.house.ending);
+        let _ = self.socket.write(reply, &self.side.house.ending);
     }
 
     // Lets this many seconds pass, without a lock; ends early if the server ends, or its owner has ended the session.
@@ -303,7 +294,7 @@ where
     {
         if self.is_wrong {
             self.is_wrong = false;
-            self.delay(self.house.patience.login_delay);
+            self.delay(self.side.house.patience.login_delay);
         }
     }
 
@@ -365,7 +356,8 @@ where
 
     // The last error of the machine in the session's store or files, if there was one since it was asked for.
     fn store_error(&self) -> Option<io::Error> {
-        self.house
+        self.side
+            .house
             .store_of(self.own.number)
             .lock(self.rt)
             .take_error()
@@ -377,10 +369,10 @@ where
             (TransferKind::Sent, Some(path)) => path,
             _ => return None,
         };
-        if !self.house.handler.lock(self.rt).wants_sizes() {
+        if !self.side.house.handler.lock(self.rt).wants_sizes() {
             return None;
         }
-        let mut store = self.house.store_of(self.own.number).lock(self.rt);
+        let mut store = self.side.house.store_of(self.own.number).lock(self.rt);
         let found = store.stat(path);
         let _ = store.take_last();
         let _ = store.take_error();
@@ -413,7 +405,8 @@ where
     // Reports that the last transfer was begun.
     fn report_begin(&self) {
         let transfer = self.beginning(self.size());
-        self.house
+        self.side
+            .house
             .handler
             .lock(self.rt)
             .on_begun(self.own, &transfer);
@@ -422,7 +415,8 @@ where
     // Reports the end of the last transfer that was begun.
     fn report_end(&self, cause: Option<EndCause>) {
         let record = self.record(cause);
-        self.house
+        self.side
+            .house
             .handler
             .lock(self.rt)
             .on_transfer(self.own, &record);
@@ -439,7 +433,11 @@ where
             record,
             error,
         };
-        self.house.handler.lock(self.rt).on_store(self.own, &note);
+        self.side
+            .house
+            .handler
+            .lock(self.rt)
+            .on_store(self.own, &note);
     }
 
     // Follows a step, which may have said a refusal, and its call of the store: the file that is opened, a change, or a
@@ -493,7 +491,8 @@ where
             line: without_end(line.as_slice()),
             reply: without_end(reply.as_slice()),
         };
-        self.house
+        self.side
+            .house
             .handler
             .lock(self.rt)
             .on_declined(self.own, &command);
@@ -521,21 +520,25 @@ where
         let moment = millis_since_1970(self.rt);
         let users = &self.standing.terms().users;
         if asks_floors(session, input) {
-            let mut floors = self.house.floors.lock(self.rt);
-            let mut store = self.house.store_of(self.own.number).lock(self.rt);
+            let mut floors = self.side.house.floors.lock(self.rt);
+            let mut store = self.side.house.store_of(self.own.number).lock(self.rt);
             let made = step_by(session, users, &mut *floors, &mut *store, input, moment);
             return (made, store.take_last());
         }
         // Asks for no admission (`others_ask_no_floors` of `session_table`), so needs no lock of the floors.
         let floors = &mut self.no_floors;
-        let mut store = self.house.store_of(self.own.number).lock(self.rt);
+        let mut store = self.side.house.store_of(self.own.number).lock(self.rt);
         let made = step_by(session, users, floors, &mut *store, input, moment);
         (made, store.take_last())
     }
 
     // Reports an event of the session that is none of its steps.
     fn report(&self, event: SessionEvent) {
-        self.house.handler.lock(self.rt).on_session(self.own, event);
+        self.side
+            .house
+            .handler
+            .lock(self.rt)
+            .on_session(self.own, event);
     }
 
     // Ends the session in the place of a step for a line, if it is to end now. The client is told.
@@ -583,7 +586,9 @@ where
         ensures side { self.new.side ≡ self.old.side }
     {
         self.report(SessionEvent::TimedOut(why));
-        let _ = self.socket.write(time_out_reply(why), &self.house.ending);
+        let _ = self
+            .socket
+            .write(time_out_reply(why), &self.side.house.ending);
     }
 
     // Reads once, and notes a sign of life.
@@ -627,7 +632,7 @@ where
     {
         let record = {
             let moment = millis_since_1970(self.rt);
-            let mut store = self.house.store_of(self.own.number).lock(self.rt);
+            let mut store = self.side.house.store_of(self.own.number).lock(self.rt);
             let floors = &mut self.no_floors;
             let users = &self.standing.terms().users;
             end_by(session, users, floors, &mut *store, event, moment);
@@ -687,7 +692,7 @@ where
         nobody: &mut Option<Text<Global>>,
     ) -> Option<Leaving<Global>> {
         let moment = millis_since_1970(self.rt);
-        let mut store = self.house.store_of(self.own.number).lock(self.rt);
+        let mut store = self.side.house.store_of(self.own.number).lock(self.rt);
         let users = &self.standing.terms().users;
         let floors = &mut self.no_floors;
         match nobody.take() {
@@ -704,7 +709,7 @@ where
     }
 
     fn release(&mut self, user: u32) {
-        self.house.floors.lock(self.rt).release(user);
+        self.side.house.floors.lock(self.rt).release(user);
     }
 
     fn note(&mut self, call: &HookCall<Global>) {
@@ -712,12 +717,16 @@ where
         if ends_file(call) {
             self.report_end(cause_with(self.side.cause(), self.is_refused));
         }
-        self.house.handler.lock(self.rt).on_call(self.own, call);
+        self.side
+            .house
+            .handler
+            .lock(self.rt)
+            .on_call(self.own, call);
     }
 
     fn write(&mut self, reply: &[u8]) -> io::Result<()> {
         self.delay_wrong();
-        self.socket.write(reply, &self.house.ending)
+        self.socket.write(reply, &self.side.house.ending)
     }
 
     fn read(&mut self, buffer: &mut [u8]) -> io::Result<Piece> {
@@ -731,7 +740,7 @@ where
             return Ok(Piece::Nothing);
         }
         let (is_busy, now) = (self.side.is_busy(), micros(self.rt));
-        if let Some(why) = passed_limit(&self.waits, self.house.patience, is_busy, now) {
+        if let Some(why) = passed_limit(&self.waits, self.side.house.patience, is_busy, now) {
             self.time_out(why);
             return Ok(Piece::AtEnd);
         }

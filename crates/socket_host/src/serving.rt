@@ -1,17 +1,20 @@
 //! A whole control session over sockets.
 
-ghost use Rattle.std.specs.Prelude.{◌≡◌, ◌<◌, ◌≤◌, ◌^◌, IsTrue, None, Some, false};
+ghost use Rattle.std.specs.Prelude.{◌≡◌, ◌<◌, ◌≤◌, ◌^◌, IfSome, IsTrue, None, Some, false};
 ghost use Rattle.control_session.specs.Rows.{IsRow};
+ghost use Rattle.rate_floors.specs.Promises.{HasNoSessions};
 ghost use Rattle.socket_host.specs.Hosted.{IsHosted};
 ghost use Rattle.std.specs.declared.alloc.Global.{Global};
 ghost use Rattle.transfer_ticket.specs.Views.{owner_view};
 ghost use Rattle.transfer_ticket.specs.declared.view.TicketView.TheVariants.{Idle};
 
 use crate::control::ControlSocket;
-use crate::host::{SessionNeeds, SocketHost, floors_of_nobody};
+use crate::host::{SessionNeeds, SocketHost};
 use crate::side::SocketSide;
 use control_session::{Host, run_control};
 use lent_parts::PartsName;
+use line_rates::Limits;
+use rate_floors::Floors;
 use recorded_store::Recorder;
 use server_house::{
     ClientSession, House, LaneEnds, OwnRuns, ServerHooks, ServerRuntime, SessionEnd, SessionJob,
@@ -138,6 +141,14 @@ fn wanted_peer(settings: &Settings, peer: [u8; 4]) -> Option<[u8; 4]>
     }
 }
 
+// Floors without rows, which need no memory.
+fn floors_of_nobody(alloc: Global) -> Option<Floors>
+    ensures none { IfSome result HasNoSessions }
+{
+    let limits = Limits::of(0, 0, 0, Vec::new(alloc), Vec::new(alloc)).ok()?;
+    Floors::of(alloc, &limits).ok()
+}
+
 // The parts of a host that need memory.
 fn needs_of<R: Wait + AllocGlobal>(rt: &R, terms: &SharedTerms) -> Option<SessionNeeds> {
     let held = terms.hold(rt).ok()?;
@@ -167,7 +178,7 @@ where
     let wanted = wanted_peer(&needs.held.terms().settings, own.peer);
     let side = SocketSide::new(rt, house, runs, wanted, session_number(own.number), owner);
     let socket = ControlSocket::new(stream);
-    SocketHost::new(rt, house, socket, side, own, needs)
+    SocketHost::new(rt, socket, side, own, needs)
 }
 
 // Runs a session at its ticket, closes its connection, and leaves the ticket.

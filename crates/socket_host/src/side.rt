@@ -99,7 +99,7 @@ fn event_of<K: Drop>(end: Option<TransferEnd<K>>) -> Option<Input<Global, K>>
 /// The data side of the session of one control connection. It cannot be dropped: it leaves its ticket.
 pub struct SocketSide<'h, R, S: Store<Global>, H: Drop, B: PartsName, T> {
     rt: &'h R,
-    house: &'h House<S, H, B>,
+    pub(crate) house: &'h House<S, H, B>,
     // runs brief downloads here
     runs: &'h T,
     // the client whose data connections are accepted, and that which came before its transfer was begun

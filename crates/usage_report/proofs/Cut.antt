@@ -1,8 +1,8 @@
 -- The first line of a text, and the lines after it.
-use Rattle.std.proofs.Common.{◌≡◌, ◌≢◌, ◌∙◌, ◌+◌, ◌-◌, ◌==◌, ℕ, suc, Bool, true, false, cond, List, [], ◌∷◌, ◌++◌, map, length, refl, sym, ap, subst, rules, arith, tests, eq-eqb}
-use Rattle.std.specs.Prelude.{slice_index, take}
+use Rattle.std.proofs.Common.{◌≡◌, ◌≢◌, ◌∙◌, ◌==◌, ℕ, Bool, true, false, cond, List, [], ◌∷◌, length, refl, sym, ap, arith}
+use Rattle.std.specs.Prelude.{slice_index}
 use Rattle.std.specs.Io.BufRead.{drop_through, take_through}
-use Rattle.std.specs.List.{AllByRecursion, onto_first}
+use Rattle.std.specs.List.{onto_first}
 use Rattle.std.proofs.lemmas.List.Splits.{slice_split-cons_no, slice_split-cons_yes}
 use Rattle.log_lines.specs.Words.{Octets, parts}
 use Rattle.usage_report.specs.Usages.{lines_in, without_end}
@@ -31,32 +31,39 @@ cut text = parts 10 (ended text)
 some_lines : (x : ℕ) (xs : Octets) → lines_in (x ∷ xs) ≡ cut (x ∷ xs)
 some_lines x xs = ap (parts 10) (is_ended (x ∷ xs))
 
--- a line end is no part of its line
-ended_first : (x : ℕ) (xs : Octets) → (x == 10) ≡ true → cut (x ∷ xs) ≡ [] ∷ lines_in xs
-ended_first x [] yes = rw yes refl
-ended_first x (y ∷ ys) yes = slice_split-cons_yes (λ octet. octet == 10) x (ended (y ∷ ys)) yes ∙ ap (λ (more : List Octets). [] ∷ more) (sym (some_lines y ys))
+longer : (x y : ℕ) (ys : Octets) → ended (x ∷ take_through 10 (y ∷ ys)) ≡ x ∷ ended (take_through 10 (y ∷ ys))
+longer x y ys = go (y == 10) refl
+  where
+    go : (b : Bool) → (y == 10) ≡ b → ended (x ∷ take_through 10 (y ∷ ys)) ≡ x ∷ ended (take_through 10 (y ∷ ys))
+    go true e = rw e refl
+    go false e = rw e refl
+
+one_left : (x : ℕ) → cut (x ∷ []) ≡ ended (take_through 10 (x ∷ [])) ∷ lines_in (drop_through 10 (x ∷ []))
+one_left x = go (x == 10) refl
+  where
+    go : (b : Bool) → (x == 10) ≡ b → cut (x ∷ []) ≡ ended (take_through 10 (x ∷ [])) ∷ lines_in (drop_through 10 (x ∷ []))
+    go true e = rw e (rw e refl)
+    go false e = rw e (rw e refl)
+
+more_left : (x y : ℕ) (ys : Octets) → cut (y ∷ ys) ≡ ended (take_through 10 (y ∷ ys)) ∷ lines_in (drop_through 10 (y ∷ ys))
+    → cut (x ∷ y ∷ ys) ≡ ended (take_through 10 (x ∷ y ∷ ys)) ∷ lines_in (drop_through 10 (x ∷ y ∷ ys))
+more_left x y ys first = go (x == 10) refl
+  where
+    go : (b : Bool) → (x == 10) ≡ b → cut (x ∷ y ∷ ys) ≡ ended (take_through 10 (x ∷ y ∷ ys)) ∷ lines_in (drop_through 10 (x ∷ y ∷ ys))
+    go true e =
+        slice_split-cons_yes (λ octet. octet == 10) x (ended (y ∷ ys)) e
+        ∙ ap (λ (lines : List Octets). [] ∷ lines) (sym (some_lines y ys))
+        ∙ rw e (rw e refl)
+    go false e =
+        slice_split-cons_no (λ octet. octet == 10) x (ended (y ∷ ys)) e
+        ∙ ap (onto_first x) first
+        ∙ ap (λ (line : Octets). line ∷ lines_in (drop_through 10 (y ∷ ys))) (sym (longer x y ys))
+        ∙ rw e refl
 
 -- the first line, and the lines of the rest
 cut_first : (x : ℕ) (xs : Octets) → cut (x ∷ xs) ≡ ended (take_through 10 (x ∷ xs)) ∷ lines_in (drop_through 10 (x ∷ xs))
-cut_first x xs = go (x == 10) refl
-  where
-    longer : (y : ℕ) (ys : Octets) → ended (x ∷ take_through 10 (y ∷ ys)) ≡ x ∷ ended (take_through 10 (y ∷ ys))
-    longer y ys = one (y == 10) refl
-      where
-        one : (b : Bool) → (y == 10) ≡ b → ended (x ∷ take_through 10 (y ∷ ys)) ≡ x ∷ ended (take_through 10 (y ∷ ys))
-        one true e = rw e refl
-        one false e = rw e refl
-
-    rest : (xs : Octets) → (x == 10) ≡ false → cut (x ∷ xs) ≡ ended (x ∷ take_through 10 xs) ∷ lines_in (drop_through 10 xs)
-    rest [] no = rw no (slice_split-cons_no (λ octet. octet == 10) x [] no)
-    rest (y ∷ ys) no =
-        slice_split-cons_no (λ octet. octet == 10) x (ended (y ∷ ys)) no
-        ∙ ap (onto_first x) (cut_first y ys)
-        ∙ ap (λ (line : Octets). line ∷ lines_in (drop_through 10 (y ∷ ys))) (sym (longer y ys))
-
-    go : (b : Bool) → (x == 10) ≡ b → cut (x ∷ xs) ≡ ended (take_through 10 (x ∷ xs)) ∷ lines_in (drop_through 10 (x ∷ xs))
-    go true e = ended_first x xs e ∙ rw e (rw e refl)
-    go false e = rest xs e ∙ rw e refl
+cut_first x [] = one_left x
+cut_first x (y ∷ ys) = more_left x y ys (cut_first y ys)
 
 -- what `read_until` takes of a text that is not empty is its first line
 pub first_line : (text : Octets) → text ≢ [] → lines_in text ≡ without_end (take_through 10 text) ∷ lines_in (drop_through 10 text)

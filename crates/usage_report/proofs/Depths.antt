@@ -1,6 +1,6 @@
 -- The report as JSON is not deep.
 use Rattle.std.proofs.Common.{◌≡◌, ◌≤◌, ℕ, List, [], ◌∷◌, Option, None, Some, map, arith, refl}
-use Rattle.serde_json.specs.Data.{Data, array, depth, items_depth}
+use Rattle.serde_json.specs.Data.{Data, depth, items_depth}
 use Rattle.serde_json.specs.View.{items_of}
 use Rattle.log_lines.specs.declared.moment.LogDay.{LogDay}
 use Rattle.usage_report.specs.Adding.{octets_a_second}

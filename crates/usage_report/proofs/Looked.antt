@@ -1,5 +1,5 @@
 -- What is looked at, with one more line.
-use Rattle.std.proofs.Common.{◌≡◌, ◌∙◌, ◌+◌, ℕ, Bool, true, false, cond, List, [], ◌∷◌, ◌++◌, append_assoc, Option, Some, None, option_map, is_some, length, refl, sym, ap, subst, arith}
+use Rattle.std.proofs.Common.{◌≡◌, ◌∙◌, ◌+◌, ℕ, cond, List, [], ◌∷◌, ◌++◌, append_assoc, Option, Some, None, option_map, is_some, length, refl, sym, ap, subst, arith}
 use Rattle.std.specs.List.{count_by}
 use Rattle.std.specs.Option.{unwrap_or}
 use Rattle.std.proofs.lemmas.List.{append-nil, length-append}
@@ -17,7 +17,9 @@ first_after_unread : (seen : List (Option Line)) → first_unread (seen ++ None 
 first_after_unread [] = refl
 first_after_unread (None ∷ seen) = refl
 first_after_unread (Some first ∷ seen) =
-    ap (option_map (λ n. n + 1)) (first_after_unread seen) ∙ ap Some (one_more (first_unread seen) (length seen + 1))
+    ap (option_map (λ n. n + 1)) (first_after_unread seen)
+    ∙ ap Some (one_more (first_unread seen) (length seen + 1))
+    ∙ ap (λ (n : ℕ). Some (unwrap_or (option_map (λ m. m + 1) (first_unread seen)) n)) (let same : length seen + 1 + 1 ≡ length (Some first ∷ seen) + 1 = omega arith in same)
   where
     one_more : (o : Option ℕ) (n : ℕ) → unwrap_or o n + 1 ≡ unwrap_or (option_map (λ m. m + 1) o) (n + 1)
     one_more None n = refl

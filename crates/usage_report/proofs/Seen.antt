@@ -1,11 +1,10 @@
 -- What is seen, with one more line.
-use Rattle.std.proofs.Common.{◌≡◌, ◌∙◌, ◌+◌, ℕ, Bool, true, false, cond, List, [], ◌∷◌, ◌++◌, map, append_assoc, Option, Some, None, Result, Ok, Err, OnOk, length, filter, refl, sym, ap, subst, rules, arith}
+use Rattle.std.proofs.Common.{◌≡◌, ◌∙◌, ℕ, Bool, true, false, cond, List, [], ◌∷◌, ◌++◌, append_assoc, Option, Some, None, Result, Ok, Err, OnOk, filter, refl, sym, ap, subst}
 use Rattle.std.specs.BTreeMap.{get_by_text}
 use Rattle.std.specs.List.{filter_map}
 use Rattle.std.proofs.lemmas.List.{append-nil}
 use Rattle.std.proofs.lemmas.List.Elements.{filter-append, filter_map-append}
 use Rattle.log_lines.specs.Lines.{Line}
-use Rattle.log_lines.specs.Words.{Octets}
 use Rattle.log_lines.specs.declared.moment.LogDay.{LogDay}
 use Rattle.usage_report.specs.Adding.{plus, row_of, tally_of}
 use Rattle.usage_report.specs.Usages.{HasSeen, IsCounted, IsUsageOf, counted, is_on, with_key}

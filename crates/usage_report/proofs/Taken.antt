@@ -1,5 +1,5 @@
 -- Lines that are taken one after another.
-use Rattle.std.proofs.Common.{◌≡◌, ◌≢◌, ◌<◌, ◌∙◌, ℕ, Bool, List, [], ◌∷◌, ◌++◌, append_assoc, map, length, Option, Some, None, IfSome, is_some, refl, sym, ap, subst, arith}
+use Rattle.std.proofs.Common.{◌≡◌, ◌≢◌, ◌<◌, ◌∙◌, List, [], ◌∷◌, ◌++◌, append_assoc, map, length, Option, Some, None, IfSome, is_some, refl, sym, ap, subst, arith}
 use Rattle.std.specs.Io.BufRead.{DropsThrough, drop_through, take_through}
 use Rattle.std.specs.Io.KnownBytes.{IsAtEnd}
 use Rattle.std.proofs.lemmas.List.{append-nil}
@@ -93,3 +93,8 @@ log_taken one two three look next last (Some text) more rest a b end none =
     let ended : rest ≡ Some [] = subst (λ (o : Option Octets). IfSome o (λ _. rest ≡ Some [])) a.1 end in
     let empty : all.0 ≡ [] = let both : Some all.0 ≡ Some [] = sym all.1 ∙ ended in cc in
     all_taken one three look last text (subst (λ (t : Octets). TakesLines one three look last text t) empty all.2) none
+
+-- what is appended to nothing is all
+pub cleared : (left : Option Octets) (line old : Octets) → IfSome left (λ text. line ≡ old ++ take_through 10 text) → old ≡ [] → IfSome left (λ text. line ≡ take_through 10 text)
+cleared None line old is none = tt
+cleared (Some text) line old is none = is ∙ ap (λ (front : Octets). front ++ take_through 10 text) none

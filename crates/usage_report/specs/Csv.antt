@@ -1,16 +1,9 @@
 -- The report as CSV (RFC 4180, with a line feed alone after each line).
-use Rattle.std.specs.Prelude.{◌==◌, ◌-◌, ◌++◌, ℕ, List, [], ◌∷◌, Option, Some, None, codes, decimal, if◌then◌else◌, length, nat_eq}
+use Rattle.std.specs.Prelude.{◌==◌, ◌++◌, ℕ, [], ◌∷◌, Option, Some, None, codes, decimal, if◌then◌else◌}
 use Rattle.std.specs.List.{flat_map}
 use Rattle.log_lines.specs.Words.{Octets}
 use Rattle.usage_report.specs.Adding.{octets_a_second}
-use Rattle.usage_report.specs.Asks.{key_name}
 use Rattle.usage_report.specs.declared.adding.Sums.{Sums}
-use Rattle.usage_report.specs.declared.csv.TheConstants.{HEAD}
-use Rattle.usage_report.specs.declared.key.UsageKey.{UsageKey}
-use Rattle.usage_report.specs.declared.look.LogLook.{LogLook}
-use Rattle.usage_report.specs.declared.rank.UsageRow.{UsageRow}
-use Rattle.usage_report.specs.declared.report.LogSeen.{LogSeen}
-use Rattle.usage_report.specs.declared.report.Report.{Report}
 
 -- an octet within quotation marks
 abbrev pub quoted : ℕ → Octets

@@ -1,5 +1,5 @@
 -- The keys by which transfers are added up.
-use Rattle.std.specs.Prelude.{ℕ, ◌+◌, ◌/◌, ◌%◌, List, [], ◌∷◌, ◌++◌, codes}
+use Rattle.std.specs.Prelude.{ℕ, ◌+◌, ◌/◌, ◌%◌, [], ◌∷◌, ◌++◌, codes}
 use Rattle.log_lines.specs.Lines.{Line}
 use Rattle.log_lines.specs.Words.{Octets}
 use Rattle.log_lines.specs.declared.moment.LogDay.{LogDay}

@@ -1,5 +1,5 @@
 -- The sums over the lines of logs.
-use Rattle.std.specs.Prelude.{◌≡◌, ℕ, ◌-◌, ◌==◌, ◌&&◌, Bool, true, false, bytes_eq, nat_eq, if◌then◌else◌, List, [], ◌∷◌, ◌++◌, filter, length, slice_index, take, Option, Some, None, String}
+use Rattle.std.specs.Prelude.{◌≡◌, ◌-◌, ◌==◌, ◌&&◌, Bool, true, bytes_eq, nat_eq, if◌then◌else◌, List, [], ◌∷◌, ◌++◌, filter, length, slice_index, take, Option, Some, None, String}
 use Rattle.std.specs.BTreeMap.{BTreeMap, get_by_text}
 use Rattle.std.specs.declared.alloc.Global.{Global}
 use Rattle.std.specs.List.{filter_map}
@@ -33,7 +33,8 @@ without_end text =
 
 -- the lines of a text; the last may lack its end
 abbrev pub lines_in : Octets → List Octets
-lines_in text = if nat_eq (length text) 0 then [] else parts 10 (without_end text)
+lines_in [] = []
+lines_in (octet ∷ rest) = parts 10 (without_end (octet ∷ rest))
 
 -- the transfers of lines that were read, those of the day
 abbrev pub counted : Option LogDay → List (Option Line) → List Line

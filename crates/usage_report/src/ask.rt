@@ -139,7 +139,11 @@ fn form_of(json: bool, csv: bool) -> UsageForm
     if json {
         return UsageForm::Json;
     }
-    if csv { UsageForm::Csv } else { UsageForm::Table }
+    if csv {
+        UsageForm::Csv
+    } else {
+        UsageForm::Table
+    }
 }
 
 /// Returns the report that words ask for, or the reason for which they ask for none.

@@ -1,6 +1,28 @@
 //! The transfers of transfer logs, added up: their number, octets and seconds, by user, file, hour or address.
 //!
 //! ```text
+//! let day = read_day("2026-11-26");
+//! let mut usage = Usage::new(rt.alloc(), UsageKey::User, day);
+//! let mut log = NEW;
+//! let look = usage.take_log(rt.alloc(), &mut log).expect(&rt, "sums");
+//! let seen = LogLook {
+//!     lines: 5,
+//!     unread: 1,
+//!     first_unread: Some(3),
+//! };
+//! holds(&rt, look == seen);
+//! let ann = Sums {
+//!     transfers: 2,
+//!     octets: 106,
+//!     seconds: 6,
+//! };
+//! holds(&rt, usage.rows.get("ann").copied() == Some(ann));
+//! let all = Sums {
+//!     transfers: 3,
+//!     octets: 116,
+//!     seconds: 7,
+//! };
+//! holds(&rt, usage.total == all);
 //! ```
 #![tactic(auto)]
 

@@ -57,24 +57,21 @@ fn take_next<R: BufRead>(
     Ok(true)
 }
 
-impl Usage {
-    /// Adds the lines of a log; the last may lack its end. Returns what was seen of it. Fails if a sum is not below 2^64,
-    /// if the log cannot be read, or if memory runs out; the sums are then of no use.
-    pub fn take_log<R: BufRead>(
-        &mut self,
-        alloc: Global,
-        reader: &mut R,
-    ) -> Result<LogLook, UsageFault>
-        ensures taken { IfOk result (λ look. IfSome (R.remaining reader.old)
-            (IsLogTaken self.old self.new look)) }
-    {
-        let mut look = LogLook::none();
-        let mut line = Vec::new(alloc);
-        'lines: for _ in 0..u64::MAX {
-            if !take_next(alloc, self, &mut look, &mut line, reader)? {
-                return Ok(look);
-            }
+/// Takes the lines of a log, all of them. Returns what was seen of it.
+pub(crate) fn take_lines<R: BufRead>(
+    alloc: Global,
+    usage: &mut Usage,
+    reader: &mut R,
+) -> Result<LogLook, UsageFault>
+    ensures taken { IfOk result (λ look. IfSome (R.remaining reader.old)
+        (IsLogTaken usage.old usage.new look)) }
+{
+    let mut look = LogLook::none();
+    let mut line = Vec::new(alloc);
+    'lines: for _ in 0..u64::MAX {
+        if !take_next(alloc, usage, &mut look, &mut line, reader)? {
+            return Ok(look);
         }
-        Err(UsageFault::TooMuch)
     }
+    Err(UsageFault::TooMuch)
 }

@@ -13,14 +13,12 @@ fn of_value(
     fault: AskFault,
 ) -> Result<String, AllocError> {
     let value = value.unwrap_or("");
-    format!(in alloc; "error: invalid value '{value}' for '--{option} <{name}>': {fault}\n\nFor more information, try '--help'.\n")
+    format!(in alloc;
+        "error: invalid value '{value}' for '--{option} <{name}>': {fault}\n\nFor more information, try '--help'.\n"
+    )
 }
 
-fn refusal(
-    alloc: Global,
-    words: &AskWords<'_>,
-    fault: AskFault,
-) -> Result<String, AllocError> {
+fn refusal(alloc: Global, words: &AskWords<'_>, fault: AskFault) -> Result<String, AllocError> {
     match fault {
         AskFault::Key => of_value(alloc, "by", "KEY", words.by, fault),
         AskFault::Day => of_value(alloc, "day", "DAY", words.day, fault),

@@ -1,17 +1,21 @@
 //! The sums over the lines of logs.
 
-ghost use Rattle.std.specs.Prelude.{◌≡◌, ◌∷◌, [], IfOk, None, OnOk, Some, is_some, string_bytes, unwrap_or};
+ghost use Rattle.std.specs.Prelude.{◌≡◌, ◌∷◌, [], IfOk, IfSome, None, OnOk, Some, is_some, string_bytes, unwrap_or};
 ghost use Rattle.std.specs.BTreeMap.{get_by_text};
 ghost use Rattle.log_lines.specs.Lines.{line_of, line_view};
 ghost use Rattle.usage_report.specs.Adding.{no_tally};
+ghost use Rattle.usage_report.specs.Looks.{IsLogTaken};
 ghost use Rattle.usage_report.specs.Usages.{HasSeen, IsCounted, IsRowAdded, IsUsageOf, is_on_day};
 
 use crate::adding::{Sums, plus};
 use crate::fault::UsageFault;
 use crate::key::{UsageKey, key_of};
+use crate::log::take_lines;
+use crate::look::LogLook;
 use log_lines::{LogDay, LogLine, read_line};
 use std::alloc::Global;
 use std::collections::BTreeMap;
+use std::io::BufRead;
 
 /// Sums over transfers, by a key.
 #[derive(Drop)]
@@ -55,10 +59,10 @@ fn add_row(
     let Some(row) = plus(row, line) else {
         return Err(UsageFault::TooMuch);
     };
-    match rows.insert(key, row) {
-        Ok(_) => Ok(()),
-        Err(_) => Err(UsageFault::Memory),
-    }
+    let Ok(_) = rows.insert(key, row) else {
+        return Err(UsageFault::Memory);
+    };
+    Ok(())
 }
 
 impl Usage {
@@ -112,5 +116,18 @@ impl Usage {
             }
             None => Ok(false),
         }
+    }
+
+    /// Adds the lines of a log; the last may lack its end. Returns what was seen of it. Fails if a sum is not below 2^64,
+    /// if the log cannot be read, or if memory runs out; the sums are then of no use.
+    pub fn take_log<R: BufRead>(
+        &mut self,
+        alloc: Global,
+        reader: &mut R,
+    ) -> Result<LogLook, UsageFault>
+        ensures taken { IfOk result (λ look. IfSome (R.remaining reader.old)
+            (IsLogTaken self.old self.new look)) }
+    {
+        take_lines(alloc, self, reader)
     }
 }

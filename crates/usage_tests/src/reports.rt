@@ -65,7 +65,8 @@ fn tables(rt: HostRuntime) {
     says(&rt, &words, &["new"], CSV);
 }
 
-const JSON: &str = "{\"by\":\"user\",\"day\":\"2026-11-27\",\"logs\":[{\"file\":\"new\",\"first_unread\":3,\"lines\":5,\"unread\":1}],\"rows\":[{\"key\":\"ann\",\"octets\":1000,\"octets_a_second\":1000,\"seconds\":1,\"transfers\":1}],\"rows_in_all\":1,\"total\":{\"octets\":1000,\"octets_a_second\":1000,\"seconds\":1,\"transfers\":1},\"version\":1}\n";
+const JSON: &str =
+    "{\"by\":\"user\",\"day\":\"2026-11-27\",\"logs\":[{\"file\":\"new\",\"first_unread\":3,\"lines\":5,\"unread\":1}],\"rows\":[{\"key\":\"ann\",\"octets\":1000,\"octets_a_second\":1000,\"seconds\":1,\"transfers\":1}],\"rows_in_all\":1,\"total\":{\"octets\":1000,\"octets_a_second\":1000,\"seconds\":1,\"transfers\":1},\"version\":1}\n";
 
 #[test]
 fn json(rt: HostRuntime) {
@@ -98,7 +99,10 @@ fn refusals(rt: HostRuntime) {
     };
     refuses(&rt, &both, AskFault::TwoForms);
     let absent = usage_text(rt.alloc(), &PLAIN, &["new", "old"], &mut Logs);
-    holds(&rt, matches!(&absent, Err(NoUsage::Log { path: "old", .. })));
+    holds(
+        &rt,
+        matches!(&absent, Err(NoUsage::Log { path: "old", .. })),
+    );
 }
 
 #[test]

@@ -1,4 +1,4 @@
-use Rattle.std.proofs.Common.{◌≡◌, ◌≤◌, ◌++◌, ◌∙◌, ℕ, List, Some, arith, ap, string_bytes, subst, sym}
+use Rattle.std.proofs.Common.{◌≤◌, ◌++◌, ◌∙◌, ℕ, List, Some, arith, ap, string_bytes, subst, sym}
 use Rattle.serde_json.specs.Data.{Data, depth}
 use Rattle.usage_report.proofs.Depths.{report_depth}
 use Rattle.usage_report.proofs.values.json_text.Goals as goal

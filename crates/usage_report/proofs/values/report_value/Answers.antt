@@ -1,9 +1,9 @@
-use Rattle.std.proofs.Common.{ap, map, ◌≡◌, ◌∙◌, List}
+use Rattle.std.proofs.Common.{ap, map, ◌∙◌, List}
 use Rattle.serde_json.proofs.Views.{view-Array}
 use Rattle.serde_json.specs.Data.{Data, array}
 use Rattle.serde_json.specs.View.{items_of, view}
 use Rattle.serde_json.specs.declared.value.Value.TheVariants.{Array}
-use Rattle.usage_report.specs.ReportData.{day_data, log_data, row_data, sums_data, whole_data}
+use Rattle.usage_report.specs.ReportData.{day_data, log_data, row_data, whole_data}
 use Rattle.usage_report.proofs.values.report_value.Goals as goal
 
 pub returns : goal.returns

@@ -17,7 +17,7 @@ _ftpd_words() {
     [[ ${COMP_WORDS[1]} == check-config ]] && options="--against $options"
     if [[ ${COMP_WORDS[1]} == help ]]; then
         [[ $COMP_CWORD -gt 2 ]] || mapfile -t COMPREPLY < <(compgen -W "$1" -- "$word")
-    elif [[ $before == --*-timeout || $before == --*-delay || $before == --*-seconds || $before == --status-port || $before == --rows || $before == --first || $before == --day ]]; then
+    elif [[ $before == --*-timeout || $before == --*-delay || $before == --*-seconds || $before == --*-sessions || $before == --status-port || $before == --rows || $before == --first || $before == --day ]]; then
         return # a number, or a day
     elif [[ $before == --by ]]; then
         mapfile -t COMPREPLY < <(compgen -W 'user file hour address' -- "$word")

@@ -16,7 +16,7 @@ BIN = $(DESTDIR)$(PREFIX)/bin
 SHARE = $(DESTDIR)$(PREFIX)/share
 DOCS = $(DESTDIR)$(DOCDIR)
 # Pages for those who work on the repository are not installed, and a link to what is not installed becomes its text.
-INNER = DECISIONS architecture desk headline prices walk working world
+INNER = DECISIONS architecture desk walk working world
 PAGES = $(filter-out $(INNER:%=docs/%.md),$(wildcard docs/*.md)) $(wildcard docs/*.png)
 ABSENT = \.\./(README|LICENSE|bench|crates)|($(shell echo $(INNER) | tr ' ' '|'))\.md
 UNITS = $(DESTDIR)$(PREFIX)/lib/systemd/system

@@ -6,7 +6,7 @@ program goes about it.
 """
 import json
 
-from report_reading import Stated
+from report_reading import Stated, megabits
 
 # The keys that a server does not take while it runs, in the order in which it looks at them, with what a restart would do.
 FIXED = (
@@ -101,10 +101,10 @@ def lines(old, new):
     told += [name_line(*row) for row in names(old, new)]
     rows = limits(old, new)
     if rows:
-        told += ["", f"{'octets a second':<24} {'key':<19}{'is':>14}{'becomes':>14}"]
+        told += ["", f"{'octets a second':<24} {'key':<19}{'is':>14}{'becomes':>14}{'Mbit/s is':>12}{'becomes':>12}"]
     for kind, name, key, before, after in rows:
         whose = f"{kind} {name:<{23 - len(kind)}}" if name is not None else f"{kind:<24}"
-        told.append(f"{whose} {key:<19}{before or '-':>14}{after or '-':>14}")
+        told.append(f"{whose} {key:<19}{before or '-':>14}{after or '-':>14}{megabits(before):>12}{megabits(after):>12}")
     return "".join(f"{line}\n" for line in told)
 
 

@@ -5,6 +5,8 @@ status, and what it prints to either output, in lines or as JSON. Nothing here k
 """
 import json
 
+from report_reading import in_megabits, megabits
+
 DONE, FAULTY = 0, 1
 LARGEST_WANT = 2 ** 32 - 1
 LARGEST_PLANNED, MOST_EXACT = 2 ** 40 // 10, 25
@@ -172,15 +174,17 @@ def lines(server, transfers):
             parts[-1][0] += 1
         else:
             parts.append([1, part])
-    yield f"{'octets a second':<16} {'':<5} {'each':>19}{'guaranteed':>14}  held by"
+    yield f"{'octets a second':<16} {'':<5} {'each':>19}{'guaranteed':>14}{'Mbit/s each':>12}{'guaranteed':>12}  held by"
     for count, (name, way, grant, floor, held) in parts:
-        yield f"{name:<16} {way:<5}{count:>4} x {grant:>13}{floor or '-':>14}  {held}"
+        yield f"{name:<16} {way:<5}{count:>4} x {grant:>13}{floor or '-':>14}{megabits(grant):>12}{megabits(floor):>12}  {held}"
     totals = {way: sum(it[2] for it in found if it[1] == way) for way in ("down", "up")}
     rows = [(way, totals[way], f"{way}_rate") for way in totals if any(it[1] == way for it in found)]
     if server.rates.get("rate", 0):
         rows.append(("both", sum(totals.values()), "rate"))
     for way, total, key in rows:
-        yield f"{'total':<16} {way:<5} {total:>19}" + (f" of {server.rates[key]}" if server.rates.get(key, 0) else "")
+        rate = server.rates.get(key, 0)
+        octets, shown = (f" of {rate}", f" of {in_megabits(rate)}") if rate else ("", "")
+        yield f"{'total':<16} {way:<5} {total:>19}{octets}, {in_megabits(total)}{shown} Mbit/s"
 
 
 def as_json(server, transfers):

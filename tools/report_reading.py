@@ -165,10 +165,15 @@ def of_server(stated):
     yield f"serves {root}{held if stated.in_memory else ''}"
 
 
-def megabits(rate):
+def in_megabits(rate):
     """A rate in Mbit/s, with two decimals, rounded down."""
     hundredths = rate * 8 // 10 ** 4
-    return f"{hundredths // 100}.{hundredths % 100:02}" if rate else "-"
+    return f"{hundredths // 100}.{hundredths % 100:02}"
+
+
+def megabits(rate):
+    """The same in a column: none is a dash."""
+    return in_megabits(rate) if rate else "-"
 
 
 def rates(head, down, up):

@@ -351,8 +351,32 @@ def a_ready_file_is_there_while_it_serves():
     want(not os.path.exists(f"{server.place}/ready"), "no ready file was made")
 
 
+def a_guaranteed_transfer_goes_first():
+    """Where transfers wait for a lane, that of a user with a guarantee goes before those that have waited longer."""
+    with Server(sessions=0, root="folder", files={"big": MUCH}, server="rate = 100_000_000\nlanes = 1", rates="session_down_floor = 1_000", stop=True) as server:
+        others = [Client(server, "bob", "b") for _ in range(3)]
+        stalled = []
+        for client in others:
+            stalled.append(client.passive(room=4096))
+            client.says("RETR big", "150 Opening data connection")
+        want(stalled[0].read(), "octets of whoever has the lane")
+        ann = Client(server)
+        data = ann.passive()
+        ann.says("LIST", "150 Opening data connection")
+        # (those before her would hold the lane for as long as nobody reads)
+        stalled[0].close()
+        want(b"big" in data.whole(), "her listing")
+        ann.says(None, "226 Transfer complete")
+        ann.quit()
+        for one in others:
+            one.close()
+        server.stop()
+        server.ended()
+
+
 ROWS = [
     places_bound_threads_and_files,
+    a_guaranteed_transfer_goes_first,
     a_stopped_process_goes_on,
     a_stop_without_files,
     few_files_are_noted,

@@ -335,7 +335,8 @@ def refusals_are_noted():
         first.quit()
         server.stop()
         server.ended()
-        for one in ("refused: the guaranteed rate is not available", "refused: too many login attempts"):
+        lacks = 'refused: the guaranteed rate is not available: user "ann": 2000 octets a second would be guaranteed of the 1000 of server up'
+        for one in (lacks, "refused: too many login attempts"):
             want(re.search(rf"^\[WARN \] \S+Z 127.0.0.1 #\d+ {one}$", server.noted(), re.MULTILINE), f"{one}: {server.noted()}")
     with Server(server="capacity = 10") as server:
         client = Client(server)

@@ -3,11 +3,12 @@ import contextlib
 import os
 import select
 import socket
+import subprocess
 import threading
 import time
 
 from serving_drain import drained
-from serving_kit import SECONDS, Client, Server, same, until, want
+from serving_kit import SECONDS, SERVER, Client, Server, same, until, want
 from serving_limits import is_served
 from serving_status import next_status, row_of
 
@@ -79,7 +80,7 @@ def a_rate_is_halved_and_a_user_added():
         changed = changes_noted(server)
         same(changed[0], "user carol is added", "the first change")
         want(changed[1].startswith("octets a second "), changed)
-        same(changed[2].split(), ["server", "rate", str(RATE), str(RATE // 2)], "the rate")
+        same(changed[2].split(), ["server", "rate", "2000000", "1000000", "16.00", "8.00"], "the rate, and the same in Mbit/s")
         server.reloaded(text)
         same(changes_noted(server), changed, "the lines of changes")
         moved_in(pairs, 1)
@@ -326,7 +327,101 @@ def a_reload_and_then_a_drain():
         server.ended()
 
 
+RUNNING = ["--login-delay", "0", "--running-file"]
+
+
+def kept(server, path="running.toml"):
+    """The octets of the running file; none if it is not there."""
+    try:
+        with open(f"{server.place}/{path}", "rb") as it:
+            return it.read()
+    except FileNotFoundError:
+        return None
+
+
+def judged(server, *words):
+    """The status and the first line of `check-config` of the server's configuration as its file has it now."""
+    found = subprocess.run([SERVER, "check-config", "ftpd.toml", *words], cwd=server.place, capture_output=True, env={}, timeout=SECONDS)
+    return found.returncode, found.stdout.decode().split("\n")[0]
+
+
+def the_running_file_has_what_is_in_force():
+    """Its octets are those of the start, and then of each reload that is taken; one that is refused leaves them, and so does the file of the configuration. Its owner alone may read it, and the end removes it."""
+    with served(stop=True, words=[*RUNNING, "running.toml"]) as server:
+        first, path = server.text.encode(), f"{server.place}/running.toml"
+        until(lambda: kept(server) == first, "the text of the start")
+        same(oct(os.stat(path).st_mode & 0o7777), "0o600", "its permissions")
+        second = text_of(server, RATE // 2)
+        server.reloaded(second)
+        until(lambda: kept(server) == second.encode(), "the text of a reload that was taken")
+        same(oct(os.stat(path).st_mode & 0o7777), "0o600", "its permissions")
+        for text in (second.replace("lanes = 16", "lanes = 15"), "version = 1\n[server]\nrot = 1\n"):
+            server.reloaded(text, taken=False)
+            time.sleep(0.5)
+            same(kept(server), second.encode(), "the text after a reload that was refused")
+        server.reloaded(second)
+        with open(f"{server.place}/ftpd.toml", "w", encoding="utf-8") as it:
+            it.write(second.replace("lanes = 16", "lanes = 15"))
+        why = "a reload would be refused: `lanes` cannot change while the server runs: it is 16; restart the server for 15 transfers at once"
+        same(judged(server, "--against", "running.toml"), (1, why), "against what is in force")
+        want(not os.path.exists(f"{path}.new"), "the new file has taken its name")
+        server.stop()
+        server.ended()
+        same(kept(server), None, "the text after the end")
+
+
+def without_a_reload_file_the_running_file_is_that_of_the_start():
+    """It needs no reload file, and a start replaces what a server that was killed has left."""
+    with Server(sessions=0, stop=True, words=[*RUNNING, "running.toml"]) as server:
+        with open(f"{server.place}/ftpd.toml", "rb") as it:
+            text = it.read()
+        until(lambda: kept(server) == text, "the text of the start")
+        server.process.kill()
+        server.process.wait()
+        same(kept(server), text, "the text after the server was killed")
+        with open(f"{server.place}/running.toml", "wb") as it:
+            it.write(b"earlier")
+        server.begin_again()
+        until(lambda: kept(server) == text, "the text of the next start")
+        server.stop()
+        server.ended()
+
+
+def a_running_file_that_cannot_be_written_is_noted():
+    """The server serves on, tries again after the next reload that it takes, and removes nothing that it did not write."""
+    with served(stop=True, words=[*RUNNING, "later/running.toml"]) as server:
+        note = '[WARN ] the running file "later/running.toml" cannot be written: No such file or directory (os error 2)\n'
+        until(lambda: note in server.all_noted(), "a note")
+        client = Client(server)
+        same(client.retrieve("f"), b"a\nb", "the file")
+        os.mkdir(f"{server.place}/later")
+        text = text_of(server, RATE // 2)
+        server.reloaded(text)
+        until(lambda: kept(server, "later/running.toml") == text.encode(), "the text of a reload that was taken")
+        client.quit()
+        server.stop()
+        server.ended()
+    with served(stop=True, words=[*RUNNING, "files"]) as server:
+        until(lambda: '[WARN ] the running file "files" cannot be written: ' in server.all_noted(), "a note of a folder")
+        Client(server).quit()
+        server.stop()
+        server.ended()
+        want(os.path.isdir(server.folder), "the folder is still there")
+
+
+def a_running_file_of_another_path_is_refused():
+    """The path of the configuration is not that of its running file, nor of the new file beside it."""
+    for path, taken in (("ftpd.toml", "ftpd.toml"), ("stop", "stop")):
+        server = Server(sessions=0, stop=True, words=[*RUNNING, path])
+        same(server.run(), (1, "", f"{taken} is stated for two files: state a path of its own for each\nftpd: OnePath\n"), "its end")
+        server.room.cleanup()
+
+
 ROWS = [
+    the_running_file_has_what_is_in_force,
+    without_a_reload_file_the_running_file_is_that_of_the_start,
+    a_running_file_that_cannot_be_written_is_noted,
+    a_running_file_of_another_path_is_refused,
     a_rate_is_halved_and_a_user_added,
     what_is_refused_changes_nothing,
     fewer_connections_than_there_are,

@@ -5,8 +5,8 @@ use Rattle.std.specs.List.{flat_map}
 use Rattle.std.specs.Net.Addr.{ipv4_octets}
 use Rattle.std.specs.Net.Text.{ipv4_text}
 use Rattle.std.specs.declared.net.ipv4_addr.Ipv4Addr.{Ipv4Addr}
-use Rattle.config_report.specs.Columns.{left, right}
-use Rattle.config_report.specs.Lines.{rate_column}
+use Rattle.rate_columns.specs.Columns.{left, right}
+use Rattle.rate_columns.specs.Rates.{megabits_column, rate_column}
 use Rattle.change_report.specs.Changes.{key_text, rate_text, setting_text, start_text, when_text}
 use Rattle.change_report.specs.Reasons.{reason_text}
 use Rattle.change_report.specs.declared.changes.Changes.{Changes}
@@ -103,12 +103,18 @@ key_column key = codes " " ++ left 19 key
 abbrev pub limit_line : LimitChange → List ℕ
 limit_line change =
     owner_column change.owner ++ key_column (rate_text change.key) ++ rate_column change.old
-    ++ rate_column change.new ++ 10 ∷ []
+    ++ rate_column change.new ++ megabits_column change.old ++ megabits_column change.new ++ 10 ∷ []
+
+abbrev pub octets_head : List ℕ
+octets_head =
+    10 ∷ left 24 (codes "octets a second") ++ codes " " ++ left 19 (codes "key")
+    ++ right 14 (codes "is") ++ right 14 (codes "becomes")
+
+abbrev pub megabits_head : List ℕ
+megabits_head = right 12 (codes "Mbit/s is") ++ right 12 (codes "becomes") ++ 10 ∷ []
 
 abbrev pub table_head : List ℕ
-table_head =
-    10 ∷ left 24 (codes "octets a second") ++ codes " " ++ left 19 (codes "key")
-    ++ right 14 (codes "is") ++ right 14 (codes "becomes") ++ 10 ∷ []
+table_head = octets_head ++ megabits_head
 
 abbrev pub rates_table : List LimitChange → List ℕ
 rates_table changes =

@@ -3,14 +3,14 @@
 ghost use Rattle.std.specs.Prelude.{◌≡◌, ◌++◌, IfOk, OnOk, string_bytes};
 ghost use Rattle.std.specs.Fmt.{decimal};
 ghost use Rattle.std.specs.List.{flat_map};
-ghost use Rattle.config_report.specs.Lines.{rate_column};
-ghost use Rattle.change_report.specs.Lines.{address_text, becomes_line, flag_text, key_column, limit_line, lines_text, name_line, outcome_line, owner_column, rates_table, refused_line, removal_line, removal_text, setting_line, table_head, taken_line, term_line};
+ghost use Rattle.change_report.specs.Lines.{address_text, becomes_line, flag_text, key_column, limit_line, lines_text, megabits_head, name_line, octets_head, outcome_line, owner_column, rates_table, refused_line, removal_line, removal_text, setting_line, table_head, taken_line, term_line};
 
 use crate::changes::Changes;
 use crate::limits::{LimitChange, Owner};
 use crate::names::{NameChange, TermKey};
 use crate::reason::Reason;
 use crate::settings::{SettingChange, SettingKey};
+use rate_columns::{write_megabits_column, write_rate_column};
 use std::alloc::{AllocError, Global};
 use std::net::Ipv4Addr;
 
@@ -187,18 +187,6 @@ fn write_owner(text: &mut String, owner: Owner<'_>) -> Result<(), AllocError>
     }
 }
 
-/// Writes a rate in its column; a dash for none.
-fn write_rate(text: &mut String, rate: u64) -> Result<(), AllocError>
-    ensures column { OnOk result
-        (string_bytes text.new ≡ string_bytes text.old ++ rate_column rate) }
-{
-    if rate == 0 {
-        write!(text, "{:>14}", "-")
-    } else {
-        write!(text, "{rate:>14}")
-    }
-}
-
 fn write_key(text: &mut String, key: &str) -> Result<(), AllocError>
     ensures column { OnOk result
         (string_bytes text.new ≡ string_bytes text.old ++ key_column key.now) }
@@ -212,8 +200,10 @@ fn write_limit(text: &mut String, change: &LimitChange<'_>) -> Result<(), AllocE
 {
     write_owner(text, change.owner)?;
     write_key(text, change.key.text())?;
-    write_rate(text, change.old)?;
-    write_rate(text, change.new)?;
+    write_rate_column(text, change.old)?;
+    write_rate_column(text, change.new)?;
+    write_megabits_column(text, change.old)?;
+    write_megabits_column(text, change.new)?;
     text.push('\n')
 }
 
@@ -227,14 +217,27 @@ fn write_limits(text: &mut String, changes: &[LimitChange<'_>]) -> Result<(), Al
     Ok(())
 }
 
-fn write_head(text: &mut String) -> Result<(), AllocError>
-    ensures line { OnOk result (string_bytes text.new ≡ string_bytes text.old ++ table_head) }
+fn write_octets_head(text: &mut String) -> Result<(), AllocError>
+    ensures line { OnOk result (string_bytes text.new ≡ string_bytes text.old ++ octets_head) }
 {
-    writeln!(
+    write!(
         text,
         "\n{:<24} {:<19}{:>14}{:>14}",
         "octets a second", "key", "is", "becomes"
     )
+}
+
+fn write_megabits_head(text: &mut String) -> Result<(), AllocError>
+    ensures line { OnOk result (string_bytes text.new ≡ string_bytes text.old ++ megabits_head) }
+{
+    writeln!(text, "{:>12}{:>12}", "Mbit/s is", "becomes")
+}
+
+fn write_head(text: &mut String) -> Result<(), AllocError>
+    ensures line { OnOk result (string_bytes text.new ≡ string_bytes text.old ++ table_head) }
+{
+    write_octets_head(text)?;
+    write_megabits_head(text)
 }
 
 /// Writes the table of rates, unless it is empty.

@@ -132,6 +132,10 @@ lines_other : (config other : Text) → first_of (codes "against") (lines_last c
 unfolding clap_on_literals
 lines_other config other = refl
 
+lines_still : (config other : Text) → is_flagged (codes "against-running") (lines_last config other) ≡ false
+unfolding clap_on_literals
+lines_still config other = refl
+
 -- what the parser makes of those words
 pub record ChecksAgainst (word other : List ℕ) : Type 0 where
   pub rows : List Row
@@ -140,6 +144,7 @@ pub record ChecksAgainst (word other : List ℕ) : Type 0 where
   pub config : first_of (codes "CONFIG") rows ≡ Some word
   pub flag : is_flagged (codes "json") rows ≡ false
   pub against : first_of (codes "against") rows ≡ Some other
+  pub still : is_flagged (codes "against-running") rows ≡ false
 
 pub checks_against : (config other : List ℕ) → IsPlainWord config → IsPlainWord other → ChecksAgainst config other
 checks_against config other plain also =
@@ -152,6 +157,7 @@ checks_against config other plain also =
       config = lines_config config other;
       flag = lines_flag config other;
       against = lines_other config other;
+      still = lines_still config other;
     }
 
 json_walks : (config other : Text) → IsPlainWord config → IsPlainWord other
@@ -207,6 +213,10 @@ json_other : (config other : Text) → first_of (codes "against") (json_last con
 unfolding clap_on_literals
 json_other config other = refl
 
+json_still : (config other : Text) → is_flagged (codes "against-running") (json_last config other) ≡ false
+unfolding clap_on_literals
+json_still config other = refl
+
 -- what the parser makes of those words
 pub record ChecksAgainstJson (word other : List ℕ) : Type 0 where
   pub rows : List Row
@@ -215,6 +225,7 @@ pub record ChecksAgainstJson (word other : List ℕ) : Type 0 where
   pub config : first_of (codes "CONFIG") rows ≡ Some word
   pub flag : is_flagged (codes "json") rows ≡ true
   pub against : first_of (codes "against") rows ≡ Some other
+  pub still : is_flagged (codes "against-running") rows ≡ false
 
 pub checks_against_json : (config other : List ℕ) → IsPlainWord config → IsPlainWord other → ChecksAgainstJson config other
 checks_against_json config other plain also =
@@ -227,4 +238,5 @@ checks_against_json config other plain also =
       config = json_config config other;
       flag = json_flag config other;
       against = json_other config other;
+      still = json_still config other;
     }

@@ -118,8 +118,10 @@ ftpd_found any words p port lines none stated =
         (
           λ _ is.
               let found = one_found _ _ e _ is (codes "CONFIG") refl refl in
-              let other = first_of (codes "against") found.1 in
-              (CheckConfig (at_place any found.0) (is_flagged (codes "json") found.1) (option_map (at_place any) other), (found.1, found.2, found.3, refl, if_any any other)),
+              let other = first_of (codes "against") found.1 in (
+                CheckConfig (at_place any found.0) (is_flagged (codes "json") found.1) (option_map (at_place any) other) (is_flagged (codes "against-running") found.1),
+                (found.1, found.2, found.3, refl, if_any any other, refl),
+              ),
           (
             λ _ is.
                 let found = one_found _ _ e _ is (codes "CONFIG") refl refl in
@@ -135,15 +137,16 @@ ftpd_found any words p port lines none stated =
                     let ready = first_of (codes "ready-file") found.1 in
                     let drain = first_of (codes "drain-file") found.1 in
                     let again = first_of (codes "reload-file") found.1 in
+                    let runs = first_of (codes "running-file") found.1 in
                     let log = first_of (codes "transfer-log") found.1 in
                     let form = first_of (codes "log-form") found.1 in
                     let status = first_of (codes "status") found.1 in
                     let ender = first_of (codes "end-file") found.1 in
                     let most = first_of (codes "user-sessions") found.1 in
                     let states = stated.0 found.1 found.2 in
-                    let files : ServeFiles = record { stop_file = option_map (at_place any) path; ready_file = option_map (at_place any) ready; drain_file = option_map (at_place any) drain; reload_file = option_map (at_place any) again; transfer_log = option_map (at_place any) log; log_form = option_map (at_place any) form; status = option_map (at_place any) status; status_port = port; end_file = option_map (at_place any) ender; user_sessions = option_map (at_place any) most; syncs = is_flagged (codes "sync") found.1 } in (
+                    let files : ServeFiles = record { stop_file = option_map (at_place any) path; ready_file = option_map (at_place any) ready; drain_file = option_map (at_place any) drain; reload_file = option_map (at_place any) again; running_file = option_map (at_place any) runs; transfer_log = option_map (at_place any) log; log_form = option_map (at_place any) form; status = option_map (at_place any) status; status_port = port; end_file = option_map (at_place any) ender; user_sessions = option_map (at_place any) most; syncs = is_flagged (codes "sync") found.1 } in (
                       Serve (at_place any found.0) files p,
-                      (found.1, found.2, found.3, if_any any path, if_any any ready, if_any any drain, if_any any again, if_any any log, if_any any form, if_any any status, if_any any ender, if_any any most, refl, states.1, states.0),
+                      (found.1, found.2, found.3, if_any any path, if_any any ready, if_any any drain, if_any any again, if_any any runs, if_any any log, if_any any form, if_any any status, if_any any ender, if_any any most, refl, states.1, states.0),
                     ),
                 (
                   λ _ is.
@@ -201,10 +204,10 @@ sheet_named : (P : SheetWords → Type 0) (found : Option (Text × List Row)) (c
     → bytes_eq name (codes "top") ≡ false → bytes_eq name (codes "usage") ≡ false
     → ((words : SheetWords) → IsSheetFound found words → P words) → IsFound found command → IsOfSheets P command
 sheet_named P found (Sheet words) rows name named config migrate script serve plan top usage holds is = holds words is
-sheet_named P found (CheckConfig config json against) rows name named config_apart migrate_apart script_apart serve_apart plan_apart top_apart usage_apart holds (other, same, given, flag, also) = absurd (different _ _ _ _ _ config_apart named same)
+sheet_named P found (CheckConfig config json against running) rows name named config_apart migrate_apart script_apart serve_apart plan_apart top_apart usage_apart holds (other, same, given, flag, also, on) = absurd (different _ _ _ _ _ config_apart named same)
 sheet_named P found (Migrate config) rows name named config_apart migrate_apart script_apart serve_apart plan_apart top_apart usage_apart holds (other, same, given) = absurd (different _ _ _ _ _ migrate_apart named same)
 sheet_named P found (Script config) rows name named config_apart migrate_apart script_apart serve_apart plan_apart top_apart usage_apart holds (other, same, given) = absurd (different _ _ _ _ _ script_apart named same)
-sheet_named P found (Serve config files patience) rows name named config_apart migrate_apart script_apart serve_apart plan_apart top_apart usage_apart holds (other, same, given, path, ready, drain, again, log, form, status, ender, most, syncs, port, also) = absurd (different _ _ _ _ _ serve_apart named same)
+sheet_named P found (Serve config files patience) rows name named config_apart migrate_apart script_apart serve_apart plan_apart top_apart usage_apart holds (other, same, given, path, ready, drain, again, runs, log, form, status, ender, most, syncs, port, also) = absurd (different _ _ _ _ _ serve_apart named same)
 sheet_named P found (Plan config transfers json) rows name named config_apart migrate_apart script_apart serve_apart plan_apart top_apart usage_apart holds (other, same, given, also, flag) = absurd (different _ _ _ _ _ plan_apart named same)
 sheet_named P found (Top status once lines) rows name named config_apart migrate_apart script_apart serve_apart plan_apart top_apart usage_apart holds (other, same, given, flag, count) = absurd (different _ _ _ _ _ top_apart named same)
 sheet_named P found Usage rows name named config_apart migrate_apart script_apart serve_apart plan_apart top_apart usage_apart holds (other, same) = absurd (different _ _ _ _ _ usage_apart named same)
@@ -220,15 +223,15 @@ check_of_sheets found command rows word also named first second is =
     sheet_named (IsCheck word also) found command rows (codes "check") named refl refl refl refl refl refl refl (λ words held. check_is found words rows word also named first second held) is
 
 pub check_config_is : (found : Option (Text × List Row)) (command : Words) (rows : List Row) (word : Text) → found ≡ Some (codes "check-config", rows) → first_of (codes "CONFIG") rows ≡ Some word
-    → IsFound found command → IsCheckConfig word (is_flagged (codes "json") rows) (first_of (codes "against") rows) command
+    → IsFound found command → IsCheckConfig word (is_flagged (codes "json") rows) (first_of (codes "against") rows) (is_flagged (codes "against-running") rows) command
 check_config_is found (Sheet (Share sheet svg)) rows word named first (other, same, given, flag) = absurd (different _ _ _ _ _ refl named same)
 check_config_is found (Sheet (Check sheet grants)) rows word named first (other, same, given, also) = absurd (different _ _ _ _ _ refl named same)
-check_config_is found (CheckConfig config json against) rows word named first (other, same, given, flag, also) =
+check_config_is found (CheckConfig config json against running) rows word named first (other, same, given, flag, also, on) =
     let are = same_rows _ _ _ _ _ named same in
-    (cc, flag ∙ sym (ap (is_flagged (codes "json")) are), cc)
+    (cc, flag ∙ sym (ap (is_flagged (codes "json")) are), cc, on ∙ sym (ap (is_flagged (codes "against-running")) are))
 check_config_is found (Migrate config) rows word named first (other, same, given) = absurd (different _ _ _ _ _ refl named same)
 check_config_is found (Script config) rows word named first (other, same, given) = absurd (different _ _ _ _ _ refl named same)
-check_config_is found (Serve config files patience) rows word named first (other, same, given, path, ready, drain, again, log, form, status, ender, most, syncs, port, also) = absurd (different _ _ _ _ _ refl named same)
+check_config_is found (Serve config files patience) rows word named first (other, same, given, path, ready, drain, again, runs, log, form, status, ender, most, syncs, port, also) = absurd (different _ _ _ _ _ refl named same)
 check_config_is found (Plan config transfers json) rows word named first (other, same, given, also, flag) = absurd (different _ _ _ _ _ refl named same)
 check_config_is found (Top status once lines) rows word named first (other, same, given, flag, count) = absurd (different _ _ _ _ _ refl named same)
 check_config_is found Usage rows word named first (other, same) = absurd (different _ _ _ _ _ refl named same)
@@ -237,10 +240,10 @@ pub migrate_is : (found : Option (Text × List Row)) (command : Words) (rows : L
     → IsFound found command → IsMigrate word command
 migrate_is found (Sheet (Share sheet svg)) rows word named first (other, same, given, flag) = absurd (different _ _ _ _ _ refl named same)
 migrate_is found (Sheet (Check sheet grants)) rows word named first (other, same, given, also) = absurd (different _ _ _ _ _ refl named same)
-migrate_is found (CheckConfig config json against) rows word named first (other, same, given, flag, also) = absurd (different _ _ _ _ _ refl named same)
+migrate_is found (CheckConfig config json against running) rows word named first (other, same, given, flag, also, on) = absurd (different _ _ _ _ _ refl named same)
 migrate_is found (Migrate config) rows word named first (other, same, given) = let are = same_rows _ _ _ _ _ named same in cc
 migrate_is found (Script config) rows word named first (other, same, given) = absurd (different _ _ _ _ _ refl named same)
-migrate_is found (Serve config files patience) rows word named first (other, same, given, path, ready, drain, again, log, form, status, ender, most, syncs, port, also) = absurd (different _ _ _ _ _ refl named same)
+migrate_is found (Serve config files patience) rows word named first (other, same, given, path, ready, drain, again, runs, log, form, status, ender, most, syncs, port, also) = absurd (different _ _ _ _ _ refl named same)
 migrate_is found (Plan config transfers json) rows word named first (other, same, given, also, flag) = absurd (different _ _ _ _ _ refl named same)
 migrate_is found (Top status once lines) rows word named first (other, same, given, flag, count) = absurd (different _ _ _ _ _ refl named same)
 migrate_is found Usage rows word named first (other, same) = absurd (different _ _ _ _ _ refl named same)
@@ -249,10 +252,10 @@ pub script_is : (found : Option (Text × List Row)) (command : Words) (rows : Li
     → IsFound found command → IsScript word command
 script_is found (Sheet (Share sheet svg)) rows word named first (other, same, given, flag) = absurd (different _ _ _ _ _ refl named same)
 script_is found (Sheet (Check sheet grants)) rows word named first (other, same, given, also) = absurd (different _ _ _ _ _ refl named same)
-script_is found (CheckConfig config json against) rows word named first (other, same, given, flag, also) = absurd (different _ _ _ _ _ refl named same)
+script_is found (CheckConfig config json against running) rows word named first (other, same, given, flag, also, on) = absurd (different _ _ _ _ _ refl named same)
 script_is found (Migrate config) rows word named first (other, same, given) = absurd (different _ _ _ _ _ refl named same)
 script_is found (Script config) rows word named first (other, same, given) = let are = same_rows _ _ _ _ _ named same in cc
-script_is found (Serve config files patience) rows word named first (other, same, given, path, ready, drain, again, log, form, status, ender, most, syncs, port, also) = absurd (different _ _ _ _ _ refl named same)
+script_is found (Serve config files patience) rows word named first (other, same, given, path, ready, drain, again, runs, log, form, status, ender, most, syncs, port, also) = absurd (different _ _ _ _ _ refl named same)
 script_is found (Plan config transfers json) rows word named first (other, same, given, also, flag) = absurd (different _ _ _ _ _ refl named same)
 script_is found (Top status once lines) rows word named first (other, same, given, flag, count) = absurd (different _ _ _ _ _ refl named same)
 script_is found Usage rows word named first (other, same) = absurd (different _ _ _ _ _ refl named same)
@@ -261,10 +264,10 @@ pub serve_is : (found : Option (Text × List Row)) (command : Words) (rows : Lis
     → IsPatienceIn rows p → IsFound found command → IsServe word (first_of (codes "stop-file") rows) (first_of (codes "ready-file") rows) p command
 serve_is found (Sheet (Share sheet svg)) rows word p named first states (other, same, given, flag) = absurd (different _ _ _ _ _ refl named same)
 serve_is found (Sheet (Check sheet grants)) rows word p named first states (other, same, given, also) = absurd (different _ _ _ _ _ refl named same)
-serve_is found (CheckConfig config json against) rows word p named first states (other, same, given, flag, also) = absurd (different _ _ _ _ _ refl named same)
+serve_is found (CheckConfig config json against running) rows word p named first states (other, same, given, flag, also, on) = absurd (different _ _ _ _ _ refl named same)
 serve_is found (Migrate config) rows word p named first states (other, same, given) = absurd (different _ _ _ _ _ refl named same)
 serve_is found (Script config) rows word p named first states (other, same, given) = absurd (different _ _ _ _ _ refl named same)
-serve_is found (Serve config files patience) rows word p named first states (other, same, given, path, ready, drain, again, log, form, status, ender, most, syncs, port, also) =
+serve_is found (Serve config files patience) rows word p named first states (other, same, given, path, ready, drain, again, runs, log, form, status, ender, most, syncs, port, also) =
     let are = same_rows _ _ _ _ _ named same in
     (cc, cc, cc, one_patience rows patience p (subst (λ (r : List Row). IsPatienceIn r patience) (sym are) also) states)
 serve_is found (Plan config transfers json) rows word p named first states (other, same, given, also, flag) = absurd (different _ _ _ _ _ refl named same)
@@ -275,10 +278,10 @@ pub logged_is : (found : Option (Text × List Row)) (command : Words) (rows : Li
     → IsFound found command → IsLoggedBy word (first_of (codes "transfer-log") rows) (first_of (codes "log-form") rows) command
 logged_is found (Sheet (Share sheet svg)) rows word named first (other, same, given, flag) = absurd (different _ _ _ _ _ refl named same)
 logged_is found (Sheet (Check sheet grants)) rows word named first (other, same, given, also) = absurd (different _ _ _ _ _ refl named same)
-logged_is found (CheckConfig config json against) rows word named first (other, same, given, flag, also) = absurd (different _ _ _ _ _ refl named same)
+logged_is found (CheckConfig config json against running) rows word named first (other, same, given, flag, also, on) = absurd (different _ _ _ _ _ refl named same)
 logged_is found (Migrate config) rows word named first (other, same, given) = absurd (different _ _ _ _ _ refl named same)
 logged_is found (Script config) rows word named first (other, same, given) = absurd (different _ _ _ _ _ refl named same)
-logged_is found (Serve config files patience) rows word named first (other, same, given, path, ready, drain, again, log, form, status, ender, most, syncs, port, also) =
+logged_is found (Serve config files patience) rows word named first (other, same, given, path, ready, drain, again, runs, log, form, status, ender, most, syncs, port, also) =
     let are = same_rows _ _ _ _ _ named same in
     (cc, cc, cc)
 logged_is found (Plan config transfers json) rows word named first (other, same, given, also, flag) = absurd (different _ _ _ _ _ refl named same)
@@ -289,10 +292,10 @@ pub status_is : (found : Option (Text × List Row)) (command : Words) (rows : Li
     → IsPortIn rows n → IsFound found command → IsStatusBy word (first_of (codes "status") rows) n command
 status_is found (Sheet (Share sheet svg)) rows word n named first states (other, same, given, flag) = absurd (different _ _ _ _ _ refl named same)
 status_is found (Sheet (Check sheet grants)) rows word n named first states (other, same, given, also) = absurd (different _ _ _ _ _ refl named same)
-status_is found (CheckConfig config json against) rows word n named first states (other, same, given, flag, also) = absurd (different _ _ _ _ _ refl named same)
+status_is found (CheckConfig config json against running) rows word n named first states (other, same, given, flag, also, on) = absurd (different _ _ _ _ _ refl named same)
 status_is found (Migrate config) rows word n named first states (other, same, given) = absurd (different _ _ _ _ _ refl named same)
 status_is found (Script config) rows word n named first states (other, same, given) = absurd (different _ _ _ _ _ refl named same)
-status_is found (Serve config files patience) rows word n named first states (other, same, given, path, ready, drain, again, log, form, status, ender, most, syncs, port, also) =
+status_is found (Serve config files patience) rows word n named first states (other, same, given, path, ready, drain, again, runs, log, form, status, ender, most, syncs, port, also) =
     let are = same_rows _ _ _ _ _ named same in
     (cc, cc, one_port rows files.status_port n (subst (λ (r : List Row). IsPortIn r files.status_port) (sym are) port) states)
 status_is found (Plan config transfers json) rows word n named first states (other, same, given, also, flag) = absurd (different _ _ _ _ _ refl named same)
@@ -303,10 +306,10 @@ pub plan_is : (found : Option (Text × List Row)) (command : Words) (rows : List
     → first_of (codes "TRANSFERS") rows ≡ Some stated → IsFound found command → IsPlanWords word stated (is_flagged (codes "json") rows) command
 plan_is found (Sheet (Share sheet svg)) rows word stated named first second (other, same, given, flag) = absurd (different _ _ _ _ _ refl named same)
 plan_is found (Sheet (Check sheet grants)) rows word stated named first second (other, same, given, also) = absurd (different _ _ _ _ _ refl named same)
-plan_is found (CheckConfig config json against) rows word stated named first second (other, same, given, flag, also) = absurd (different _ _ _ _ _ refl named same)
+plan_is found (CheckConfig config json against running) rows word stated named first second (other, same, given, flag, also, on) = absurd (different _ _ _ _ _ refl named same)
 plan_is found (Migrate config) rows word stated named first second (other, same, given) = absurd (different _ _ _ _ _ refl named same)
 plan_is found (Script config) rows word stated named first second (other, same, given) = absurd (different _ _ _ _ _ refl named same)
-plan_is found (Serve config files patience) rows word stated named first second (other, same, given, path, ready, drain, again, log, form, status, ender, most, syncs, port, also) = absurd (different _ _ _ _ _ refl named same)
+plan_is found (Serve config files patience) rows word stated named first second (other, same, given, path, ready, drain, again, runs, log, form, status, ender, most, syncs, port, also) = absurd (different _ _ _ _ _ refl named same)
 plan_is found (Plan config transfers json) rows word stated named first second (other, same, given, also, flag) =
     let are = same_rows _ _ _ _ _ named same in
     (cc, cc, flag ∙ sym (ap (is_flagged (codes "json")) are))
@@ -317,10 +320,10 @@ pub top_is : (found : Option (Text × List Row)) (command : Words) (rows : List 
     → AreLinesIn rows n → IsFound found command → IsTop word (is_flagged (codes "once") rows) n command
 top_is found (Sheet (Share sheet svg)) rows word n named first states (other, same, given, flag) = absurd (different _ _ _ _ _ refl named same)
 top_is found (Sheet (Check sheet grants)) rows word n named first states (other, same, given, also) = absurd (different _ _ _ _ _ refl named same)
-top_is found (CheckConfig config json against) rows word n named first states (other, same, given, flag, also) = absurd (different _ _ _ _ _ refl named same)
+top_is found (CheckConfig config json against running) rows word n named first states (other, same, given, flag, also, on) = absurd (different _ _ _ _ _ refl named same)
 top_is found (Migrate config) rows word n named first states (other, same, given) = absurd (different _ _ _ _ _ refl named same)
 top_is found (Script config) rows word n named first states (other, same, given) = absurd (different _ _ _ _ _ refl named same)
-top_is found (Serve config files patience) rows word n named first states (other, same, given, path, ready, drain, again, log, form, status, ender, most, syncs, port, also) = absurd (different _ _ _ _ _ refl named same)
+top_is found (Serve config files patience) rows word n named first states (other, same, given, path, ready, drain, again, runs, log, form, status, ender, most, syncs, port, also) = absurd (different _ _ _ _ _ refl named same)
 top_is found (Plan config transfers json) rows word n named first states (other, same, given, also, flag) = absurd (different _ _ _ _ _ refl named same)
 top_is found (Top status once lines) rows word n named first states (other, same, given, flag, count) =
     let are = same_rows _ _ _ _ _ named same in

@@ -10,7 +10,7 @@ use Rattle.clap.specs.declared.error.kind.ErrorKind.{ErrorKind}
 use Rattle.clap.specs.declared.error.kind.ErrorKind.TheVariants.{OutOfMemory}
 use Rattle.command_line.specs.declared.words.WordsFault.{WordsFault}
 use Rattle.command_line.specs.declared.words.WordsFault.TheVariants.{Memory, Refused}
-use Rattle.command_line.specs.Given.{IsPlainWord, IsRefusal, IsRefusedAs, is_flagged}
+use Rattle.command_line.specs.Given.{IsPlainWord, IsRefusal, IsRefusedAs, is_flagged, running_words}
 
 -- a plain command has no global argument
 pub no_globals : (a b g d : Bool) → (a && (not b && (not g && d))) ≡ true → g ≡ false
@@ -164,6 +164,11 @@ check_config_alone : (b : ℕ) (bs : List ℕ) → (b == 45) ≡ false
 unfolding clap_on_literals
 check_config_alone b bs ne = simp ne refl
 
+check_config_still : (b : ℕ) (bs : List ℕ) → (b == 45) ≡ false
+    → is_flagged (codes "against-running") (rows_in (subcommand_of ftpd (codes "check-config" ∷ (b ∷ bs) ∷ []))) ≡ false
+unfolding clap_on_literals
+check_config_still b bs ne = simp ne refl
+
 -- what the parser makes of the words of `check-config`
 pub record ChecksConfig (word : List ℕ) : Type 0 where
   pub rows : List Row
@@ -172,12 +177,13 @@ pub record ChecksConfig (word : List ℕ) : Type 0 where
   pub config : first_of (codes "CONFIG") rows ≡ Some word
   pub unflagged : is_flagged (codes "json") rows ≡ false
   pub alone : first_of (codes "against") rows ≡ None
+  pub still : is_flagged (codes "against-running") rows ≡ false
 
 pub checks_config : (word : List ℕ) → IsPlainWord word → ChecksConfig word
 checks_config [] plain = absurd plain
 checks_config (b ∷ bs) plain =
     let ne = ne_eqb _ _ plain in
-    record { rows = _; taken = check_config_taken b bs ne; entered = check_config_entered b bs ne; config = check_config_first b bs ne; unflagged = check_config_unflagged b bs ne; alone = check_config_alone b bs ne }
+    record { rows = _; taken = check_config_taken b bs ne; entered = check_config_entered b bs ne; config = check_config_first b bs ne; unflagged = check_config_unflagged b bs ne; alone = check_config_alone b bs ne; still = check_config_still b bs ne }
 
 -- the words of `check-config` that ask for JSON
 abbrev pub report_words : Text → List Text
@@ -207,6 +213,11 @@ report_alone : (b : ℕ) (bs : List ℕ) → (b == 45) ≡ false
 unfolding clap_on_literals
 report_alone b bs ne = simp ne refl
 
+report_still : (b : ℕ) (bs : List ℕ) → (b == 45) ≡ false
+    → is_flagged (codes "against-running") (rows_in (subcommand_of ftpd (report_words (b ∷ bs)))) ≡ false
+unfolding clap_on_literals
+report_still b bs ne = simp ne refl
+
 -- what the parser makes of those words
 pub record ReportsJson (word : List ℕ) : Type 0 where
   pub rows : List Row
@@ -215,12 +226,58 @@ pub record ReportsJson (word : List ℕ) : Type 0 where
   pub config : first_of (codes "CONFIG") rows ≡ Some word
   pub flagged : is_flagged (codes "json") rows ≡ true
   pub alone : first_of (codes "against") rows ≡ None
+  pub still : is_flagged (codes "against-running") rows ≡ false
 
 pub reports_json : (word : List ℕ) → IsPlainWord word → ReportsJson word
 reports_json [] plain = absurd plain
 reports_json (b ∷ bs) plain =
     let ne = ne_eqb _ _ plain in
-    record { rows = _; taken = report_taken b bs ne; entered = report_entered b bs ne; config = report_first b bs ne; flagged = report_flagged b bs ne; alone = report_alone b bs ne }
+    record { rows = _; taken = report_taken b bs ne; entered = report_entered b bs ne; config = report_first b bs ne; flagged = report_flagged b bs ne; alone = report_alone b bs ne; still = report_still b bs ne }
+
+running_taken : (b : ℕ) (bs : List ℕ) → (b == 45) ≡ false → takes ftpd (running_words (b ∷ bs)) ≡ true
+unfolding clap_on_literals
+running_taken b bs ne = simp ne refl
+
+running_entered : (b : ℕ) (bs : List ℕ) → (b == 45) ≡ false
+    → subcommand_of ftpd (running_words (b ∷ bs)) ≡ Some (codes "check-config", rows_in (subcommand_of ftpd (running_words (b ∷ bs))))
+unfolding clap_on_literals
+running_entered b bs ne = simp ne refl
+
+running_first : (b : ℕ) (bs : List ℕ) → (b == 45) ≡ false
+    → first_of (codes "CONFIG") (rows_in (subcommand_of ftpd (running_words (b ∷ bs)))) ≡ Some (b ∷ bs)
+unfolding clap_on_literals
+running_first b bs ne = simp ne refl
+
+running_unflagged : (b : ℕ) (bs : List ℕ) → (b == 45) ≡ false
+    → is_flagged (codes "json") (rows_in (subcommand_of ftpd (running_words (b ∷ bs)))) ≡ false
+unfolding clap_on_literals
+running_unflagged b bs ne = simp ne refl
+
+running_alone : (b : ℕ) (bs : List ℕ) → (b == 45) ≡ false
+    → first_of (codes "against") (rows_in (subcommand_of ftpd (running_words (b ∷ bs)))) ≡ None
+unfolding clap_on_literals
+running_alone b bs ne = simp ne refl
+
+running_on : (b : ℕ) (bs : List ℕ) → (b == 45) ≡ false
+    → is_flagged (codes "against-running") (rows_in (subcommand_of ftpd (running_words (b ∷ bs)))) ≡ true
+unfolding clap_on_literals
+running_on b bs ne = simp ne refl
+
+-- what the parser makes of those words
+pub record ChecksRunning (word : List ℕ) : Type 0 where
+  pub rows : List Row
+  pub taken : takes ftpd (running_words word) ≡ true
+  pub entered : subcommand_of ftpd (running_words word) ≡ Some (codes "check-config", rows)
+  pub config : first_of (codes "CONFIG") rows ≡ Some word
+  pub unflagged : is_flagged (codes "json") rows ≡ false
+  pub alone : first_of (codes "against") rows ≡ None
+  pub on : is_flagged (codes "against-running") rows ≡ true
+
+pub checks_running : (word : List ℕ) → IsPlainWord word → ChecksRunning word
+checks_running [] plain = absurd plain
+checks_running (b ∷ bs) plain =
+    let ne = ne_eqb _ _ plain in
+    record { rows = _; taken = running_taken b bs ne; entered = running_entered b bs ne; config = running_first b bs ne; unflagged = running_unflagged b bs ne; alone = running_alone b bs ne; on = running_on b bs ne }
 
 migrate_taken : (b : ℕ) (bs : List ℕ) → (b == 45) ≡ false → takes ftpd (codes "migrate" ∷ (b ∷ bs) ∷ []) ≡ true
 unfolding clap_on_literals

@@ -40,15 +40,16 @@ check =
     with_rule (with_rule (bare (codes "check")) (file_rule (codes "SHEET")))
     (file_rule (codes "GRANTS"))
 
--- `check-config CONFIG [--json] [--against PATH]`
+-- `check-config CONFIG [--json] [--against PATH] [--against-running]`
 abbrev pub check_config : App
 check_config =
     with_rule
     (with_rule
     (with_rule
+    (with_rule
     (bare
     (codes "check-config")) (file_rule (codes "CONFIG"))) (flag_rule (codes "json")))
-    (value_rule (codes "against"))
+    (value_rule (codes "against"))) (flag_rule (codes "against-running"))
 
 -- `migrate CONFIG`
 abbrev pub migrate : App
@@ -71,17 +72,20 @@ with_patience app =
     (value_rule (codes "login-delay")))
     (value_rule (codes "drain-seconds"))
 
--- the command with the options `--stop-file`, `--ready-file`, `--drain-file` and `--reload-file`
+-- the command with the options `--stop-file`, `--ready-file`, `--drain-file`, `--reload-file` and
+-- `--running-file`
 abbrev pub with_files : App → App
 with_files app =
     with_rule
+    (with_rule
     (with_rule
     (with_rule
     (with_rule app
     (value_rule (codes "stop-file")))
     (value_rule (codes "ready-file")))
     (value_rule (codes "drain-file")))
-    (value_rule (codes "reload-file"))
+    (value_rule (codes "reload-file")))
+    (value_rule (codes "running-file"))
 
 -- the command with the options `--transfer-log` and `--log-form`
 abbrev pub with_logs : App → App
@@ -99,8 +103,8 @@ with_sessions app =
     with_rule (with_rule app (value_rule (codes "end-file"))) (value_rule (codes "user-sessions"))
 
 -- `serve CONFIG [--stop-file PATH] [--ready-file PATH] [--drain-file PATH] [--reload-file PATH]
--- [--transfer-log PATH] [--log-form FORM] [--status PATH] [--status-port PORT]
--- [--login-timeout SECONDS] [--idle-timeout SECONDS] [--login-delay SECONDS]
+-- [--running-file PATH] [--transfer-log PATH] [--log-form FORM] [--status PATH]
+-- [--status-port PORT] [--login-timeout SECONDS] [--idle-timeout SECONDS] [--login-delay SECONDS]
 -- [--drain-seconds SECONDS] [--end-file PATH] [--user-sessions N] [--sync]`
 abbrev pub serve : App
 serve =

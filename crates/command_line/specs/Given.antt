@@ -36,7 +36,7 @@ IsCheck first second (Check sheet grants) = (sheet.now ≡ first) × (grants.now
 -- a command on a sheet with that property
 abbrev pub IsOfSheets : (SheetWords → Type 0) → Words → Type 0
 IsOfSheets P (Sheet words) = P words
-IsOfSheets P (CheckConfig config json against) = ⊥
+IsOfSheets P (CheckConfig config json against running) = ⊥
 IsOfSheets P (Migrate config) = ⊥
 IsOfSheets P (Script config) = ⊥
 IsOfSheets P (Serve config files patience) = ⊥
@@ -44,17 +44,19 @@ IsOfSheets P (Plan config transfers json) = ⊥
 IsOfSheets P (Top status once rows) = ⊥
 IsOfSheets P Usage = ⊥
 
--- the command `check-config` of that configuration, as JSON or not, against that other one, if any
-abbrev pub IsCheckConfig : List ℕ → Bool → Option (List ℕ) → Words → Type 0
-IsCheckConfig word as_json other (Sheet words) = ⊥
-IsCheckConfig word as_json other (CheckConfig config json against) =
+-- the command `check-config` of that configuration, as JSON or not, against that other one, if any,
+-- or against that of a running file
+abbrev pub IsCheckConfig : List ℕ → Bool → Option (List ℕ) → Bool → Words → Type 0
+IsCheckConfig word as_json other by_running (Sheet words) = ⊥
+IsCheckConfig word as_json other by_running (CheckConfig config json against running) =
     (config.now ≡ word) × (json ≡ as_json) × (option_map (λ w. w.now) against ≡ other)
-IsCheckConfig word as_json other (Migrate config) = ⊥
-IsCheckConfig word as_json other (Script config) = ⊥
-IsCheckConfig word as_json other (Serve config files patience) = ⊥
-IsCheckConfig word as_json other (Plan config transfers json) = ⊥
-IsCheckConfig word as_json other (Top status once rows) = ⊥
-IsCheckConfig word as_json other Usage = ⊥
+    × (running ≡ by_running)
+IsCheckConfig word as_json other by_running (Migrate config) = ⊥
+IsCheckConfig word as_json other by_running (Script config) = ⊥
+IsCheckConfig word as_json other by_running (Serve config files patience) = ⊥
+IsCheckConfig word as_json other by_running (Plan config transfers json) = ⊥
+IsCheckConfig word as_json other by_running (Top status once rows) = ⊥
+IsCheckConfig word as_json other by_running Usage = ⊥
 
 -- the words of `check-config` with another configuration
 abbrev pub against_words : List ℕ → List ℕ → List Text
@@ -66,10 +68,14 @@ abbrev pub against_json_words : List ℕ → List ℕ → List Text
 against_json_words config other =
     codes "check-config" ∷ config ∷ codes "--json" ∷ codes "--against" ∷ other ∷ []
 
+-- the words of `check-config` with a running file
+abbrev pub running_words : List ℕ → List Text
+running_words config = codes "check-config" ∷ config ∷ codes "--against-running" ∷ []
+
 -- the command `migrate` of that configuration
 abbrev pub IsMigrate : List ℕ → Words → Type 0
 IsMigrate word (Sheet words) = ⊥
-IsMigrate word (CheckConfig config json against) = ⊥
+IsMigrate word (CheckConfig config json against running) = ⊥
 IsMigrate word (Migrate config) = config.now ≡ word
 IsMigrate word (Script config) = ⊥
 IsMigrate word (Serve config files patience) = ⊥
@@ -80,7 +86,7 @@ IsMigrate word Usage = ⊥
 -- the command `script` of that configuration
 abbrev pub IsScript : List ℕ → Words → Type 0
 IsScript word (Sheet words) = ⊥
-IsScript word (CheckConfig config json against) = ⊥
+IsScript word (CheckConfig config json against running) = ⊥
 IsScript word (Migrate config) = ⊥
 IsScript word (Script config) = config.now ≡ word
 IsScript word (Serve config files patience) = ⊥
@@ -92,7 +98,7 @@ IsScript word Usage = ⊥
 -- that patience
 abbrev pub IsServe : List ℕ → Option (List ℕ) → Option (List ℕ) → Patience → Words → Type 0
 IsServe word stop ready p (Sheet words) = ⊥
-IsServe word stop ready p (CheckConfig config json against) = ⊥
+IsServe word stop ready p (CheckConfig config json against running) = ⊥
 IsServe word stop ready p (Migrate config) = ⊥
 IsServe word stop ready p (Script config) = ⊥
 IsServe word stop ready p (Serve config files patience) =
@@ -105,7 +111,7 @@ IsServe word stop ready p Usage = ⊥
 -- the command `serve` of that configuration, with that transfer log and that form of notes, if any
 abbrev pub IsLoggedBy : List ℕ → Option (List ℕ) → Option (List ℕ) → Words → Type 0
 IsLoggedBy word path form (Sheet words) = ⊥
-IsLoggedBy word path form (CheckConfig config json against) = ⊥
+IsLoggedBy word path form (CheckConfig config json against running) = ⊥
 IsLoggedBy word path form (Migrate config) = ⊥
 IsLoggedBy word path form (Script config) = ⊥
 IsLoggedBy word path form (Serve config files patience) =
@@ -121,7 +127,7 @@ IsLogged word path form words = IsLoggedBy word (Some path) (Some form) words
 -- the command `serve` of that configuration, with that status file and that port, if any
 abbrev pub IsStatusBy : List ℕ → Option (List ℕ) → Option ℕ → Words → Type 0
 IsStatusBy word path port (Sheet words) = ⊥
-IsStatusBy word path port (CheckConfig config json against) = ⊥
+IsStatusBy word path port (CheckConfig config json against running) = ⊥
 IsStatusBy word path port (Migrate config) = ⊥
 IsStatusBy word path port (Script config) = ⊥
 IsStatusBy word path port (Serve config files patience) =
@@ -149,7 +155,7 @@ ready_words config stop ready =
 -- the command `plan` of that configuration and those transfers, as JSON or not
 abbrev pub IsPlanWords : List ℕ → List ℕ → Bool → Words → Type 0
 IsPlanWords word stated as_json (Sheet words) = ⊥
-IsPlanWords word stated as_json (CheckConfig config json against) = ⊥
+IsPlanWords word stated as_json (CheckConfig config json against running) = ⊥
 IsPlanWords word stated as_json (Migrate config) = ⊥
 IsPlanWords word stated as_json (Script config) = ⊥
 IsPlanWords word stated as_json (Serve config files patience) = ⊥
@@ -161,7 +167,7 @@ IsPlanWords word stated as_json Usage = ⊥
 -- the command `top` of that status file, once or again and again, with that number of lines
 abbrev pub IsTop : List ℕ → Bool → ℕ → Words → Type 0
 IsTop word only_once lines (Sheet words) = ⊥
-IsTop word only_once lines (CheckConfig config json against) = ⊥
+IsTop word only_once lines (CheckConfig config json against running) = ⊥
 IsTop word only_once lines (Migrate config) = ⊥
 IsTop word only_once lines (Script config) = ⊥
 IsTop word only_once lines (Serve config files patience) = ⊥
@@ -201,11 +207,12 @@ IsSheetFound found (Check sheet grants) =
 -- the parser found the command, and the words after it
 abbrev pub IsFound : Option (Text × List Row) → Words → Type 0
 IsFound found (Sheet words) = IsSheetFound found words
-IsFound found (CheckConfig config json against) =
+IsFound found (CheckConfig config json against running) =
     (rows : List Row) × (found ≡ Some (codes "check-config", rows))
     × (first_of (codes "CONFIG") rows ≡ Some config.now)
     × (json ≡ is_flagged (codes "json") rows)
     × (first_of (codes "against") rows ≡ option_map (λ w. w.now) against)
+    × (running ≡ is_flagged (codes "against-running") rows)
 IsFound found (Migrate config) =
     (rows : List Row) × (found ≡ Some (codes "migrate", rows))
     × (first_of (codes "CONFIG") rows ≡ Some config.now)
@@ -219,6 +226,7 @@ IsFound found (Serve config files patience) =
     × (first_of (codes "ready-file") rows ≡ option_map (λ w. w.now) files.ready_file)
     × (first_of (codes "drain-file") rows ≡ option_map (λ w. w.now) files.drain_file)
     × (first_of (codes "reload-file") rows ≡ option_map (λ w. w.now) files.reload_file)
+    × (first_of (codes "running-file") rows ≡ option_map (λ w. w.now) files.running_file)
     × (first_of (codes "transfer-log") rows ≡ option_map (λ w. w.now) files.transfer_log)
     × (first_of (codes "log-form") rows ≡ option_map (λ w. w.now) files.log_form)
     × (first_of (codes "status") rows ≡ option_map (λ w. w.now) files.status)

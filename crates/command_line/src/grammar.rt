@@ -50,7 +50,7 @@ const ABOUT_CHECK: &str =
     "SHEET is read whole, and then GRANTS. `yes` goes to standard output, or `no` with the number, the name and the\nfields of the first flaw.\n\nExample: sheets check lunch.sheet lunch.grants\n\nStatus: 0 done, or yes; 1 a fault; 2 refused words; 3 no";
 
 const ABOUT_CHECK_CONFIG: &str =
-    "CONFIG is read whole. What it states goes to standard output, in tables, with a warning of what is of no use. Of a\nfolder, its homes and the file CONFIG the machine is asked: whether they are there, and who may read them.\n\nExamples: ftpd check-config office.toml\n          ftpd check-config new.toml --against office.toml\n\nStatus: 0 done, or yes; 1 a fault; 2 refused words; 3 no";
+    "CONFIG is read whole. What it states goes to standard output, in tables, with a warning of what is of no use. Of a\nfolder, its homes and the file CONFIG the machine is asked: whether they are there, and who may read them.\n\nExamples: ftpd check-config office.toml\n          ftpd check-config new.toml --against office.toml\n          ftpd check-config new.toml --against-running\n\nStatus: 0 done, or yes; 1 a fault; 2 refused words; 3 no";
 
 const ABOUT_MIGRATE: &str =
     "CONFIG is read whole. Its text in the latest version goes to standard output; comments are lost.\n\nExample: ftpd migrate office.toml > office2.toml\n\nStatus: 0 done, or yes; 1 a fault; 2 refused words; 3 no";
@@ -148,8 +148,11 @@ fn check_config_command<'a>(alloc: Global) -> Result<Command<'a>, AllocError>
         ABOUT_CHECK_CONFIG,
         CONFIG_FILE,
     )?;
-    let command = with_flag(alloc, command, "json", json)?;
-    with_value(alloc, command, "against", "PATH", against)
+    let running =
+        "The same for the configuration that a server of the package has, by its running file, /run/ftpd/running.toml";
+    let with_json = with_flag(alloc, command, "json", json)?;
+    let with_other = with_value(alloc, with_json, "against", "PATH", against)?;
+    with_flag(alloc, with_other, "against-running", running)
 }
 
 fn migrate_command<'a>(alloc: Global) -> Result<Command<'a>, AllocError>
@@ -197,7 +200,7 @@ pub(crate) fn with_flag<'a>(
     Ok(command)
 }
 
-/// The command with an optional stop file, ready file, drain file and reload file, given by their paths.
+/// The command with an optional stop file, ready file, drain file, reload file and running file, given by their paths.
 fn with_files<'a>(alloc: Global, command: Command<'a>) -> Result<Command<'a>, AllocError>
     ensures rules { IfOk result (λ c. app_of c ≡ with_files (app_of command.entry)) }
 {
@@ -212,7 +215,10 @@ fn with_files<'a>(alloc: Global, command: Command<'a>) -> Result<Command<'a>, Al
     let reload =
         "File that is not there yet: each time it appears, CONFIG is read again, and the server removes it";
     let with_drain = with_value(alloc, with_ready, "drain-file", "PATH", drain)?;
-    let command = with_value(alloc, with_drain, "reload-file", "PATH", reload)?;
+    let running =
+        "File that the server writes: the text of the configuration that it has, at its start and after each reload";
+    let with_reload = with_value(alloc, with_drain, "reload-file", "PATH", reload)?;
+    let command = with_value(alloc, with_reload, "running-file", "PATH", running)?;
     Ok(command)
 }
 

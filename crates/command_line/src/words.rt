@@ -3,7 +3,7 @@
 ghost use Rattle.std.specs.Prelude.{◌≡◌, ◌↔◌, ◌∷◌, [], ℕ, List, None, Some, IfOk, IfErr, IfSome, IsTrue, map, codes, false, option_map, true};
 ghost use Rattle.clap.specs.Words.{app_of, fault_of, first_of, found_of, is_simple, is_simple_and_free, kind_of, rows_of, subcommand_of, subcommand_rows_of, takes};
 ghost use Rattle.command_line.specs.Commands.{ftpd, sheets};
-ghost use Rattle.command_line.specs.Given.{GivesOneOrMemory, GivesOrMemory, IsCheck, IsCheckConfig, IsFound, IsHelp, IsLogged, IsMigrate, IsOfSheets, IsPlainWord, IsPlanWords, IsRefusal, IsRefusedAs, IsScript, IsServe, IsSheetFound, IsShare, IsRefusedFor, IsStatusBy, IsTaken, IsTop, against_json_words, against_words, entered_rows, is_flagged, logged_words, ready_words, status_words, top_words};
+ghost use Rattle.command_line.specs.Given.{GivesOneOrMemory, GivesOrMemory, IsCheck, IsCheckConfig, IsFound, IsHelp, IsLogged, IsMigrate, IsOfSheets, IsPlainWord, IsPlanWords, IsRefusal, IsRefusedAs, IsScript, IsServe, IsSheetFound, IsShare, IsRefusedFor, IsStatusBy, IsTaken, IsTop, against_json_words, against_words, entered_rows, is_flagged, logged_words, ready_words, status_words, top_words, running_words};
 ghost use Rattle.command_line.specs.Numbers.{AreLines, IsPortText};
 ghost use Rattle.command_line.specs.Stated.{IsStatedBy};
 ghost use Rattle.command_line.specs.declared.numbers.TheConstants.{ROWS};
@@ -36,6 +36,8 @@ pub struct ServeFiles<'a> {
     pub drain_file: Option<&'a str>,
     /// The server reads its configuration again once there is a file at this path.
     pub reload_file: Option<&'a str>,
+    /// The server writes the text of the configuration that it has to the file at this path.
+    pub running_file: Option<&'a str>,
     /// The server ends the sessions of the numbers in the file at this path, once there is one.
     pub end_file: Option<&'a str>,
     /// The server appends a line for each transfer of a file to the file at this path.
@@ -58,11 +60,12 @@ pub enum Words<'a> {
     /// A command on a sheet.
     Sheet(SheetWords<'a>),
     /// Check the configuration at this path, and print its report; or what a reload of it would change for a server
-    /// with the configuration of another path, if one is given. As JSON or in lines.
+    /// with the configuration of another path, if one is given, or that of a running file. As JSON or in lines.
     CheckConfig {
         config: &'a str,
         json: bool,
         against: Option<&'a str>,
+        running: bool,
     },
     /// Print the configuration at this path in its latest version.
     Migrate {
@@ -195,6 +198,7 @@ fn given<'a>(name: &str, inner: &ArgMatches<'a>, numbers: Numbers) -> Option<Wor
             config: word_of(inner, "CONFIG")?,
             json: has_flag(inner, "json"),
             against: word_of(inner, "against"),
+            running: has_flag(inner, "against-running"),
         }),
         "migrate" => Some(Words::Migrate {
             config: word_of(inner, "CONFIG")?,
@@ -209,6 +213,7 @@ fn given<'a>(name: &str, inner: &ArgMatches<'a>, numbers: Numbers) -> Option<Wor
                 ready_file: word_of(inner, "ready-file"),
                 drain_file: word_of(inner, "drain-file"),
                 reload_file: word_of(inner, "reload-file"),
+                running_file: word_of(inner, "running-file"),
                 end_file: word_of(inner, "end-file"),
                 transfer_log: word_of(inner, "transfer-log"),
                 log_form: word_of(inner, "log-form"),
@@ -321,16 +326,19 @@ pub fn read_words<'a>(alloc: Global, words: &'a [&'a str]) -> Result<Words<'a>, 
         → GivesOrMemory (IsOfSheets (IsCheck first second)) result }
     ensures check_config { (word : List ℕ) → IsPlainWord word
         → map (λ s. s.now) words.now ≡ codes "check-config" ∷ word ∷ []
-        → GivesOrMemory (IsCheckConfig word false None) result }
+        → GivesOrMemory (IsCheckConfig word false None false) result }
     ensures check_config_json { (word : List ℕ) → IsPlainWord word
         → map (λ s. s.now) words.now ≡ codes "check-config" ∷ word ∷ codes "--json" ∷ []
-        → GivesOrMemory (IsCheckConfig word true None) result }
+        → GivesOrMemory (IsCheckConfig word true None false) result }
     ensures check_against { (word other : List ℕ) → IsPlainWord word → IsPlainWord other
         → map (λ s. s.now) words.now ≡ against_words word other
-        → GivesOrMemory (IsCheckConfig word false (Some other)) result }
+        → GivesOrMemory (IsCheckConfig word false (Some other) false) result }
     ensures check_against_json { (word other : List ℕ) → IsPlainWord word → IsPlainWord other
         → map (λ s. s.now) words.now ≡ against_json_words word other
-        → GivesOrMemory (IsCheckConfig word true (Some other)) result }
+        → GivesOrMemory (IsCheckConfig word true (Some other) false) result }
+    ensures check_running { (word : List ℕ) → IsPlainWord word
+        → map (λ s. s.now) words.now ≡ running_words word
+        → GivesOrMemory (IsCheckConfig word false None true) result }
     ensures migrate { (word : List ℕ) → IsPlainWord word
         → map (λ s. s.now) words.now ≡ codes "migrate" ∷ word ∷ []
         → GivesOrMemory (IsMigrate word) result }

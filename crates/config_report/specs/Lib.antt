@@ -1,4 +1,3 @@
-pub mod Columns
 pub mod Floors
 pub mod Lines
 pub mod Looks

@@ -1,12 +1,13 @@
 -- The lines of the report on a configuration.
-use Rattle.std.specs.Prelude.{ℕ, ◌/◌, ◌%◌, ◌&&◌, if◌then◌else◌, nat_eq, List, [], ◌∷◌, ◌++◌, codes}
+use Rattle.std.specs.Prelude.{ℕ, ◌&&◌, if◌then◌else◌, nat_eq, List, [], ◌∷◌, ◌++◌, codes}
 use Rattle.std.specs.Fmt.{decimal}
 use Rattle.std.specs.List.{flat_map}
 use Rattle.config_file.specs.declared.stated.ServerTable.{ServerTable}
 use Rattle.config_file.specs.declared.stated.GroupTable.{GroupTable}
 use Rattle.config_file.specs.declared.stated.UserTable.{UserTable}
 use Rattle.config_file.specs.declared.tables.Tables.{Tables}
-use Rattle.config_report.specs.Columns.{left, number, right}
+use Rattle.rate_columns.specs.Columns.{left, right}
+use Rattle.rate_columns.specs.Rates.{megabits_column, rate_column}
 use Rattle.config_report.specs.ServerLines.{server_lines}
 use Rattle.config_report.specs.UserLines.{permitted, user_lines, users_head}
 use Rattle.config_report.specs.declared.seen.SeenUser.{SeenUser}
@@ -14,20 +15,6 @@ use Rattle.config_report.specs.declared.warning.Warning.{Warning}
 use Rattle.config_report.specs.declared.warning.Warning.TheVariants.{NearlyMemory, RelativeRoot, AbsentRoot, NoFolderRoot, ClosedRoot, PublicPasswords, NoAddress, OwnPorts, PortAmongPassive, FewPorts, FewLanes, GuaranteesWait, PromisedDown, PromisedUp, PromisedBoth, NoUser, NoName, BlankName, NoPassword, Unbrowsed, NoFirstSession, NoSecondSession, NoHome}
 
 -- ---- rates and guarantees
-
--- a rate in its column; none is a dash
-abbrev pub rate_column : ℕ → List ℕ
-rate_column rate = if nat_eq rate 0 then right 14 (codes "-") else number 14 rate
-
--- hundredths of a Mbit/s as a number with two decimals in its column
-abbrev pub hundredths_column : ℕ → List ℕ
-hundredths_column n =
-    number 9 (n / 100) ++ codes "." ++ decimal (n / 10 % 10) ++ decimal (n % 10)
-
--- a rate in Mbit/s, rounded down, a hundredth of which is 1,250 octets a second; none is a dash
-abbrev pub megabits_column : ℕ → List ℕ
-megabits_column rate =
-    if nat_eq rate 0 then right 12 (codes "-") else hundredths_column (rate / 1250)
 
 -- two rates, down and up, in octets and in Mbit/s, which end the line
 abbrev pub rate_columns : ℕ → ℕ → List ℕ

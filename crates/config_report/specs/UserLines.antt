@@ -4,7 +4,7 @@ use Rattle.std.specs.Borrow.{Bor}
 use Rattle.std.specs.List.{flat_map, list_any}
 use Rattle.config_file.specs.declared.stated.OverrideTable.{OverrideTable}
 use Rattle.config_file.specs.declared.stated.UserTable.{UserTable}
-use Rattle.config_report.specs.Columns.{left}
+use Rattle.rate_columns.specs.Columns.{left}
 use Rattle.config_report.specs.declared.seen.SeenUser.{SeenUser}
 
 -- ---- permissions

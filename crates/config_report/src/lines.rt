@@ -2,53 +2,25 @@
 
 ghost use Rattle.std.specs.Prelude.{◌≡◌, ◌++◌, IfOk, OnOk, string_bytes};
 ghost use Rattle.std.specs.List.{flat_map};
-ghost use Rattle.config_report.specs.Lines.{both_line, group_rates, megabits_column, part_line, rate_column, rate_columns, rates_head, report_text, server_rates, user_line, user_rates, warning_line, warning_row, ways_line};
+ghost use Rattle.config_report.specs.Lines.{both_line, group_rates, part_line, rate_columns, rates_head, report_text, server_rates, user_line, user_rates, warning_line, warning_row, ways_line};
 
 use crate::seen::SeenUser;
 use crate::server_lines::write_server;
 use crate::user_lines::{write_users, write_users_head};
 use crate::warning::Warning;
 use config_file::{GroupTable, ServerTable, Tables, UserTable};
+use rate_columns::{write_megabits_column, write_rate_column};
 use std::alloc::{AllocError, Global};
-
-/// A hundredth of a Mbit/s, in octets a second.
-const HUNDREDTH: u64 = 1250;
-
-/// Writes a rate in its column; a dash for none.
-fn write_rate(text: &mut String, rate: u64) -> Result<(), AllocError>
-    ensures column { OnOk result
-        (string_bytes text.new ≡ string_bytes text.old ++ rate_column rate) }
-{
-    if rate == 0 {
-        write!(text, "{:>14}", "-")
-    } else {
-        write!(text, "{rate:>14}")
-    }
-}
-
-/// Writes a rate in Mbit/s in its column, with two decimals, rounded down; a dash for none.
-fn write_megabits(text: &mut String, rate: u64) -> Result<(), AllocError>
-    ensures column { OnOk result
-        (string_bytes text.new ≡ string_bytes text.old ++ megabits_column rate) }
-{
-    let hundredths = rate / HUNDREDTH;
-    let (whole, tens, ones) = (hundredths / 100, hundredths / 10 % 10, hundredths % 10);
-    if rate > 0 {
-        write!(text, "{whole:>9}.{tens}{ones}")
-    } else {
-        write!(text, "{:>12}", "-")
-    }
-}
 
 /// Writes two rates in their columns, in octets and in Mbit/s, and ends the line.
 fn write_rates(text: &mut String, down: u64, up: u64) -> Result<(), AllocError>
     ensures columns { OnOk result
         (string_bytes text.new ≡ string_bytes text.old ++ rate_columns down up) }
 {
-    write_rate(text, down)?;
-    write_rate(text, up)?;
-    write_megabits(text, down)?;
-    write_megabits(text, up)?;
+    write_rate_column(text, down)?;
+    write_rate_column(text, up)?;
+    write_megabits_column(text, down)?;
+    write_megabits_column(text, up)?;
     text.push('\n')
 }
 
@@ -87,9 +59,9 @@ fn write_both(text: &mut String, server: &ServerTable) -> Result<(), AllocError>
         (string_bytes text.new ≡ string_bytes text.old ++ both_line server.now) }
 {
     write!(text, "{:<24}", "both ways together")?;
-    write_rate(text, server.rate)?;
+    write_rate_column(text, server.rate)?;
     write!(text, "{:>14}", "")?;
-    write_megabits(text, server.rate)?;
+    write_megabits_column(text, server.rate)?;
     text.push('\n')
 }
 

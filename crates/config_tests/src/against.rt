@@ -76,10 +76,10 @@ user ann: perms changes for logins from then on
 user ann: override changes for logins from then on
 user ann: group changes at once
 
-octets a second          key                            is       becomes
-server                   rate                         1000           500
-group sales              down_rate                      10             -
-user ann                 session_down_floor              -             7
+octets a second          key                            is       becomes   Mbit/s is     becomes
+server                   rate                         1000           500        0.00        0.00
+group sales              down_rate                      10             -        0.00           -
+user ann                 session_down_floor              -             7           -        0.00
 ";
 
 #[test]

@@ -4,7 +4,9 @@ use crate::expect::holds;
 use change_report::{ChangeFault, reload_report};
 use config_file::{Fault, KeyFault, TableName, read_tables, rows_of};
 use config_report::{Lookout, Sight, is_nearly_memory, report, report_json, warning_texts};
+use rate_columns::{write_megabits, write_megabits_column, write_rate_column};
 use server_config::{Config, ConfigFault, migrate};
+use std::alloc::AllocError;
 use std::process::Abort;
 use toml::Table;
 use virtual_path::VPath;
@@ -88,6 +90,57 @@ fn config_report(rt: &(impl Abort + AllocGlobal)) -> Result<(), ConfigFault> {
     let text = report_json(rt.alloc(), "ftpd.toml", SMALL.as_bytes(), &machine)?; // the same for programs
     holds(rt, text.as_str().contains("\"port\":2121"));
     Ok(())
+}
+
+fn rate_columns(rt: &(impl Abort + AllocGlobal)) -> Result<(), AllocError> {
+    let mut text = String::new(rt.alloc());
+    write_rate_column(&mut text, 6_250_000)?; // 50 Mbit/s
+    write_megabits_column(&mut text, 6_250_000)?;
+    write_megabits_column(&mut text, 0)?; // no limit
+    holds(
+        rt,
+        text.as_str() == "       6250000       50.00           -",
+    );
+    let mut text = String::new(rt.alloc());
+    write_megabits(&mut text, 833_333)?; // 6.666664, rounded down
+    holds(rt, text.as_str() == "6.66");
+    Ok(())
+}
+
+/// Checks rates at the ends of columns, each rate, its octets, its Mbit/s and the same in a column.
+fn columns_of_rates(rt: &(impl Abort + AllocGlobal), rows: &[(u64, &str, &str)]) {
+    for row in rows {
+        let (rate, shown, within) = *row;
+        let mut text = String::new(rt.alloc());
+        write_rate_column(&mut text, rate).expect(rt, "memory");
+        write_megabits_column(&mut text, rate).expect(rt, "memory");
+        holds(rt, text.as_str() == shown);
+        let mut text = String::new(rt.alloc());
+        write_megabits(&mut text, rate).expect(rt, "memory");
+        holds(rt, text.as_str() == within);
+    }
+}
+
+#[test]
+fn rates_at_the_ends_of_columns(rt: HostRuntime) {
+    let rows = [
+        (0, "             -           -", "0.00"),
+        (1_249, "          1249        0.00", "0.00"),
+        (1_250, "          1250        0.01", "0.01"),
+        (12_499, "         12499        0.09", "0.09"),
+        (12_500, "         12500        0.10", "0.10"),
+        (
+            1_099_511_627_776,
+            " 1099511627776  8796093.02",
+            "8796093.02",
+        ),
+        (
+            18_446_744_073_709_551_615,
+            "18446744073709551615147573952589676.41",
+            "147573952589676.41",
+        ),
+    ];
+    columns_of_rates(&rt, &rows);
 }
 
 /// A configuration of a folder, with a user of a password.
@@ -180,4 +233,5 @@ fn examples(rt: HostRuntime) {
     server_config(&rt).expect(&rt, "a configuration");
     config_report(&rt).expect(&rt, "a report");
     change_report(&rt).expect(&rt, "a report on a change");
+    rate_columns(&rt).expect(&rt, "memory");
 }

@@ -1,4 +1,5 @@
 pub mod Accepting
+pub mod Boards
 pub mod Descriptors
 pub mod Draining
 pub mod Reloading

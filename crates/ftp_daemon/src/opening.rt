@@ -10,7 +10,7 @@ ghost use Rattle.lent_parts.specs.Rooms.{HasRoom};
 ghost use Rattle.passive_ports.specs.Connections.{none_admitted};
 ghost use Rattle.round_pace.specs.Earned.{tick_of};
 ghost use Rattle.round_pace.specs.Paced.{IsPacedFrom};
-ghost use Rattle.transfer_worker.specs.Boards.{AreNewPasses};
+ghost use Rattle.ftp_daemon.specs.Boards.{AreNewBoards, ArePassesOf};
 
 use client_patience::Patience;
 use ftpd_program::ServeFault;
@@ -29,7 +29,7 @@ use std::alloc::{AllocError, Global};
 use std::net::TcpStream;
 use std::sync::{Arc, Mutex};
 use transfer_ticket::Ticket;
-use transfer_worker::BoardPass;
+use transfer_worker::{BoardPass, JobBoard, open_board};
 use virtual_tree::Store;
 
 /// The parts that a caller hands to a server.
@@ -157,21 +157,70 @@ pub(crate) struct Allocated<S: Store<Global>, B: PartsName> {
     pub(crate) cadence: Cadence,
     /// The moment at which the pace was made, in microseconds.
     pub(crate) begun: u64,
-    /// The pass of sessions, and those of lanes.
+    /// The passes of sessions, and those of lanes.
     pub(crate) pass: LentPass<B, u32>,
     pub(crate) passes: Vec<LentPass<B, u32>>,
     /// Room for the seats of the lanes.
     pub(crate) seats: LentSeats<B>,
 }
 
-// Lends the passes of a board.
-fn lend_passes<B: PartsName, J>(passes: Vec<BoardPass<J>>, lent: &mut Vec<LentPass<B, J>>)
-    requires passes { AreNewPasses B.board (length passes.items) passes.items }
-    requires room { length lent.old.items + length passes.items ≤ vec_capacity lent.old }
+/// The passes of two boards that were just opened, as many of each.
+#[derive(Drop)]
+pub(crate) struct NewPasses {
+    /// Those of the board of transfers that go first.
+    pub(crate) first: Vec<BoardPass<u32>>,
+    /// Those of the board of all others.
+    pub(crate) others: Vec<BoardPass<u32>>,
+}
+
+/// Two boards that were just opened: of transfers that go first, and of all others.
+#[derive(Drop)]
+pub(crate) struct NewBoards {
+    pub(crate) first: JobBoard<u32>,
+    pub(crate) others: JobBoard<u32>,
+    pub(crate) passes: NewPasses,
+}
+
+/// Opens two boards with this many places, and this many passes of each.
+pub(crate) fn open_boards(
+    alloc: Global,
+    places: usize,
+    passes: usize,
+) -> Result<NewBoards, ServeFault>
+    ensures new { IfOk result AreNewBoards }
 {
-    for pass in passes {
-        lent.push_reserved(LentPass::new(pass));
+    let Ok((first, of_first)) = open_board(alloc, places, passes) else {
+        return Err(ServeFault::Memory);
+    };
+    match open_board(alloc, places, passes) {
+        Ok((others, of_others)) => Ok(NewBoards {
+            first,
+            others,
+            passes: NewPasses {
+                first: of_first,
+                others: of_others,
+            },
+        }),
+        Err(_) => Err(ServeFault::Memory),
     }
+}
+
+// Lends the passes of two boards, one of each at a time.
+fn lend_passes<B: PartsName>(
+    alloc: Global,
+    passes: NewPasses,
+) -> Result<Vec<LentPass<B, u32>>, AllocError>
+    requires passes { ArePassesOf B.first B.board passes }
+{
+    let NewPasses { mut first, others } = passes;
+    let mut lent = Vec::with_capacity(alloc, others.len())?;
+    for pass in others {
+        match first.pop() {
+            Some(one) => lent.push_reserved(LentPass::new(one, pass)),
+            None => {}
+        }
+    }
+    Ok(lent)
 }
 
 /// Allocates the parts beside the line of a server, with room for this many seats. The pace takes the limits.
@@ -180,7 +229,7 @@ pub(crate) fn allocate<R, S, B>(
     numbers: &ServerNumbers,
     limits: Limits,
     own_stores: Vec<S>,
-    passes: Vec<BoardPass<u32>>,
+    passes: NewPasses,
     seats: usize,
     user_sessions: u32,
 ) -> Result<Allocated<S, B>, ServeFault>
@@ -188,7 +237,7 @@ where
     R: RoundClock + AllocGlobal,
     S: Store<Global> + Drop,
     B: PartsName,
-    requires passes { AreNewPasses B.board (length passes.items) passes.items }
+    requires passes { ArePassesOf B.first B.board passes }
     ensures new { IfOk result (λ a. IsPacedFrom (tick_of a.begun) limits a.pace) }
     ensures when { IfOk result (λ a. R.when a.begun ≡ true) }
     ensures room { IfOk result (λ a. HasRoom seats a.seats) }
@@ -207,8 +256,7 @@ where
     let cadence = new_cadence(alloc, &limits)?;
     let begun = rt.moment();
     let pace = Pace::of(alloc, limits, begun)?;
-    let mut lent = Vec::with_capacity(alloc, passes.len())?;
-    lend_passes::<B, u32>(passes, &mut lent);
+    let mut lent = lend_passes::<B>(alloc, passes)?;
     let Some(pass) = lent.pop() else {
         return Err(ServeFault::NoThread);
     };

@@ -9,13 +9,13 @@ ghost use Rattle.paced_rounds.specs.Seconds.{HasKept};
 ghost use Rattle.round_pace.specs.Earned.{tick_of};
 ghost use Rattle.round_pace.specs.Histories.{rates_of};
 ghost use Rattle.round_pace.specs.Paced.{IsPacedFrom};
-ghost use Rattle.transfer_worker.specs.Boards.{AreNewPasses};
+ghost use Rattle.ftp_daemon.specs.Boards.{ArePassesOf};
 ghost use Rattle.ftp_daemon.specs.SameRates.{Permits};
 
 use crate::lanes::serve_crew;
 use crate::last_waits::{LanesAtWork, ToldHandler};
 use crate::listening::Entrance;
-use crate::opening::{Allocated, Line, Service, allocate};
+use crate::opening::{Allocated, Line, NewBoards, Service, allocate};
 use crate::settling::settle_unlent;
 use crate::watching::{OwnerSigns, wants_looks};
 use event_word::{EventCount, SharedEventCount};
@@ -34,7 +34,6 @@ use std::sync::{Mutex, Wait};
 use std::thread::Threads;
 use std::time::Clock;
 use text_io::TextWriter;
-use transfer_worker::{BoardPass, JobBoard};
 use virtual_tree::Store;
 
 /// A server whose parts have a name: what its threads share. It cannot be dropped.
@@ -91,17 +90,17 @@ where
     B: PartsName,
     P: OwnerSigns + Drop,
 {
-    /// The server of a desk and a board of this name. If it cannot be opened, the desk is settled.
+    /// The server of a desk and boards of this name. If it cannot be opened, the desk is settled.
     pub(crate) fn open(
         rt: &R,
         service: Service<S, H, P>,
-        board: JobBoard<u32>,
-        passes: Vec<BoardPass<u32>>,
+        boards: NewBoards,
         line: Line,
     ) -> Result<Self, (Settled, ServeFault)>
         requires desk { IsNamed B.desk B.lanes line.desk }
-        requires board { IsBoardOf B.board board }
-        requires passes { AreNewPasses B.board (length passes.items) passes.items }
+        requires first { IsBoardOf B.first boards.first }
+        requires others { IsBoardOf B.board boards.others }
+        requires passes { ArePassesOf B.first B.board boards.passes }
         requires rated { B.rates service.limits ≡ true }
         requires owner { Permits P.allows B.rates }
         requires clock { IsTestOf R.when B.when }
@@ -121,6 +120,11 @@ where
             patience,
             user_sessions,
         } = service;
+        let NewBoards {
+            first,
+            others,
+            passes,
+        } = boards;
         let seats = line.seats.len();
         match allocate::<R, S, B>(
             rt,
@@ -166,7 +170,7 @@ where
                     signs: session_signs,
                     logins: Mutex::new(logins),
                     tickets,
-                    board: LentBoard::new(board),
+                    board: LentBoard::new(first, others),
                     pass: Mutex::new(pass),
                     jobs: SharedEventCount::new(),
                     lanes,

@@ -1,15 +1,15 @@
 //! A server, from its listener to its settlement.
 
-ghost use Rattle.std.specs.Prelude.{◌≡◌, ◌≢◌, ◌+◌, ◌*◌, ◌≤◌, ℕ, true, IfOk, length};
+ghost use Rattle.std.specs.Prelude.{◌≡◌, ◌≢◌, ◌+◌, ◌*◌, ◌≤◌, ℕ, true, IfOk};
 ghost use Rattle.lane_rounds.specs.Clocks.{IsTestOf};
 ghost use Rattle.lent_parts.specs.Names.{IsBoardOf, IsNamed};
 ghost use Rattle.line_rates.specs.Rates.{Rates};
 ghost use Rattle.paced_rounds.specs.Seconds.{AreInSeconds, HasKept};
-ghost use Rattle.transfer_worker.specs.Boards.{AreNewPasses};
+ghost use Rattle.ftp_daemon.specs.Boards.{ArePassesOf};
 ghost use Rattle.ftp_daemon.specs.SameRates.{Permits, may_hold};
 
 use crate::listening::{Entrance, listen_on, warn_of_descriptors};
-use crate::opening::{Line, Service, open_line};
+use crate::opening::{Line, NewBoards, Service, open_boards, open_line};
 use crate::server::Server;
 use crate::watching::{OwnerSigns, is_up};
 use ftpd_program::ServeFault;
@@ -23,15 +23,13 @@ use std::alloc::Global;
 use std::marker::Brand;
 use std::thread::Threads;
 use text_io::TextWriter;
-use transfer_worker::{BoardPass, JobBoard, open_board};
 use virtual_tree::Store;
 
-/// Serves with a desk and a board of this name. Returns the settled book, and whether clients were served.
+/// Serves with a desk and boards of this name. Returns the settled book, and whether clients were served.
 fn serve_named<R, S, H, B, P, W>(
     rt: &R,
     service: Service<S, H, P>,
-    board: JobBoard<u32>,
-    passes: Vec<BoardPass<u32>>,
+    boards: NewBoards,
     line: Line,
     entrance: Entrance,
     writer: &mut W,
@@ -46,8 +44,9 @@ where
     P: OwnerSigns + Send + Sync + Drop,
     W: TextWriter,
     requires desk { IsNamed B.desk B.lanes line.desk }
-    requires board { IsBoardOf B.board board }
-    requires passes { AreNewPasses B.board (length passes.items) passes.items }
+    requires first { IsBoardOf B.first boards.first }
+    requires others { IsBoardOf B.board boards.others }
+    requires passes { ArePassesOf B.first B.board boards.passes }
     requires rated { B.rates service.limits ≡ true }
     requires owner { Permits P.allows B.rates }
     requires clock { IsTestOf R.when B.when }
@@ -55,7 +54,7 @@ where
     ensures sum { result.0.issued ≡ result.0.moved + result.0.back }
     ensures kept { HasKept B.rates B.when B.carried result.0.issued }
 {
-    match Server::<R, S, H, B, P>::open(rt, service, board, passes, line) {
+    match Server::<R, S, H, B, P>::open(rt, service, boards, line) {
         Err((settled, fault)) => (settled, Err(fault)),
         Ok(server) => {
             let served = server.run(entrance, writer);
@@ -122,13 +121,10 @@ where
     let entrance = listen_on(rt, &numbers, &mut service.handler)?;
     warn_of_descriptors(&numbers, &mut service.handler);
     let lanes = usize::from(numbers.lanes);
-    let Ok((board, passes)) = open_board(rt.alloc(), usize::from(numbers.max_cons), lanes + 1)
-    else {
-        return Err(ServeFault::Memory);
-    };
+    let boards = open_boards(rt.alloc(), usize::from(numbers.max_cons), lanes + 1)?;
     let line = open_line(rt.alloc(), lanes)?;
     let (settled, served) = serve_named::<R, S, H, Brand, P, W>(
-        rt, service, board, passes, line, entrance, writer,
+        rt, service, boards, line, entrance, writer,
     );
     served?;
     report_settled(rt.alloc(), &settled, writer)?;

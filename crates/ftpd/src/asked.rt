@@ -19,7 +19,7 @@ pub(crate) struct AskedService {
     pub config: Config,
     /// The texts of the configuration's warnings, a line each.
     pub warnings: String,
-    /// The octets of the configuration, if it may be read again.
+    /// The octets of the configuration, if it may be read again, or if there is to be a running file.
     pub octets: Option<Vec<u8>>,
     /// The path of the stop file, if any.
     pub stop_file: Option<String>,
@@ -27,6 +27,8 @@ pub(crate) struct AskedService {
     pub drain_file: Option<String>,
     /// The path of the reload file, if any.
     pub reload_file: Option<String>,
+    /// The path of the running file, if any, and that of the new file beside it.
+    pub running: Option<(String, String)>,
     /// The path of the end file, if any.
     pub end_file: Option<String>,
     /// The path of the ready file, if any.
@@ -114,13 +116,15 @@ impl<W: TextWriter> Server<W> for Asked {
         let log_form = copied(alloc, files.log_form)?;
         let user_sessions = copied(alloc, files.user_sessions)?;
         let status = with_beside(alloc, files.status)?;
+        let running = with_beside(alloc, files.running_file)?;
         let ReadConfig {
             path,
             config,
             warnings,
             octets,
         } = read;
-        let octets = copied_octets(alloc, reload_file.is_some(), octets)?;
+        let keeps = reload_file.is_some() || running.is_some();
+        let octets = copied_octets(alloc, keeps, octets)?;
         let path = String::from_str(alloc, path)?;
         let warnings = String::from_str(alloc, warnings)?;
         self.service = Some(AskedService {
@@ -131,6 +135,7 @@ impl<W: TextWriter> Server<W> for Asked {
             stop_file,
             drain_file,
             reload_file,
+            running,
             end_file,
             ready_file,
             transfer_log,

@@ -61,6 +61,15 @@ impl PlainNotes {
         self.lines.note(rt, line);
     }
 
+    /// Notes that the configuration that the server has could not be written to a file.
+    pub fn note_unwritten<R: Wait + AllocGlobal>(&self, rt: &R, path: &str, reason: io::Error) {
+        let head = count_head(self.form);
+        let line = format!(in rt.alloc();
+            "{head}the running file {path:?} cannot be written: {reason}\n"
+        );
+        self.lines.note(rt, line);
+    }
+
     /// Notes that the file of a sign cannot be examined.
     pub fn note_unseen<R: Wait + AllocGlobal>(&self, rt: &R, path: &str, reason: io::Error) {
         let head = count_head(self.form);

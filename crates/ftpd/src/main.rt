@@ -14,6 +14,7 @@ mod own_thread;
 mod page_thread;
 mod ready_file;
 mod reload_file;
+mod running_file;
 mod serving;
 mod sign_file;
 mod starting;

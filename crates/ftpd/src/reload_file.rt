@@ -3,6 +3,7 @@
 use crate::config_thread::{ConfigReader, ReadOctets};
 use crate::facts::{Start, copied_limits, facts_of};
 use crate::known::Known;
+use crate::running_file::RunningWriter;
 use crate::sign_file::SignFile;
 use change_report::{ChangeReport, reload_report};
 use config_change::{FixedValues, count_fault, fixed_key, renumbered, with_past};
@@ -23,7 +24,7 @@ pub(crate) struct NextConfig {
     /// The facts that a status shows; none without memory for them.
     pub facts: Option<StatusFacts>,
     /// The octets of the configuration.
-    pub octets: Vec<u8>,
+    pub octets: Arc<Vec<u8>>,
 }
 
 /// The configuration that the server has taken.
@@ -52,7 +53,9 @@ pub(crate) struct ReloadFile {
     pub capacity: u64,
     pub known: Mutex<Known>,
     /// The octets of the configuration that the server has.
-    pub octets: Mutex<Vec<u8>>,
+    pub octets: Mutex<Arc<Vec<u8>>>,
+    /// The thread that writes them to the running file, if there is one.
+    pub running: Option<Arc<RunningWriter>>,
     /// The configuration that the server is about to take.
     pub next: Mutex<Option<NextConfig>>,
     /// The file could not be removed.
@@ -201,6 +204,9 @@ impl ReloadFile {
         let Ok(terms) = Arc::new(alloc, Terms { users, settings }) else {
             return Err(None);
         };
+        let Ok(octets) = Arc::new(alloc, octets) else {
+            return Err(None);
+        };
         *self.next.lock(rt) = Some(NextConfig {
             known,
             facts,
@@ -238,6 +244,9 @@ impl ReloadFile {
         let mut earlier = self.known.lock(rt);
         let gone = earlier.gone(&known);
         *earlier = known;
+        if let (Some(writer), Ok(octets)) = (&self.running, Arc::try_clone(&octets)) {
+            writer.put(rt, octets);
+        }
         Some(TakenConfig {
             gone,
             facts,
@@ -246,7 +255,7 @@ impl ReloadFile {
     }
 
     // Exchanges the octets of the configuration for these. Returns what these change, in lines.
-    fn changed<R: Wait>(&self, rt: &R, octets: Vec<u8>) -> Option<String> {
+    fn changed<R: Wait>(&self, rt: &R, octets: Arc<Vec<u8>>) -> Option<String> {
         let mut earlier = self.octets.lock(rt);
         let alloc = self.machine.alloc();
         let report = reload_report(alloc, false, octets.as_slice(), earlier.as_slice());

@@ -8,10 +8,11 @@ use crate::config_thread::ConfigReader;
 use crate::end_file::EndFile;
 use crate::facts::{Start, copied_limits, facts_of, start_of};
 use crate::known::Known;
-use crate::log_thread::{LogThreads, QueuedTransfers};
+use crate::log_thread::{LogThreads, PlainNotes, QueuedTransfers};
 use crate::page_thread::{PageSocket, PageThread};
 use crate::ready_file::MachineReadyFile;
 use crate::reload_file::{ReloadFile, capacity_of, root_of};
+use crate::running_file::RunningWriter;
 use crate::sign_file::SignFile;
 use crate::starting::{Means, Prepared, Unprepared, prepare};
 use crate::status_file::{MachineSigns, StatusFile};
@@ -239,12 +240,13 @@ fn known_of(
 /// The reload file of a configuration with its octets, if there is to be one and a thread that reads it.
 fn reload_file(
     machine: &HostRuntime,
-    stated: Option<(SignFile, Vec<u8>)>,
-    reader: Option<Arc<ConfigReader>>,
+    stated: Option<(SignFile, Arc<Vec<u8>>)>,
+    threads: &OwnThreads,
     known: Known,
     served: &ServedConfig,
     start: Start,
 ) -> Result<Option<ReloadFile>, AllocError> {
+    let reader = another(&threads.reader)?;
     let (Some((sign, octets)), Some(reader)) = (stated, reader) else {
         return Ok(None);
     };
@@ -257,6 +259,7 @@ fn reload_file(
         capacity: capacity_of(&served.store),
         known: Mutex::new(known),
         octets: Mutex::new(octets),
+        running: another(&threads.running)?,
         next: Mutex::new(None),
         is_stuck: Mutex::new(false),
         start,
@@ -293,6 +296,8 @@ fn end_file(
 struct OwnThreads {
     /// It reads the configuration again.
     reader: Option<Arc<ConfigReader>>,
+    /// It writes the running file.
+    running: Option<Arc<RunningWriter>>,
     /// It reads the end file, and removes it.
     ender: Option<Arc<ConfigReader>>,
     /// It writes the status file.
@@ -306,6 +311,8 @@ struct OwnThreads {
 struct OwnMeans {
     /// The path of the configuration, if it may be read again.
     config: Option<String>,
+    /// The running file, if there is to be one, and the notes of the thread that writes it.
+    running: Option<(StatusFile, PlainNotes)>,
     /// The path of the end file, if there is to be one.
     end: Option<String>,
     status: Option<StatusFile>,
@@ -329,6 +336,7 @@ impl OwnThreads {
     {
         let OwnMeans {
             config,
+            running,
             end,
             status,
             page,
@@ -336,6 +344,10 @@ impl OwnThreads {
         } = means;
         let reader = match config {
             Some(path) => Some(ConfigReader::start(rt, machine, path, false)?),
+            None => None,
+        };
+        let running = match running {
+            Some((file, notes)) => Some(RunningWriter::start(rt, machine.alloc(), file, notes)?),
             None => None,
         };
         let ender = match end {
@@ -352,6 +364,7 @@ impl OwnThreads {
         };
         Ok(OwnThreads {
             reader,
+            running,
             ender,
             status,
             page,
@@ -365,6 +378,9 @@ impl OwnThreads {
         }
         if let Some(status) = &self.status {
             status.leave(rt);
+        }
+        if let Some(running) = &self.running {
+            running.leave(rt);
         }
         if let Some(ender) = &self.ender {
             ender.leave(rt);
@@ -388,6 +404,33 @@ fn offered_lines(
     Ok((notes, Some(transfers)))
 }
 
+/// The octets of a configuration, if they are kept, which its running file is to have, if there is one.
+fn kept_octets<R: ServerRuntime>(
+    rt: &R,
+    octets: Option<Vec<u8>>,
+    running: &Option<Arc<RunningWriter>>,
+) -> Result<Option<Arc<Vec<u8>>>, AllocError> {
+    let Some(octets) = octets else {
+        return Ok(None);
+    };
+    let octets = Arc::new(rt.alloc(), octets)?;
+    if let Some(running) = running {
+        running.put(rt, Arc::try_clone(&octets)?);
+    }
+    Ok(Some(octets))
+}
+
+/// The running file, if there is to be one, with notes of what cannot be written.
+fn with_notes(
+    running: Option<StatusFile>,
+    log: &LogThreads,
+) -> Result<Option<(StatusFile, PlainNotes)>, AllocError> {
+    match running {
+        Some(file) => Ok(Some((file, log.plain_notes()?))),
+        None => Ok(None),
+    }
+}
+
 /// Serves with what was prepared, and with the threads that write its lines.
 fn serve_logged<R, W>(
     rt: &R,
@@ -409,6 +452,7 @@ where
         stop,
         drain,
         reload,
+        running,
         end,
         is_logged,
         log: _,
@@ -433,20 +477,21 @@ where
     let (end, end_path) = split(end);
     let own = OwnMeans {
         config: if reload.is_some() { Some(path) } else { None },
+        running: with_notes(running, log)?,
         end: end_path,
         status,
         page,
         cell,
     };
     let threads = OwnThreads::start(rt, machine, own)?;
-    let reader = another(&threads.reader)?;
+    let octets = kept_octets(rt, octets, &threads.running)?;
     let ender = another(&threads.ender)?;
     let signs = MachineSigns {
         rt: *rt,
         stop,
         leaves: None,
         drain,
-        reload: reload_file(machine, reload.zip(octets), reader, known, &config, start)?,
+        reload: reload_file(machine, reload.zip(octets), &threads, known, &config, start)?,
         end: end_file(machine, end, ender),
         notes: log.plain_notes()?,
         status: another(&threads.status)?,

@@ -4,9 +4,10 @@ use crate::asked::AskedService;
 use crate::log_file::LogFile;
 use crate::page_thread::PageSocket;
 use crate::ready_file::MachineReadyFile;
+use crate::running_file::RUNNING_MODE;
 use crate::sign_file::SignFile;
 use crate::stated_files::{FRONT, found_at, twin_of};
-use crate::status_file::StatusFile;
+use crate::status_file::{STATUS_MODE, StatusFile};
 use ftp_daemon::{Patience, ServeFault};
 use ftpd_program::{
     StartFault, is_for_nothing, is_free_for_log, is_free_for_status, stated_sessions,
@@ -23,13 +24,15 @@ pub(crate) struct Means {
     pub path: String,
     pub config: Config,
     pub warnings: String,
-    /// The octets of the configuration, if it may be read again.
+    /// The octets of the configuration, if it may be read again, or if there is to be a running file.
     pub octets: Option<Vec<u8>>,
     pub form: LogForm,
     pub stop: Option<SignFile>,
     pub drain: Option<SignFile>,
     /// The sign that the configuration is to be read again, if there is to be one.
     pub reload: Option<SignFile>,
+    /// The running file, if there is to be one.
+    pub running: Option<StatusFile>,
     /// The sign that sessions are to end, with its path again, if there is to be one.
     pub end: Option<(SignFile, String)>,
     pub is_logged: bool,
@@ -280,7 +283,7 @@ fn status_at(
         return Ok(None);
     };
     let path = status_path(machine, path)?;
-    let file = StatusFile::new(*machine, path, beside);
+    let file = StatusFile::new(*machine, path, beside, STATUS_MODE);
     match file.try_out() {
         Ok(()) => Ok(Some(file)),
         Err(reason) => Err(StartFault::StatusUnwritten {
@@ -288,6 +291,12 @@ fn status_at(
             reason,
         }),
     }
+}
+
+/// Returns the running file at these paths, if there is to be one. Whether it can be written is noted later.
+fn running_at(machine: &HostRuntime, paths: Option<(String, String)>) -> Option<StatusFile> {
+    let (path, beside) = paths?;
+    Some(StatusFile::new(*machine, path, beside, RUNNING_MODE))
 }
 
 /// Returns the socket of the status page at a port, if there is to be one. `Err` if it cannot be had.
@@ -312,6 +321,43 @@ fn part<T>(made: Result<T, StartFault>, fault: ServeFault) -> Result<T, Unprepar
     }
 }
 
+/// The signs of the owner, those that there are to be.
+struct Signs {
+    stop: Option<SignFile>,
+    drain: Option<SignFile>,
+    reload: Option<SignFile>,
+    end: Option<(SignFile, String)>,
+}
+
+/// Returns the signs at these paths. `Err` says what could not be had.
+fn signs_at(
+    machine: &HostRuntime,
+    stop_file: Option<String>,
+    drain_file: Option<String>,
+    reload_file: Option<String>,
+    end_file: Option<String>,
+) -> Result<Signs, Unprepared> {
+    let stop = part(
+        sign_if_any(machine, Sign::Stop, stop_file),
+        ServeFault::Stopped,
+    )?;
+    let drain = part(
+        sign_if_any(machine, Sign::Drain, drain_file),
+        ServeFault::Stopped,
+    )?;
+    let reload = part(
+        sign_if_any(machine, Sign::Reload, reload_file),
+        ServeFault::ReloadFile,
+    )?;
+    let end = end_if_any(machine, end_file)?;
+    Ok(Signs {
+        stop,
+        drain,
+        reload,
+        end,
+    })
+}
+
 /// Prepares a service. `Err` says what could not be had.
 pub(crate) fn prepare<R>(
     rt: &R,
@@ -330,6 +376,7 @@ where
         stop_file,
         drain_file,
         reload_file,
+        running,
         end_file,
         ready_file,
         transfer_log,
@@ -345,19 +392,12 @@ where
     if is_for_nothing(patience, drain_file.is_some()) {
         return Err(not_prepared(ServeFault::DrainSeconds, StartFault::NothingDrains));
     }
-    let stop = part(
-        sign_if_any(machine, Sign::Stop, stop_file),
-        ServeFault::Stopped,
-    )?;
-    let drain = part(
-        sign_if_any(machine, Sign::Drain, drain_file),
-        ServeFault::Stopped,
-    )?;
-    let reload = part(
-        sign_if_any(machine, Sign::Reload, reload_file),
-        ServeFault::ReloadFile,
-    )?;
-    let end = end_if_any(machine, end_file)?;
+    let Signs {
+        stop,
+        drain,
+        reload,
+        end,
+    } = signs_at(machine, stop_file, drain_file, reload_file, end_file)?;
     let ready = part(ready_if_any(machine, ready_file), ServeFault::ReadyFile)?;
     if let Some(start) = folder_fault(machine, &config.store) {
         return Err(not_prepared(ServeFault::Store, start));
@@ -372,6 +412,7 @@ where
         stop,
         drain,
         reload,
+        running: running_at(machine, running),
         end,
         is_logged,
         status: part(status_at(machine, status), ServeFault::StatusFile)?,

@@ -38,6 +38,19 @@ fn add<'a>(
     Ok(())
 }
 
+// Adds a path and that of the new file beside it, if they are stated.
+fn add_both<'a>(
+    machine: &HostRuntime,
+    paths: &mut Vec<StatedPath<'a>>,
+    both: &'a Option<(String, String)>,
+) -> Result<(), AllocError> {
+    if let Some((path, beside)) = both {
+        paths.push(looked_at(machine, path.as_str()))?;
+        paths.push(looked_at(machine, beside.as_str()))?;
+    }
+    Ok(())
+}
+
 /// The first path of a service that is that of two of its files; none if each has a path of its own.
 pub(crate) fn twin_of(
     machine: &HostRuntime,
@@ -52,10 +65,8 @@ pub(crate) fn twin_of(
     add(machine, &mut paths, &service.end_file)?;
     add(machine, &mut paths, &service.ready_file)?;
     add(machine, &mut paths, &service.transfer_log)?;
-    if let Some((path, beside)) = &service.status {
-        paths.push(looked_at(machine, path.as_str()))?;
-        paths.push(looked_at(machine, beside.as_str()))?;
-    }
+    add_both(machine, &mut paths, &service.status)?;
+    add_both(machine, &mut paths, &service.running)?;
     match first_twin(&paths) {
         Some(path) => Ok(Some(String::from_str(alloc, path)?)),
         None => Ok(None),

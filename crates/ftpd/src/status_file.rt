@@ -7,7 +7,7 @@ use crate::log_thread::PlainNotes;
 use crate::reload_file::{ReloadFile, TakenConfig};
 use crate::sign_file::{SignFile, SignLook};
 use crate::status_thread::StatusWriter;
-use folder_store::LeaveSign;
+use folder_store::{FolderMachine, LeaveSign};
 use ftp_daemon::{EndSign, OwnerSigns, ReloadFault, ReloadSign};
 use server_status::status_text;
 use status_keeper::StatusCell;
@@ -17,36 +17,42 @@ use std::os::unix::fs::OpenOptionsExt;
 use std::sync::{Arc, Wait};
 use std::{fs, io};
 
-/// The permissions of the file: its group may read it.
-const MODE: u32 = 0o640;
+/// The permissions of the file of a status: its group may read it.
+pub(crate) const STATUS_MODE: u32 = 0o640;
 
-/// The file to which the status is written. Each text is written to a new file beside it, which then takes its name: a
-/// reader sees whole texts only.
+/// The file to which a text is written again and again, that of the status or of the configuration. Each text is written to
+/// a new file beside it, which then takes its name: a reader sees whole texts only.
 #[derive(Drop)]
 pub(crate) struct StatusFile {
     machine: HostRuntime,
     path: String,
     beside: String,
+    // the permissions
+    mode: u32,
 }
 
-// Writes a text to a new file.
-fn write_new(machine: &HostRuntime, path: &str, text: &[u8]) -> io::Result<()> {
+// Writes a text to a new file with these permissions. A file system that takes octets later reports at its close that it
+// could not.
+fn write_new(machine: &HostRuntime, path: &str, mode: u32, text: &[u8]) -> io::Result<()> {
     let _ = fs::remove_file(machine, path);
     let mut file = OpenOptions::new()
         .write(true)
         .create_new(true)
-        .mode(MODE)
+        .mode(mode)
         .open(machine, path)?;
-    file.write_all(text)
+    file.write_all(text)?;
+    let mut machine = *machine;
+    machine.close(file)
 }
 
 impl StatusFile {
-    /// The file at a path, with the path of the new file beside it.
-    pub fn new(machine: HostRuntime, path: String, beside: String) -> StatusFile {
+    /// The file at a path, with the path of the new file beside it, and the permissions.
+    pub fn new(machine: HostRuntime, path: String, beside: String, mode: u32) -> StatusFile {
         StatusFile {
             machine,
             path,
             beside,
+            mode,
         }
     }
 
@@ -58,19 +64,24 @@ impl StatusFile {
                 return Err(io::Error::from(io::ErrorKind::AlreadyExists));
             }
         }
-        write_new(&self.machine, self.beside.as_str(), text)?;
+        write_new(&self.machine, self.beside.as_str(), self.mode, text)?;
         fs::rename(&self.machine, self.beside.as_str(), self.path.as_str())
     }
 
     /// Tries whether a new file can be written, and removes it again. `Err` is the machine's reason.
     pub fn try_out(&self) -> io::Result<()> {
-        write_new(&self.machine, self.beside.as_str(), b"")?;
+        write_new(&self.machine, self.beside.as_str(), self.mode, b"")?;
         fs::remove_file(&self.machine, self.beside.as_str())
     }
 
     /// Removes the file.
     pub fn remove(&self) {
         let _ = fs::remove_file(&self.machine, self.path.as_str());
+    }
+
+    /// Returns the path.
+    pub fn path(&self) -> &str {
+        self.path.as_str()
     }
 
     /// Returns the path.

@@ -15,6 +15,7 @@ use Rattle.ftpd_program.specs.Endings.{IsCommon, IsUnwritten}
 use Rattle.ftpd_program.specs.Runs.{IsCommandEnd, IsPlanEnd, IsPrintEnd, IsReportEnd, IsScriptEnd, IsTopEnd, after_table, plan_print, report_print}
 use Rattle.ftpd_program.specs.Scripting.{IsUnscripted}
 use Rattle.ftpd_program.specs.Serving.{IsServeEnd, Service}
+use Rattle.ftpd_program.specs.declared.against.TheConstants.{RUNNING_FILE}
 use Rattle.ftpd_program.specs.declared.ending.FtpdExit.{FtpdExit}
 use Rattle.ftpd_program.specs.declared.ending.FtpdExit.TheVariants.{Common, Config, ConfigOf, NoReload, Transfers, Session, Server, Status, Watches, AddsUp}
 use Rattle.ftpd_program.specs.declared.printing.Print.TheVariants.{Latest, Table}
@@ -36,7 +37,7 @@ share_end gives shown serves Refuses (Sheet (Share path svg)) sheet as_svg old n
 share_end gives shown serves Refuses (Sheet (Share path svg)) sheet as_svg old new (Watches status rows) is end = absurd end
 share_end gives shown serves Refuses (Sheet (Share path svg)) sheet as_svg old new AddsUp is end = absurd end
 share_end gives shown serves Refuses (Sheet (Check path other)) sheet as_svg old new ending is end = absurd is
-share_end gives shown serves Refuses (CheckConfig path json against) sheet as_svg old new ending is end = absurd is
+share_end gives shown serves Refuses (CheckConfig path json against running) sheet as_svg old new ending is end = absurd is
 share_end gives shown serves Refuses (Migrate path) sheet as_svg old new ending is end = absurd is
 share_end gives shown serves Refuses (Script path) sheet as_svg old new ending is end = absurd is
 share_end gives shown serves Refuses (Serve path files patience) sheet as_svg old new ending is end = absurd is
@@ -59,7 +60,7 @@ check_end gives shown serves Refuses (Sheet (Check path other)) sheet grants old
 check_end gives shown serves Refuses (Sheet (Check path other)) sheet grants old new (Watches status rows) is end = absurd end
 check_end gives shown serves Refuses (Sheet (Check path other)) sheet grants old new AddsUp is end = absurd end
 check_end gives shown serves Refuses (Sheet (Share path svg)) sheet grants old new ending is end = absurd is
-check_end gives shown serves Refuses (CheckConfig path json against) sheet grants old new ending is end = absurd is
+check_end gives shown serves Refuses (CheckConfig path json against running) sheet grants old new ending is end = absurd is
 check_end gives shown serves Refuses (Migrate path) sheet grants old new ending is end = absurd is
 check_end gives shown serves Refuses (Script path) sheet grants old new ending is end = absurd is
 check_end gives shown serves Refuses (Serve path files patience) sheet grants old new ending is end = absurd is
@@ -68,11 +69,14 @@ check_end gives shown serves Refuses (Top status once rows) sheet grants old new
 check_end gives shown serves Refuses Usage sheet grants old new ending is end = absurd is
 
 pub report_end : (gives : List ℕ → Octets) (shown : Shown) (serves : Service) (Refuses : List ℕ → Type 0) (words : Words) (config : List ℕ) (as_json : Bool) (old new : Option (List ℕ)) (ending : FtpdExit)
-    → IsCheckConfig config as_json None words → IsCommandEnd gives shown serves Refuses words old new ending → IsReportEnd as_json shown (gives config) config Refuses old new ending
-report_end gives shown serves Refuses (CheckConfig path json None) config as_json old new ending is end =
+    → IsCheckConfig config as_json None false words → IsCommandEnd gives shown serves Refuses words old new ending → IsReportEnd as_json shown (gives config) config Refuses old new ending
+report_end gives shown serves Refuses (CheckConfig path json None true) config as_json old new ending is end =
+    let still = is.3 in
+    absurd (cc)
+report_end gives shown serves Refuses (CheckConfig path json None false) config as_json old new ending is end =
     let first = subst (λ (p : List ℕ). IsPrintEnd (report_print json path) shown (gives p) Refuses old new ending) is.0 end in
     (path, is.0, subst (λ (b : Bool). IsPrintEnd (report_print b path) shown (gives config) Refuses old new ending) is.1 first)
-report_end gives shown serves Refuses (CheckConfig path json (Some other)) config as_json old new ending is end =
+report_end gives shown serves Refuses (CheckConfig path json (Some other) running) config as_json old new ending is end =
     let alone = is.2 in
     absurd (cc)
 report_end gives shown serves Refuses (Sheet words) config as_json old new ending is end = absurd is
@@ -84,14 +88,17 @@ report_end gives shown serves Refuses (Top status once rows) config as_json old 
 report_end gives shown serves Refuses Usage config as_json old new ending is end = absurd is
 
 pub against_end : (gives : List ℕ → Octets) (shown : Shown) (serves : Service) (Refuses : List ℕ → Type 0) (words : Words) (config other : List ℕ) (as_json : Bool) (old new : Option (List ℕ)) (ending : FtpdExit)
-    → IsCheckConfig config as_json (Some other) words → IsCommandEnd gives shown serves Refuses words old new ending → IsAgainstEnd as_json gives config other Refuses old new ending
-against_end gives shown serves Refuses (CheckConfig path json (Some word)) config other as_json old new ending is end =
+    → IsCheckConfig config as_json (Some other) false words → IsCommandEnd gives shown serves Refuses words old new ending → IsAgainstEnd as_json gives config other Refuses old new ending
+against_end gives shown serves Refuses (CheckConfig path json (Some word) true) config other as_json old new ending is end =
+    let still = is.3 in
+    absurd (cc)
+against_end gives shown serves Refuses (CheckConfig path json (Some word) false) config other as_json old new ending is end =
     let with_other = is.2 in
     let same : word.now ≡ other = cc in
     let first = subst (λ (p : List ℕ). IsAgainstEnd json gives p word.now Refuses old new ending) is.0 end in
     let second = subst (λ (p : List ℕ). IsAgainstEnd json gives config p Refuses old new ending) same first in
     subst (λ (b : Bool). IsAgainstEnd b gives config other Refuses old new ending) is.1 second
-against_end gives shown serves Refuses (CheckConfig path json None) config other as_json old new ending is end =
+against_end gives shown serves Refuses (CheckConfig path json None running) config other as_json old new ending is end =
     let with_other = is.2 in
     absurd (cc)
 against_end gives shown serves Refuses (Sheet words) config other as_json old new ending is end = absurd is
@@ -102,11 +109,30 @@ against_end gives shown serves Refuses (Plan path stated json) config other as_j
 against_end gives shown serves Refuses (Top status once rows) config other as_json old new ending is end = absurd is
 against_end gives shown serves Refuses Usage config other as_json old new ending is end = absurd is
 
+pub running_end : (gives : List ℕ → Octets) (shown : Shown) (serves : Service) (Refuses : List ℕ → Type 0) (words : Words) (config : List ℕ) (as_json : Bool) (old new : Option (List ℕ)) (ending : FtpdExit)
+    → IsCheckConfig config as_json None true words → IsCommandEnd gives shown serves Refuses words old new ending → IsAgainstEnd as_json gives config RUNNING_FILE.now Refuses old new ending
+running_end gives shown serves Refuses (CheckConfig path json None true) config as_json old new ending is end =
+    let first = subst (λ (p : List ℕ). IsAgainstEnd json gives p RUNNING_FILE.now Refuses old new ending) is.0 end in
+    subst (λ (b : Bool). IsAgainstEnd b gives config RUNNING_FILE.now Refuses old new ending) is.1 first
+running_end gives shown serves Refuses (CheckConfig path json None false) config as_json old new ending is end =
+    let on = is.3 in
+    absurd (cc)
+running_end gives shown serves Refuses (CheckConfig path json (Some other) running) config as_json old new ending is end =
+    let alone = is.2 in
+    absurd (cc)
+running_end gives shown serves Refuses (Sheet words) config as_json old new ending is end = absurd is
+running_end gives shown serves Refuses (Migrate path) config as_json old new ending is end = absurd is
+running_end gives shown serves Refuses (Script path) config as_json old new ending is end = absurd is
+running_end gives shown serves Refuses (Serve path files patience) config as_json old new ending is end = absurd is
+running_end gives shown serves Refuses (Plan path stated json) config as_json old new ending is end = absurd is
+running_end gives shown serves Refuses (Top status once rows) config as_json old new ending is end = absurd is
+running_end gives shown serves Refuses Usage config as_json old new ending is end = absurd is
+
 pub migrate_end : (gives : List ℕ → Octets) (shown : Shown) (serves : Service) (Refuses : List ℕ → Type 0) (words : Words) (config : List ℕ) (old new : Option (List ℕ)) (ending : FtpdExit)
     → IsMigrate config words → IsCommandEnd gives shown serves Refuses words old new ending → IsPrintEnd Latest shown (gives config) Refuses old new ending
 migrate_end gives shown serves Refuses (Migrate path) config old new ending is end = subst (λ (p : List ℕ). IsPrintEnd Latest shown (gives p) Refuses old new ending) is end
 migrate_end gives shown serves Refuses (Sheet words) config old new ending is end = absurd is
-migrate_end gives shown serves Refuses (CheckConfig path json against) config old new ending is end = absurd is
+migrate_end gives shown serves Refuses (CheckConfig path json against running) config old new ending is end = absurd is
 migrate_end gives shown serves Refuses (Script path) config old new ending is end = absurd is
 migrate_end gives shown serves Refuses (Serve path files patience) config old new ending is end = absurd is
 migrate_end gives shown serves Refuses (Plan path stated json) config old new ending is end = absurd is
@@ -117,7 +143,7 @@ pub script_end : (gives : List ℕ → Octets) (shown : Shown) (serves : Service
     → IsScript config words → IsCommandEnd gives shown serves Refuses words old new ending → IsScriptEnd gives config old new ending
 script_end gives shown serves Refuses (Script path) config old new ending is end = subst (λ (p : List ℕ). IsScriptEnd gives p old new ending) is end
 script_end gives shown serves Refuses (Sheet words) config old new ending is end = absurd is
-script_end gives shown serves Refuses (CheckConfig path json against) config old new ending is end = absurd is
+script_end gives shown serves Refuses (CheckConfig path json against running) config old new ending is end = absurd is
 script_end gives shown serves Refuses (Migrate path) config old new ending is end = absurd is
 script_end gives shown serves Refuses (Serve path files patience) config old new ending is end = absurd is
 script_end gives shown serves Refuses (Plan path stated json) config old new ending is end = absurd is
@@ -134,7 +160,7 @@ serve_end gives shown serves Refuses (Serve word files patience) config path rea
     let third = subst (λ (f : Option (List ℕ)). IsServeEnd (gives config) shown config serves path f patience old new ending) is.2 second in
     subst (λ (q : Patience). IsServeEnd (gives config) shown config serves path ready q old new ending) is.3 third
 serve_end gives shown serves Refuses (Sheet words) config path ready p old new ending is end = absurd is
-serve_end gives shown serves Refuses (CheckConfig word json against) config path ready p old new ending is end = absurd is
+serve_end gives shown serves Refuses (CheckConfig word json against running) config path ready p old new ending is end = absurd is
 serve_end gives shown serves Refuses (Migrate word) config path ready p old new ending is end = absurd is
 serve_end gives shown serves Refuses (Script word) config path ready p old new ending is end = absurd is
 serve_end gives shown serves Refuses (Plan word stated json) config path ready p old new ending is end = absurd is
@@ -147,7 +173,7 @@ plan_end gives shown serves Refuses (Plan path stated json) config transfers as_
     let first = subst (λ (p : List ℕ). IsPrintEnd (plan_print json stated) shown (gives p) Refuses old new ending) is.0 end in
     (stated, is.1, subst (λ (b : Bool). IsPrintEnd (plan_print b stated) shown (gives config) Refuses old new ending) is.2 first)
 plan_end gives shown serves Refuses (Sheet words) config transfers as_json old new ending is end = absurd is
-plan_end gives shown serves Refuses (CheckConfig path json against) config transfers as_json old new ending is end = absurd is
+plan_end gives shown serves Refuses (CheckConfig path json against running) config transfers as_json old new ending is end = absurd is
 plan_end gives shown serves Refuses (Migrate path) config transfers as_json old new ending is end = absurd is
 plan_end gives shown serves Refuses (Script path) config transfers as_json old new ending is end = absurd is
 plan_end gives shown serves Refuses (Serve path files patience) config transfers as_json old new ending is end = absurd is
@@ -161,7 +187,7 @@ top_end gives shown serves Refuses (Top status once rows) path only_once lines o
     let second = subst (λ (b : Bool). IsTopEnd b path rows (IsPrintEnd (Table rows) shown (gives path) Refuses old new) ending) is.1 first in
     subst (λ (n : ℕ). IsTopEnd only_once path n (IsPrintEnd (Table n) shown (gives path) Refuses old new) ending) is.2 second
 top_end gives shown serves Refuses (Sheet words) path only_once lines old new ending is end = absurd is
-top_end gives shown serves Refuses (CheckConfig word json against) path only_once lines old new ending is end = absurd is
+top_end gives shown serves Refuses (CheckConfig word json against running) path only_once lines old new ending is end = absurd is
 top_end gives shown serves Refuses (Migrate word) path only_once lines old new ending is end = absurd is
 top_end gives shown serves Refuses (Script word) path only_once lines old new ending is end = absurd is
 top_end gives shown serves Refuses (Serve word files patience) path only_once lines old new ending is end = absurd is

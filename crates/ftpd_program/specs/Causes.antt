@@ -2,16 +2,18 @@
 -- another. `refused` and `fails` are tests of a path: that its file may be refused, and that
 -- reading it may fail.
 use Rattle.std.specs.Borrow.{Bor}
-use Rattle.std.specs.Prelude.{◌≡◌, ◌≢◌, ◌≤◌, ◌+◌, ◌⊎◌, ℕ, List, Option, Some, None, IfSome, length}
+use Rattle.std.specs.Prelude.{◌≡◌, ◌≢◌, ◌≤◌, ◌+◌, ◌⊎◌, ℕ, Bool, true, false, List, Option, Some, None, IfSome, length}
 use Rattle.command_line.specs.declared.words.Words.{Words}
 use Rattle.command_line.specs.declared.words.Words.TheVariants.{Sheet, CheckConfig, Migrate, Script, Serve, Plan, Top, Usage}
 use Rattle.script_session.specs.Served.{IsSessionBreak, most_reads}
 use Rattle.sheets_program.specs.Causes.{AreOpened, IsSheetWhy}
+use Rattle.sheets_program.specs.Endings.{IsNoLine}
 use Rattle.sheets_program.specs.Runs.{IsInput, IsNamedTwice, Octets, file_of}
 use Rattle.sheets_program.specs.declared.ending.Exit.TheVariants.{Text}
 use Rattle.sheets_program.specs.declared.files.TheConstants.{STANDARD_INPUT}
 use Rattle.text_io.specs.declared.fault.TextFault.TheVariants.{ReadFault, TooLong, WriteFault}
 use Rattle.ftpd_program.specs.Endings.{IsCommon}
+use Rattle.ftpd_program.specs.declared.against.TheConstants.{RUNNING_FILE}
 use Rattle.ftpd_program.specs.declared.ending.FtpdExit.{FtpdExit}
 use Rattle.ftpd_program.specs.declared.ending.FtpdExit.TheVariants.{Common, Config, Session, Status}
 
@@ -82,18 +84,36 @@ AreAgainstOpened {O} opens old new config other ending =
     ⊎ ((opens old config new × IsWithoutText ending)
     ⊎ ((between : O) × opens old config between × opens between other new))
 
--- the same two of `check-config`, with another configuration if one is stated
-abbrev pub IsConfigWhy : (List ℕ → Type 0) → (List ℕ → Type 0) → Bor (List ℕ)
+-- the same two of `check-config` with the running file; a line that states another configuration
+-- too is refused, and no file is opened
+abbrev pub IsRunningWhy : (List ℕ → Type 0) → (List ℕ → Type 0) → List ℕ → Option (Bor (List ℕ))
+    → FtpdExit → Type 0
+IsRunningWhy refused fails config None ending =
+    IsAgainstWhy refused fails config RUNNING_FILE.now ending
+IsRunningWhy refused fails config (Some other) ending = IsCommon IsNoLine ending
+
+abbrev pub AreRunningOpened : {O : Type 0} → (O → List ℕ → O → Type 0) → O → O → List ℕ
     → Option (Bor (List ℕ)) → FtpdExit → Type 0
-IsConfigWhy refused fails config None ending =
+AreRunningOpened opens old new config None ending =
+    AreAgainstOpened opens old new config RUNNING_FILE.now ending
+AreRunningOpened opens old new config (Some other) ending = new ≡ old
+
+-- the same two of `check-config`, with another configuration if one is stated, or the running file
+abbrev pub IsConfigWhy : (List ℕ → Type 0) → (List ℕ → Type 0) → Bor (List ℕ)
+    → Option (Bor (List ℕ)) → Bool → FtpdExit → Type 0
+IsConfigWhy refused fails config against true ending =
+    IsRunningWhy refused fails config.now against ending
+IsConfigWhy refused fails config None false ending =
     IsReadWhy config.now (refused config.now ⊎ fails config.now) ending
-IsConfigWhy refused fails config (Some other) ending =
+IsConfigWhy refused fails config (Some other) false ending =
     IsAgainstWhy refused fails config.now other.now ending
 
 abbrev pub AreConfigOpened : {O : Type 0} → (O → List ℕ → O → Type 0) → O → O → Bor (List ℕ)
-    → Option (Bor (List ℕ)) → FtpdExit → Type 0
-AreConfigOpened opens old new config None ending = opens old config.now new
-AreConfigOpened opens old new config (Some other) ending =
+    → Option (Bor (List ℕ)) → Bool → FtpdExit → Type 0
+AreConfigOpened opens old new config against true ending =
+    AreRunningOpened opens old new config.now against ending
+AreConfigOpened opens old new config None false ending = opens old config.now new
+AreConfigOpened opens old new config (Some other) false ending =
     AreAgainstOpened opens old new config.now other.now ending
 
 -- the cause of the fault with which that command ends, if it ends with one
@@ -101,8 +121,8 @@ abbrev pub IsCommandWhy : (List ℕ → Octets) → (List ℕ → Type 0) → (L
     → (List ℕ → Type 0) → Type 0 → Words → FtpdExit → Type 0
 IsCommandWhy gives refused fails refuses breaks (Sheet words) ending =
     IsCommon (IsSheetWhy gives refused fails refuses words) ending
-IsCommandWhy gives refused fails refuses breaks (CheckConfig config json against) ending =
-    IsConfigWhy refused fails config against ending
+IsCommandWhy gives refused fails refuses breaks (CheckConfig config json against running) ending =
+    IsConfigWhy refused fails config against running ending
 IsCommandWhy gives refused fails refuses breaks (Migrate config) ending =
     IsReadWhy config.now (refused config.now ⊎ fails config.now) ending
 IsCommandWhy gives refused fails refuses breaks (Script config) ending =
@@ -120,8 +140,8 @@ abbrev pub AreCommandOpened : {O : Type 0} → (O → List ℕ → O → Type 0)
     → Words → FtpdExit → Type 0
 AreCommandOpened opens old new refused (Sheet words) ending =
     IsCommon (AreOpened opens old new refused words) ending
-AreCommandOpened opens old new refused (CheckConfig config json against) ending =
-    AreConfigOpened opens old new config against ending
+AreCommandOpened opens old new refused (CheckConfig config json against running) ending =
+    AreConfigOpened opens old new config against running ending
 AreCommandOpened opens old new refused (Migrate config) ending = opens old config.now new
 AreCommandOpened opens old new refused (Script config) ending =
     AreScriptOpened opens old new refused config.now ending

@@ -6,6 +6,7 @@ use Rattle.std.specs.Prelude.{◌≡◌, ℕ, Bool, List, Option, Some, None, fa
 use Rattle.command_line.specs.declared.words.Words.{Words}
 use Rattle.command_line.specs.declared.words.Words.TheVariants.{Sheet, CheckConfig, Migrate, Script, Serve, Plan, Top, Usage}
 use Rattle.config_report.specs.Looks.{Shown}
+use Rattle.sheets_program.specs.Endings.{IsNoLine}
 use Rattle.sheets_program.specs.Runs.{IsInput, IsSheetEnd, Octets}
 use Rattle.sheets_program.specs.declared.ending.Exit.TheVariants.{Done, Refused, Text}
 use Rattle.sheets_program.specs.declared.files.TheConstants.{STANDARD_INPUT}
@@ -15,6 +16,7 @@ use Rattle.ftpd_program.specs.Faults.{IsPrintingFaultOf, IsReadingFaultOf}
 use Rattle.ftpd_program.specs.Printing.{AppendsPrint, IsOfPlan, IsPrintOf, IsUnprintedAt, IsUntabledAt}
 use Rattle.ftpd_program.specs.Scripting.{IsRefusalOf, IsScripted, IsUnscripted}
 use Rattle.ftpd_program.specs.Serving.{IsServeEnd, Service}
+use Rattle.ftpd_program.specs.declared.against.TheConstants.{RUNNING_FILE}
 use Rattle.ftpd_program.specs.declared.ending.FtpdExit.{FtpdExit}
 use Rattle.ftpd_program.specs.declared.ending.FtpdExit.TheVariants.{Common, Config, Transfers, Session, Status, Watches, AddsUp}
 use Rattle.ftpd_program.specs.declared.printing.Print.{Print}
@@ -91,13 +93,24 @@ IsScriptEnd gives config old new (Session fault) =
     × IsUnscripted text before after old new (Unserved fault))
 IsScriptEnd gives config old new _ = ⊥
 
+-- the ending of `check-config` for the path of a configuration and the running file; the line is
+-- refused if another configuration is stated too
+abbrev pub IsRunningEnd : Bool → (List ℕ → Octets) → List ℕ → Option (Bor (List ℕ))
+    → (List ℕ → Type 0) → Option (List ℕ) → Option (List ℕ) → FtpdExit → Type 0
+IsRunningEnd json gives config None Refuses old new ending =
+    IsAgainstEnd json gives config RUNNING_FILE.now Refuses old new ending
+IsRunningEnd json gives config (Some other) Refuses old new ending =
+    IsCommon IsNoLine ending × (new ≡ old)
+
 -- the ending of `check-config` for the path of a configuration, and that of another one if it is
--- stated
+-- stated, or the running file
 abbrev pub IsConfigEnd : (List ℕ → Octets) → Shown → (List ℕ → Type 0) → Bor (List ℕ) → Bool
-    → Option (Bor (List ℕ)) → Option (List ℕ) → Option (List ℕ) → FtpdExit → Type 0
-IsConfigEnd gives shown Refuses config json None old new ending =
+    → Option (Bor (List ℕ)) → Bool → Option (List ℕ) → Option (List ℕ) → FtpdExit → Type 0
+IsConfigEnd gives shown Refuses config json against true old new ending =
+    IsRunningEnd json gives config.now against Refuses old new ending
+IsConfigEnd gives shown Refuses config json None false old new ending =
     IsPrintEnd (report_print json config) shown (gives config.now) Refuses old new ending
-IsConfigEnd gives shown Refuses config json (Some other) old new ending =
+IsConfigEnd gives shown Refuses config json (Some other) false old new ending =
     IsAgainstEnd json gives config.now other.now Refuses old new ending
 
 -- the ending of that command, given the possible results of looks at the machine, and the possible
@@ -106,8 +119,8 @@ abbrev pub IsCommandEnd : (List ℕ → Octets) → Shown → Service → (List 
     → Option (List ℕ) → Option (List ℕ) → FtpdExit → Type 0
 IsCommandEnd gives shown serves Refuses (Sheet words) old new ending =
     IsCommon (IsSheetEnd gives words old new) ending
-IsCommandEnd gives shown serves Refuses (CheckConfig config json against) old new ending =
-    IsConfigEnd gives shown Refuses config json against old new ending
+IsCommandEnd gives shown serves Refuses (CheckConfig config json against running) old new ending =
+    IsConfigEnd gives shown Refuses config json against running old new ending
 IsCommandEnd gives shown serves Refuses (Migrate config) old new ending =
     IsPrintEnd Latest shown (gives config.now) Refuses old new ending
 IsCommandEnd gives shown serves Refuses (Script config) old new ending =

@@ -15,6 +15,9 @@ use sheets_program::{Exit as Common, Opener, is_input, text_cause};
 use std::alloc::Global;
 use text_io::{TextFault, TextWriter, read_whole, write_whole};
 
+/// Path at which a server of the package keeps the text of the configuration that it has.
+pub const RUNNING_FILE: &str = "/run/ftpd/running.toml";
+
 const READ_TWICE: &str = "error: standard input cannot be both configurations\n";
 
 /// Reads the text of a file whole; the file is then closed. `Err` is the ending of the command without it.

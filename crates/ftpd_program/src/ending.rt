@@ -3,6 +3,7 @@
 ghost use Rattle.std.specs.Prelude.{◌≡◌};
 ghost use Rattle.ftpd_program.specs.Endings.{status_of};
 
+use crate::against::RUNNING_FILE;
 use crate::server::ServeFault;
 use crate::start::StartFault;
 use script_session::SessionFault;
@@ -10,8 +11,11 @@ use server_config::ConfigFault;
 use server_status::StatusFault;
 use sheets_program::{ErrorText, Exit as Common};
 use std::{fmt, io};
+use text_io::TextFault;
 
 const NAME: &str = "ftpd";
+
+const NO_RUNNING: &str = "a server with `--running-file` writes this file";
 
 const FOLDER_FOR_SCRIPT: &str = "[server]: root: `script` serves no folder, but `memory` alone";
 
@@ -75,6 +79,14 @@ impl<'w> FtpdExit<'w> {
     }
 }
 
+/// Returns whether a command ends for want of the file of a server's configuration.
+fn lacks_running(ending: &Common<'_>) -> bool {
+    match ending {
+        Common::Text(TextFault::ReadFault, cause) => cause.file == Some(RUNNING_FILE),
+        _ => false,
+    }
+}
+
 /// An ending as printed on standard error: the name of the fault in the last line, and details above it.
 #[derive(Clone, Copy)]
 pub struct FtpdErrorText<'e, 'w> {
@@ -89,6 +101,9 @@ impl fmt::Display for FtpdErrorText<'_, '_> {
     fn fmt<W: fmt::Write>(&self, f: &mut fmt::Formatter<W>) -> fmt::Result {
         match self.ending {
             FtpdExit::Common(ending) => {
+                if lacks_running(ending) {
+                    writeln!(f, "{RUNNING_FILE}: {NO_RUNNING}")?;
+                }
                 let reported = ErrorText {
                     name: NAME,
                     ending,

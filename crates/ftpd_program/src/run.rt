@@ -3,7 +3,7 @@
 ghost use Rattle.std.specs.Prelude.{◌≡◌, ◌⊎◌, ◌∷◌, [], ℕ, List, None, Some, codes, false, map, true};
 ghost use Rattle.clap.specs.Words.{subcommand_of};
 ghost use Rattle.command_line.specs.Commands.{ftpd};
-ghost use Rattle.command_line.specs.Given.{IsFound, IsPlainWord, IsRefusedFor, IsTaken, against_json_words, against_words, ready_words, top_words};
+ghost use Rattle.command_line.specs.Given.{IsFound, IsPlainWord, IsRefusedFor, IsTaken, against_json_words, against_words, ready_words, running_words, top_words};
 ghost use Rattle.command_line.specs.Numbers.{AreLines};
 ghost use Rattle.command_line.specs.declared.numbers.TheConstants.{ROWS};
 ghost use Rattle.command_line.specs.Timed.{IsSeconds, timed_words, usual_patience};
@@ -14,12 +14,13 @@ ghost use Rattle.script_session.specs.Breaks.{MayBreakWriting};
 ghost use Rattle.sheets_program.specs.Endings.{IsOutOfMemory, IsReportedEnd};
 ghost use Rattle.sheets_program.specs.Runs.{IsCheckEnd, IsShareEnd};
 ghost use Rattle.ftpd_program.specs.Against.{IsAgainstEnd};
-ghost use Rattle.ftpd_program.specs.Causes.{AreCommandOpened, AreConfigOpened, AreScriptOpened, IsCommandWhy, IsConfigWhy, IsReadWhy, IsScriptWhy};
+ghost use Rattle.ftpd_program.specs.Causes.{AreCommandOpened, AreConfigOpened, AreRunningOpened, AreScriptOpened, IsCommandWhy, IsConfigWhy, IsReadWhy, IsRunningWhy, IsScriptWhy};
 ghost use Rattle.ftpd_program.specs.Endings.{IsCommon, IsUnwritten};
-ghost use Rattle.ftpd_program.specs.Runs.{IsCommandEnd, IsConfigEnd, IsPlanEnd, IsPrintEnd, IsReportEnd, IsScriptEnd, IsTopEnd, after_table, plan_print, report_print};
+ghost use Rattle.ftpd_program.specs.Runs.{IsCommandEnd, IsConfigEnd, IsPlanEnd, IsPrintEnd, IsReportEnd, IsRunningEnd, IsScriptEnd, IsTopEnd, after_table, plan_print, report_print};
 ghost use Rattle.ftpd_program.specs.Serving.{IsServeEnd};
+ghost use Rattle.ftpd_program.specs.declared.against.TheConstants.{RUNNING_FILE};
 
-use super::against::check_against;
+use super::against::{RUNNING_FILE, check_against};
 use super::ending::FtpdExit;
 use super::printing::{Print, PrintFault, run_print};
 use super::scripting::{ScriptFault, run_script};
@@ -32,6 +33,9 @@ use sheets_program::{
 };
 use std::alloc::Global;
 use text_io::{TextFault, TextWriter};
+
+const AGAINST_TWICE: &str =
+    "error: --against and --against-running cannot both state the other configuration\n";
 
 const NO_TEXT_LEFT: &str =
     "error: standard input cannot be both the configuration and the control text\n";
@@ -175,8 +179,8 @@ fn script<'w, O: Opener, W: TextWriter>(
     }
 }
 
-/// Runs `check-config`, with another configuration if one is stated.
-fn check_config<'w, O: Opener + Lookout, W: TextWriter>(
+/// Runs `check-config` with the configuration that a server of the package has, unless another one is stated too.
+fn check_running<'w, O: Opener + Lookout, W: TextWriter>(
     alloc: Global,
     json: bool,
     config: &'w str,
@@ -184,13 +188,40 @@ fn check_config<'w, O: Opener + Lookout, W: TextWriter>(
     files: &mut O,
     output: &mut W,
 ) -> FtpdExit<'w>
-    ensures end { IsConfigEnd (O.Gives files.old) (O.Shows files.new) (W.may_refuse output.old)
-        config.entry json against.entry (W.contents output.old) (W.contents output.new) result }
-    ensures why { IsConfigWhy (O.MayRefuse files.old) (O.MayFail files.old) config.entry
+    ensures end { IsRunningEnd json (O.Gives files.old) config.now against.entry
+        (W.may_refuse output.old) (W.contents output.old) (W.contents output.new) result }
+    ensures why { IsRunningWhy (O.MayRefuse files.old) (O.MayFail files.old) config.now
         against.entry result }
-    ensures opened { AreConfigOpened O.Opens files.old files.new config.entry against.entry result }
+    ensures opened { AreRunningOpened O.Opens files.old files.new config.now against.entry result }
     ensures unwritten { IsUnwritten result → output.new ≡ output.old }
 {
+    match against {
+        None => check_against(alloc, json, config, RUNNING_FILE, files, output),
+        Some(_) => FtpdExit::Common(Common::refused(alloc, AGAINST_TWICE)),
+    }
+}
+
+/// Runs `check-config`, with another configuration if one is stated, or with that which a server has.
+fn check_config<'w, O: Opener + Lookout, W: TextWriter>(
+    alloc: Global,
+    json: bool,
+    config: &'w str,
+    against: Option<&'w str>,
+    running: bool,
+    files: &mut O,
+    output: &mut W,
+) -> FtpdExit<'w>
+    ensures end { IsConfigEnd (O.Gives files.old) (O.Shows files.new) (W.may_refuse output.old)
+        config.entry json against.entry running (W.contents output.old) (W.contents output.new) result }
+    ensures why { IsConfigWhy (O.MayRefuse files.old) (O.MayFail files.old) config.entry
+        against.entry running result }
+    ensures opened { AreConfigOpened O.Opens files.old files.new config.entry against.entry running
+        result }
+    ensures unwritten { IsUnwritten result → output.new ≡ output.old }
+{
+    if running {
+        return check_running(alloc, json, config, against, files, output);
+    }
     match against {
         None => print_text(alloc, report_print(config, json), config, files, output),
         Some(other) => check_against(alloc, json, config, other, files, output),
@@ -219,7 +250,8 @@ fn run_command<'w, O: Opener + Lookout, W: TextWriter, V: Server<W>>(
             config,
             json,
             against,
-        } => check_config(alloc, json, config, against, files, output),
+            running,
+        } => check_config(alloc, json, config, against, running, files, output),
         Words::Migrate { config } => print_text(alloc, Print::Latest, config, files, output),
         Words::Script { config } => script(alloc, config, files, output),
         Words::Plan {
@@ -275,6 +307,10 @@ pub fn run_words<'w, O: Opener + Lookout, W: TextWriter, V: Server<W>>(
     ensures check_against_json { (config other : List ℕ) → IsPlainWord config → IsPlainWord other
         → map (λ s. s.now) words.now ≡ against_json_words config other
         → IsAgainstEnd true (O.Gives files.old) config other (W.may_refuse output.old)
+        (W.contents output.old) (W.contents output.new) result }
+    ensures check_running { (config : List ℕ) → IsPlainWord config
+        → map (λ s. s.now) words.now ≡ running_words config
+        → IsAgainstEnd false (O.Gives files.old) config RUNNING_FILE.now (W.may_refuse output.old)
         (W.contents output.old) (W.contents output.new) result }
     ensures migrate { (config : List ℕ) → IsPlainWord config
         → map (λ s. s.now) words.now ≡ codes "migrate" ∷ config ∷ []

@@ -11,18 +11,18 @@ abbrev pub up_to : ℕ → List ℕ → ℕ → ℕ
 up_to level h i = min (slice_index h i) level
 
 -- a grant above the level is no more than the leaf's floor
-abbrev IsLowAt : LimitTree → List ℕ → ℕ → ℕ → Type 0
+abbrev pub IsLowAt : LimitTree → List ℕ → ℕ → ℕ → Type 0
 IsLowAt t g level i = (slice_index g i ≤ level) ⊎ (slice_index g i ≡ slice_index t.floors i)
 
 -- a full branch of the tree in which no grant is above the level, but for floors
-record IsLow (t : LimitTree) (g : List ℕ) (level : ℕ) (b : Branch) : Type 0 where
+pub record IsLow (t : LimitTree) (g : List ℕ) (level : ℕ) (b : Branch) : Type 0 where
   pub number : ℕ
   pub member : IsBranch t number b
   pub full : IsFull b g
   pub low : (i : ℕ) → IsTrue (b.holds i) → IsLowAt t g level i
 
 -- the leaves that some branch of a list holds
-abbrev union : List Branch → LeafSet
+abbrev pub union : List Branch → LeafSet
 union bs i = list_any (λ b. b.holds i) bs
 
 -- other grants gain no more up to the level than they gain in all
@@ -53,7 +53,7 @@ keep_apart true a d l same = refl
 keep_apart false true d l same = refl
 keep_apart false false d l same = same
 
-drop_inside : (b l : Bool) → (IsTrue b → IsTrue l) → (b || l) ≡ l
+pub drop_inside : (b l : Bool) → (IsTrue b → IsTrue l) → (b || l) ≡ l
 drop_inside true l inside = sym (inside refl)
 drop_inside false l inside = refl
 
@@ -89,7 +89,7 @@ others P b nested (a ∷ bs) each = go (nested a each.0) (others P b nested bs e
     })
 
 -- over the leaves of any such branches no other grants have more up to the level
-union_le : (t : LimitTree) (g h : List ℕ) (level : ℕ) → HasNestedBranches t → length h ≡ length g → IsWithin t h → (k : ℕ) (bs : List Branch) → length bs ≤ k → AllByRecursion (IsLow t g level) bs → sum_in (length g) (union bs) (up_to level h) ≤ sum_in (length g) (union bs) (up_to level g)
+pub union_le : (t : LimitTree) (g h : List ℕ) (level : ℕ) → HasNestedBranches t → length h ≡ length g → IsWithin t h → (k : ℕ) (bs : List Branch) → length bs ≤ k → AllByRecursion (IsLow t g level) bs → sum_in (length g) (union bs) (up_to level h) ≤ sum_in (length g) (union bs) (up_to level g)
 union_le t g h level tree same within k [] fits each =
     omega (arith, sum_in-none (length g) (union []) (up_to level h) (λ i l. refl))
 union_le t g h level tree same within zero (b ∷ bs) fits each = absurd (omega arith)

@@ -6,3 +6,13 @@ pub mod Places
 pub mod Seen
 pub mod Entries
 pub mod Marks
+pub mod UserSums
+pub mod UserTotals
+pub mod UserInside
+pub mod OneLeaf
+pub mod TwoStage
+pub mod Deepest
+pub mod UserRanges
+pub mod Necks
+pub mod FitsTree
+pub mod UserChecks

@@ -3,3 +3,7 @@ pub mod Flaws
 pub mod Ranges
 pub mod Looks
 pub mod Sealing
+pub mod Users
+pub mod UserLaws
+pub mod TwoStages
+pub mod UserRanges

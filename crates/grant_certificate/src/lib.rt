@@ -23,6 +23,7 @@
 
 mod backing;
 mod branches;
+mod by_users;
 mod certificate;
 mod checker;
 mod flaw;
@@ -32,12 +33,14 @@ mod over;
 mod range;
 mod sealed;
 
+pub use by_users::check_by_users;
 pub use certificate::Certificate;
 pub use checker::check;
 pub use flaw::{Flaw, Verdict};
 pub use laws::{
-    backed_is_best, backed_is_largest_at_each_level, each_has_ascending, plain_backed_is_best,
-    plain_backed_is_largest_at_each_level,
+    backed_by_users_is_best, backed_is_best, backed_is_largest_at_each_level, deepest_is_backed,
+    each_has_ascending, one_leaf_each_is_best, plain_backed_is_best,
+    plain_backed_is_largest_at_each_level, two_stages_are_backed, users_have_largest_at_each_level,
 };
 pub use leaves::Leaves;
 pub use sealed::{Refused, Sealed, seal};

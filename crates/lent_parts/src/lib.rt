@@ -3,7 +3,7 @@
 //! A thread may do anything with what it is lent that its type allows, so what must be known of it afterwards is in its
 //! type. A [`PartsName`] names the parts of one server there: a [`LentWorker`] is a lane's seat of its desk, with the
 //! tally of everything that it took, [`LentRounds`] are the rounds of that desk with its book, and a [`LentPass`]
-//! belongs to its board, whatever threads did with them and in whatever order. So once [`settle_lent`] has gathered
+//! belongs to its boards, whatever threads did with them and in whatever order. So once [`settle_lent`] has gathered
 //! everything, or [`LentSeats`] have settled themselves, the octets issued are those moved and those given back.
 #![tactic(auto)]
 

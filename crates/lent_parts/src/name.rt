@@ -9,7 +9,7 @@ use std::marker::Brand;
 
 /// Names the parts of one server in the types of what its threads are lent: the table of its desk with the number of
 /// its lanes; a test that the rates of its rounds pass, the octets issued before the first of them, and a test that their
-/// moments pass; and the table of its board.
+/// moments pass; and the tables of its boards, that of jobs that go first and that of all others.
 pub trait PartsName {
     ghost desk: { TableId };
 
@@ -20,6 +20,8 @@ pub trait PartsName {
     ghost carried: { ℕ };
 
     ghost when: { ℕ → Bool };
+
+    ghost first: { TableId };
 
     ghost board: { TableId };
 }
@@ -35,6 +37,8 @@ impl PartsName for Brand {
     ghost carried = { 0 };
 
     ghost when = { λ _. true };
+
+    ghost first = { no_table };
 
     ghost board = { no_table };
 }

@@ -6,6 +6,7 @@ ghost use Rattle.plan_report.specs.PlanData.{group_text, held_text, user_text, w
 use crate::parts::{Part, parts_of, total_of};
 use config_file::{GroupTable, ServerTable, UserTable};
 use line_rates::{Name, Way};
+use rate_columns::{write_megabits, write_megabits_column, write_rate_column};
 use rate_plan::TransferShare;
 use std::alloc::{AllocError, Global};
 
@@ -67,14 +68,6 @@ pub(crate) fn write_held(
     }
 }
 
-fn write_floor(text: &mut String, floor: u64) -> Result<(), AllocError> {
-    if floor == 0 {
-        write!(text, "{:>14}  ", "-")
-    } else {
-        write!(text, "{floor:>14}  ")
-    }
-}
-
 fn write_part(text: &mut String, named: Named<'_, '_>, part: Part) -> Result<(), AllocError> {
     let (count, grant) = (part.count, part.grant);
     write!(
@@ -83,17 +76,27 @@ fn write_part(text: &mut String, named: Named<'_, '_>, part: Part) -> Result<(),
         user_name(named, part.user),
         way_text(part.way)
     )?;
-    write_floor(text, part.floor)?;
+    write_rate_column(text, part.floor)?;
+    write_megabits_column(text, grant)?;
+    write_megabits_column(text, part.floor)?;
+    text.push_str("  ")?;
     write_held(text, named, part.held)?;
     text.push('\n')
 }
 
+/// Writes a total within the rate that bounds it; 0 is no rate.
 fn write_total(text: &mut String, way: &str, total: u64, rate: u64) -> Result<(), AllocError> {
     write!(text, "{:<16} {way:<5} {:>19}", "total", total)?;
     if rate != 0 {
         write!(text, " of {rate}")?;
     }
-    text.push('\n')
+    text.push_str(", ")?;
+    write_megabits(text, total)?;
+    if rate != 0 {
+        text.push_str(" of ")?;
+        write_megabits(text, rate)?;
+    }
+    text.push_str(" Mbit/s\n")
 }
 
 /// Writes the total of one way, if there are transfers of it.
@@ -129,8 +132,8 @@ pub(crate) fn lines_of(
     let mut text = String::new(alloc);
     writeln!(
         &mut text,
-        "{:<16} {:<5} {:>19}{:>14}  held by",
-        "octets a second", "", "each", "guaranteed"
+        "{:<16} {:<5} {:>19}{:>14}{:>12}{:>12}  held by",
+        "octets a second", "", "each", "guaranteed", "Mbit/s each", "guaranteed"
     )?;
     for part in &parts {
         write_part(&mut text, named, *part)?;

@@ -18,6 +18,7 @@ fn words_on_a_configuration(rt: HostRuntime) {
                 config,
                 json: false,
                 against: None,
+                running: false,
             },
     );
     let words = ["check-config", config, "--json"];
@@ -29,6 +30,7 @@ fn words_on_a_configuration(rt: HostRuntime) {
                 config,
                 json: true,
                 against: None,
+                running: false,
             },
     );
     let words = ["check-config", "--against", "old.toml", config];
@@ -40,6 +42,19 @@ fn words_on_a_configuration(rt: HostRuntime) {
                 config,
                 json: false,
                 against: Some("old.toml"),
+                running: false,
+            },
+    );
+    let words = ["check-config", config, "--against-running"];
+    let command = read_words(rt.alloc(), &words).expect(&rt, "a command");
+    holds(
+        &rt,
+        command
+            == Words::CheckConfig {
+                config,
+                json: false,
+                against: None,
+                running: true,
             },
     );
     let words = ["migrate", config];
@@ -56,6 +71,7 @@ const NO_FILES: ServeFiles<'static> = ServeFiles {
     ready_file: None,
     drain_file: None,
     reload_file: None,
+    running_file: None,
     transfer_log: None,
     log_form: None,
     status: None,
@@ -122,6 +138,12 @@ fn words_on_a_server(rt: HostRuntime) {
     };
     let words = ["serve", config, "--reload-file", "/run/ftpd.reload"];
     serves(&rt, &words, reloaded, usual);
+    let kept = ServeFiles {
+        running_file: Some("running.toml"),
+        ..NO_FILES
+    };
+    let words = ["serve", config, "--running-file", "running.toml"];
+    serves(&rt, &words, kept, usual);
     let logged = ServeFiles {
         transfer_log: Some("xferlog"),
         log_form: Some("journal"),

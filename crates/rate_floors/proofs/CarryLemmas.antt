@@ -174,18 +174,18 @@ groups_same users (group ∷ groups) reported =
     ∙ ap (λ (n : ℕ). option_or (broken_sums (record { row = group.row; down = promised_group users Down group.row.group; up = n })) (first_broken broken_sums groups)) here.up
     ∙ ap (option_or (broken_group users group.row)) (groups_same users groups (λ k d lt. reported (suc k) d (omega arith)))
 
-or_none : (a b : Option CarryFault) → option_or a b ≡ None → (a ≡ None) × (b ≡ None)
+pub or_none : (a b : Option CarryFault) → option_or a b ≡ None → (a ≡ None) × (b ≡ None)
 or_none None b e = (refl, e)
 or_none (Some x) b e = absurd (cc)
 
-none_or : (a b : Option CarryFault) → a ≡ None → b ≡ None → option_or a b ≡ None
+pub none_or : (a b : Option CarryFault) → a ≡ None → b ≡ None → option_or a b ≡ None
 none_or a b e f = ap (λ o. option_or o b) e ∙ f
 
-none_keeps : (b : Bool) (fault : CarryFault) → cond b None (Some fault) ≡ None → b ≡ true
+pub none_keeps : (b : Bool) (fault : CarryFault) → cond b None (Some fault) ≡ None → b ≡ true
 none_keeps true fault e = refl
 none_keeps false fault e = absurd (cc)
 
-keeps_none : (name : Name) (n rate : ℕ) → keeps n rate ≡ true → broken name n rate ≡ None
+pub keeps_none : (name : Name) (n rate : ℕ) → keeps n rate ≡ true → broken name n rate ≡ None
 keeps_none name n rate e = ap (λ b. cond b None (Some (Broken name n rate))) e
 
 first_none : {X : Type 0} (test : X → Option CarryFault) (xs : List X) → first_broken test xs ≡ None → All (λ x. test x ≡ None) xs
@@ -197,10 +197,10 @@ none_first : {X : Type 0} (test : X → Option CarryFault) (xs : List X) → All
 none_first test [] all = refl
 none_first test (x ∷ xs) all = none_or (test x) (first_broken test xs) (all 0 x (omega arith)) (none_first test xs (λ k d lt. all (suc k) d (omega arith)))
 
-both : (x y : Bool) → x ≡ true → y ≡ true → (x && y) ≡ true
+pub both : (x y : Bool) → x ≡ true → y ≡ true → (x && y) ≡ true
 both x y e f = ap (λ b. b && y) e ∙ f
 
-row_fits : (entry : UserSessions) → broken_row entry ≡ None → (session_fits entry.row && user_fits entry.row entry.sessions) ≡ true
+pub row_fits : (entry : UserSessions) → broken_row entry ≡ None → (session_fits entry.row && user_fits entry.row entry.sessions) ≡ true
 row_fits entry e =
     let last = or_none _ _ e in
     let third = or_none _ _ last.0 in
@@ -209,7 +209,7 @@ row_fits entry e =
     (both _ _ (none_keeps _ _ second.0) (none_keeps _ _ second.1))
     (both _ _ (none_keeps _ _ third.1) (none_keeps _ _ last.1))
 
-fits_row : (entry : UserSessions) → (session_fits entry.row && user_fits entry.row entry.sessions) ≡ true → broken_row entry ≡ None
+pub fits_row : (entry : UserSessions) → (session_fits entry.row && user_fits entry.row entry.sessions) ≡ true → broken_row entry ≡ None
 fits_row entry e =
     let parts = and_parts _ _ e in
     let session = and_parts _ _ parts.0 in
@@ -234,13 +234,13 @@ fits_user_now entry e = elim (nat_eq entry.sessions 0) as (λ b. (b || (session_
   | false ↦ λ fits. fits_row entry fits
 ] e
 
-line_fits_now : (down up server_rate down_rate up_rate : ℕ) → broken_line down up server_rate down_rate up_rate ≡ None → (keeps down down_rate && keeps up up_rate && keeps (down + up) server_rate) ≡ true
+pub line_fits_now : (down up server_rate down_rate up_rate : ℕ) → broken_line down up server_rate down_rate up_rate ≡ None → (keeps down down_rate && keeps up up_rate && keeps (down + up) server_rate) ≡ true
 line_fits_now down up server_rate down_rate up_rate e =
     let last = or_none _ _ e in
     let ways = or_none _ _ last.0 in
     both _ _ (both _ _ (none_keeps _ _ ways.0) (none_keeps _ _ ways.1)) (none_keeps _ _ last.1)
 
-fits_line_now : (down up server_rate down_rate up_rate : ℕ) → (keeps down down_rate && keeps up up_rate && keeps (down + up) server_rate) ≡ true → broken_line down up server_rate down_rate up_rate ≡ None
+pub fits_line_now : (down up server_rate down_rate up_rate : ℕ) → (keeps down down_rate && keeps up up_rate && keeps (down + up) server_rate) ≡ true → broken_line down up server_rate down_rate up_rate ≡ None
 fits_line_now down up server_rate down_rate up_rate e =
     let parts = and_parts _ _ e in
     let ways = and_parts _ _ parts.0 in

@@ -70,7 +70,7 @@ module _ (p : Promises) (down up : ℕ) (groups : List GroupPromise) (users : Li
   row_of g [] = refl
   row_of g (x ∷ gs) = elim (nat_eq (group_key x) g) as (λ b. cond b (Some x.row) (first_row group_number g (map group_row gs)) ≡ option_map group_row (cond b (Some x) (first_row group_key g gs))) [ true ↦ refl | false ↦ row_of g gs ]
 
-  get_row : (g : ℕ) → finite.get (by_number group_number (map group_row groups)) g ≡ option_map group_row (finite.get (by_number group_key groups) g)
+  pub get_row : (g : ℕ) → finite.get (by_number group_number (map group_row groups)) g ≡ option_map group_row (finite.get (by_number group_key groups) g)
   get_row g = get-by_number group_number g (map group_row groups) ∙ row_of g groups ∙ ap (option_map group_row) (sym (get-by_number group_key g groups))
 
   module _ (rates : p.rates.groups ≡ by_number group_number (map group_row groups)) where
@@ -87,6 +87,26 @@ module _ (p : Promises) (down up : ℕ) (groups : List GroupPromise) (users : Li
             ap (λ b. b && keeps (promised_group (counted p (user_key entry)).users Up g) (group_rate (finite.get p.rates.groups g) Up)) (any_keeps (promised_group (counted p (user_key entry)).users Down g) (finite.get p.rates.groups g) Down no)
             ∙ any_keeps (promised_group (counted p (user_key entry)).users Up g) (finite.get p.rates.groups g) Up no
 
+    -- the row and the sums of the user's group, which stands at a place
+    pub record InGroup (g : ℕ) (x : GroupPromise) : Type 0 where
+      pub key_is : x.row.group ≡ g
+      pub row_is : finite.get p.rates.groups g ≡ Some x.row
+      pub down_is : promised_group (counted p (user_key entry)).users Down g ≡ x.down + entry.row.session_down_floor
+      pub up_is : promised_group (counted p (user_key entry)).users Up g ≡ x.up + entry.row.session_up_floor
+
+    pub in_group : (g i : ℕ) (d : GroupPromise) → entry.row.group ≡ Some g → IsInGroup groups (Some g) i → InGroup g (get_or groups i d)
+    in_group g i d e h =
+        let x = get_or groups i d in
+        let reported_at = reported.groups_reported i d h.0 in
+        let sums : (w : Way) → promised_group (counted p (user_key entry)).users w g ≡ promised_group users w g + floor_in entry.row w =
+        λ w. ap (λ us. promised_group (map (with_sessions one_more (user_key entry)) us) w g) (sym same) ∙ group_after users entry reported.users_rise there w g e in
+        record {
+          key_is = h.2 d;
+          row_is = ap (λ m. finite.get m g) rates ∙ get_row g ∙ ap (option_map group_row) (h.1 d);
+          down_is = sums Down ∙ ap (λ (n : ℕ). n + entry.row.session_down_floor) (ap (promised_group users Down) (sym (h.2 d)) ∙ sym reported_at.down);
+          up_is = sums Up ∙ ap (λ (n : ℕ). n + entry.row.session_up_floor) (ap (promised_group users Up) (sym (h.2 d)) ∙ sym reported_at.up);
+        }
+
     pub group_some : (i : ℕ) (d : GroupPromise) → IsInGroup groups entry.row.group i
         → group_fits (counted p (user_key entry)) entry.row.group ≡ (keeps ((get_or groups i d).down + entry.row.session_down_floor) (get_or groups i d).row.down && keeps ((get_or groups i d).up + entry.row.session_up_floor) (get_or groups i d).row.up)
     group_some i d at = go entry.row.group refl at
@@ -96,15 +116,10 @@ module _ (p : Promises) (down up : ℕ) (groups : List GroupPromise) (users : Li
         go None e h = absurd h
         go (Some g) e h =
             let x = get_or groups i d in
-            let row : finite.get p.rates.groups g ≡ Some x.row = ap (λ m. finite.get m g) rates ∙ get_row g ∙ ap (option_map group_row) (h.1 d) in
-            let reported_at = reported.groups_reported i d h.0 in
-            let sums : (w : Way) → promised_group (counted p (user_key entry)).users w g ≡ promised_group users w g + floor_in entry.row w =
-            λ w. ap (λ us. promised_group (map (with_sessions one_more (user_key entry)) us) w g) (sym same) ∙ group_after users entry reported.users_rise there w g e in
-            let down_is : promised_group (counted p (user_key entry)).users Down g ≡ x.down + entry.row.session_down_floor = sums Down ∙ ap (λ (n : ℕ). n + entry.row.session_down_floor) (ap (promised_group users Down) (sym (h.2 d)) ∙ sym reported_at.down) in
-            let up_is : promised_group (counted p (user_key entry)).users Up g ≡ x.up + entry.row.session_up_floor = sums Up ∙ ap (λ (n : ℕ). n + entry.row.session_up_floor) (ap (promised_group users Up) (sym (h.2 d)) ∙ sym reported_at.up) in
-            ap (λ (n : ℕ). keeps n (group_rate (finite.get p.rates.groups g) Down) && keeps (promised_group (counted p (user_key entry)).users Up g) (group_rate (finite.get p.rates.groups g) Up)) down_is
-            ∙ ap (λ (n : ℕ). keeps (x.down + entry.row.session_down_floor) (group_rate (finite.get p.rates.groups g) Down) && keeps n (group_rate (finite.get p.rates.groups g) Up)) up_is
-            ∙ ap (λ o. keeps (x.down + entry.row.session_down_floor) (group_rate o Down) && keeps (x.up + entry.row.session_up_floor) (group_rate o Up)) row
+            let is = in_group g i d e h in
+            ap (λ (n : ℕ). keeps n (group_rate (finite.get p.rates.groups g) Down) && keeps (promised_group (counted p (user_key entry)).users Up g) (group_rate (finite.get p.rates.groups g) Up)) is.down_is
+            ∙ ap (λ (n : ℕ). keeps (x.down + entry.row.session_down_floor) (group_rate (finite.get p.rates.groups g) Down) && keeps n (group_rate (finite.get p.rates.groups g) Up)) is.up_is
+            ∙ ap (λ o. keeps (x.down + entry.row.session_down_floor) (group_rate o Down) && keeps (x.up + entry.row.session_up_floor) (group_rate o Up)) is.row_is
 
 -- nothing is promised yet
 pub none_promised : (w : Way) (rows : List UserRate) → promised (map no_session rows) w ≡ 0

@@ -5,4 +5,5 @@ mod FloorLemmas
 mod KeptLemmas
 pub mod PlaceLemmas
 mod PlainLemmas
+mod RefusalLemmas
 mod SumLemmas

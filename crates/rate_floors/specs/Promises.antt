@@ -153,6 +153,12 @@ has_session (Some entry) = nat_lt 0 entry.sessions
 abbrev pub has_counted : Promises → ℕ → Bool
 has_counted p user = has_session (user_of p user)
 
+-- each session of the user has a guarantee, down or up
+abbrev pub has_guarantee : Option UserSessions → Bool
+has_guarantee None = false
+has_guarantee (Some entry) =
+    nat_lt 0 entry.row.session_down_floor || nat_lt 0 entry.row.session_up_floor
+
 abbrev pub no_session : UserRate → UserSessions
 no_session row = record { row = row; sessions = 0 }
 

@@ -13,8 +13,8 @@ use line_rates::{GroupRate, Name, UserRate, Way};
 use std::alloc::{AllocError, Allocator};
 use thiserror::Error;
 
-/// The reason for which counted sessions cannot go over to other rates: the first of these that applies. `Memory` may
-/// be reported whenever memory is needed.
+/// The reason for which counted sessions cannot go over to other rates, or one more session is refused: the first of
+/// these that applies. `Memory` may be reported whenever memory is needed, which no refusal of a session does.
 #[derive(Clone, Copy, Debug, PartialEq, Eq, Error)]
 pub enum CarryFault {
     /// The guarantees of all counted sessions add up to more than `MAX_PROMISED`.
@@ -142,7 +142,8 @@ fn broken(name: Name, promised: u64, rate: u64) -> Option<CarryFault>
     })
 }
 
-fn broken_row(entry: UserSessions) -> Option<CarryFault>
+/// The first broken limit of a user's sessions, and of the user.
+pub(crate) fn broken_row(entry: UserSessions) -> Option<CarryFault>
     requires down { promised_user Down entry ≤ MAX_PROMISED }
     requires up { promised_user Up entry ≤ MAX_PROMISED }
     ensures broken { result ≡ broken_row entry }
@@ -183,7 +184,8 @@ fn broken_user(entry: UserSessions) -> Option<CarryFault>
     broken_row(entry)
 }
 
-fn broken_sums(entry: GroupPromise) -> Option<CarryFault>
+/// The first broken limit of a group.
+pub(crate) fn broken_sums(entry: GroupPromise) -> Option<CarryFault>
     ensures broken { result ≡ broken_sums entry }
 {
     let group = entry.row.group;

@@ -2,16 +2,17 @@
 
 ghost use Rattle.std.specs.Prelude.{◌≡◌, ◌+◌, ◌*◌, ◌<◌, ◌≤◌, ◌^◌, IsTrue, IfOk, Some, map};
 ghost use Rattle.line_rates.specs.declared.ask.Way.TheVariants.{Down, Up};
-ghost use Rattle.rate_floors.specs.Promises.{PromisesFit, HasNoSessions, no_session, admits, after_admit, after_release, counted, has_counted, user_of, user_key, promised, promised_with_more, is_small, group_fits, line_fits};
+ghost use Rattle.rate_floors.specs.Promises.{PromisesFit, HasNoSessions, no_session, admits, after_admit, after_release, counted, has_counted, has_guarantee, user_of, user_key, promised, promised_with_more, is_small, group_fits, line_fits};
 ghost use Rattle.rate_floors.specs.Promises.{user_row};
 ghost use Rattle.line_rates.specs.Stated.{by_number, user_number, IsRising, FitsUser};
 ghost use Rattle.memory_terms.specs.Lack.{AsDefined};
 ghost use Rattle.rate_floors.specs.Carried.{sessions_of, carried_entry, carry_fault, unless_broken, carried};
+ghost use Rattle.rate_floors.specs.Refusals.{broken_in_group, first_above, refusal};
 ghost use Rattle.std.specs.List.{All};
 
 use crate::carry::{
-    CarryFault, broken_line, first_broken_group, first_broken_user, no_promises, promised_groups,
-    sums,
+    CarryFault, broken_line, broken_row, broken_sums, first_broken_group, first_broken_user,
+    no_promises, promised_groups, sums,
 };
 use crate::find::{GroupPromise, UserSessions, add, find_group, find_user, take};
 use crate::fits::{MAX_PROMISED, group_keeps, keeps, session_fits, user_fits};
@@ -232,6 +233,57 @@ impl<A: Allocator> Floors<A> {
                 && self.line_fits(entry))
     }
 
+    // The first limit of a user's group that the guarantees are above with one more session of the user.
+    fn broken_in_group(&self, entry: UserSessions) -> Option<CarryFault>
+        requires stands { user_of self.now (user_key entry) ≡ Some entry }
+        ensures broken { result
+            ≡ broken_in_group (counted self.now (user_key entry)) entry.row.group }
+    {
+        match find_group(&self.groups, entry.row.group) {
+            None => None,
+            Some(at) => {
+                let group = self.groups[at];
+                broken_sums(GroupPromise {
+                    row: group.row,
+                    down: group.down + entry.row.session_down_floor,
+                    up: group.up + entry.row.session_up_floor,
+                })
+            }
+        }
+    }
+
+    // The first limit that the guarantees are above with one more session of a user.
+    fn first_above(&self, entry: UserSessions) -> Option<CarryFault>
+        requires stands { user_of self.now (user_key entry) ≡ Some entry }
+        requires small { IsTrue (is_small (counted self.now (user_key entry)) entry.sessions) }
+        ensures broken { result ≡ first_above (counted self.now (user_key entry)) entry }
+    {
+        let (down, up) = self.line_after(entry);
+        let sessions = entry.sessions + 1;
+        let more = UserSessions {
+            row: entry.row,
+            sessions,
+        };
+        broken_row(more)
+            .or(self.broken_in_group(entry))
+            .or(broken_line(down, up, self.server, self.down, self.up))
+    }
+
+    /// Why `admit` refuses one more session of `user`, which it does exactly if there is a reason: the first limit that
+    /// the guarantees would be above with it, in the order of `CarryFault`.
+    pub fn refusal(&self, user: u32) -> Option<CarryFault>
+        ensures refusal { result ≡ refusal self.now user }
+    {
+        let Some(place) = find_user(&self.users, user) else {
+            return None;
+        };
+        let entry = self.users[place];
+        if !self.is_small(entry) {
+            return Some(CarryFault::TooLarge);
+        }
+        self.first_above(entry)
+    }
+
     /// Admits one more session of `user` and counts it, if all guarantees still fit the rates of session, user, group,
     /// way and server. Otherwise returns `false` and changes nothing. A session of a user without a row is always
     /// admitted and not counted.
@@ -254,6 +306,19 @@ impl<A: Allocator> Floors<A> {
             sessions: entry.sessions + 1,
         };
         true
+    }
+
+    /// Returns whether something is guaranteed to each session of `user`, down or up.
+    pub fn has_guarantee(&self, user: u32) -> bool
+        ensures guarantee { result ≡ has_guarantee (user_of self.now user) }
+    {
+        match find_user(&self.users, user) {
+            Some(place) => {
+                let row = self.users[place].row;
+                row.session_down_floor > 0 || row.session_up_floor > 0
+            }
+            None => false,
+        }
     }
 
     /// Takes back one session of `user`, if one is counted. Otherwise returns `false` and changes nothing.

@@ -3,6 +3,7 @@
 ghost use Rattle.rate_floors.specs.Carried.{CarriesWhatFits, NamesABrokenLimit};
 ghost use Rattle.rate_floors.specs.Kept.{PromisesAreKept, FloorsStayWithin};
 ghost use Rattle.rate_floors.specs.Plain.{NoGroupsIsPlain, NoFloorsAdmitsAll};
+ghost use Rattle.rate_floors.specs.Refusals.{RefusesWhatDoesNotFit};
 
 /// Guarantees of counted sessions that fit are within the limits of every tick. For asks of counted sessions, at most
 /// one for each session and way, the floors fit under each name, so they are within the tree of the tick, and `tree_of`
@@ -22,4 +23,9 @@ pub fn no_groups_and_floors_is_plain()
 pub fn carries_what_fits()
     ensures fits { CarriesWhatFits }
     ensures broken { NamesABrokenLimit }
+{}
+
+/// A session is refused for a reason exactly if it does not fit.
+pub fn refuses_what_does_not_fit()
+    ensures refuses { RefusesWhatDoesNotFit }
 {}

@@ -2,8 +2,8 @@
 //!
 //! `Floors::of` starts from the limits that an administrator states, with no session counted. `admit` counts one more
 //! session of a user if all guarantees then fit the rates above it, and otherwise refuses it; `release` takes one back.
-//! Neither allocates; each does at most three binary searches and a few sums. `carried` counts the same sessions under
-//! other rates, if their guarantees fit.
+//! Neither allocates; each does at most three binary searches and a few sums. `refusal` says for which limit `admit`
+//! refuses a session. `carried` counts the same sessions under other rates, if their guarantees fit.
 //!
 //! ```text
 //! let alloc = rt.alloc();
@@ -26,4 +26,6 @@ pub use carry::CarryFault;
 pub use find::{GroupPromise, UserSessions};
 pub use fits::MAX_PROMISED;
 pub use floors::Floors;
-pub use laws::{carries_what_fits, no_groups_and_floors_is_plain, promises_are_kept};
+pub use laws::{
+    carries_what_fits, no_groups_and_floors_is_plain, promises_are_kept, refuses_what_does_not_fit,
+};

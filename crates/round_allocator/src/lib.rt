@@ -17,5 +17,5 @@ mod probe;
 mod steps;
 
 pub use level::MAX_PROBES;
-pub use named::{allot, allot_counted};
+pub use named::{allot, allot_counted, deepest_entries};
 pub use steps::Steps;

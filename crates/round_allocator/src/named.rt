@@ -91,8 +91,10 @@ fn entry<A: Allocator>(
     }
 }
 
-// The entries of all leaves.
-fn name<A: Allocator, B: Allocator + Clone>(
+/// The certificate whose entry, for each leaf with less than it wants, is the deepest full branch above it; all other
+/// entries are none. Grants are in octets, one for each leaf. Two allocations, O(nodes + leaves * depth) time. Returns
+/// `AllocError` only if memory runs out.
+pub fn deepest_entries<A: Allocator, B: Allocator + Clone>(
     alloc: B,
     flat: &Flat<A>,
     grants: &[u64],
@@ -130,7 +132,7 @@ pub fn allot_counted<A: Allocator, B: Allocator + Clone, L: Ledger>(
     let _leaves = tree.leaves();
     let flat = Flat::of(alloc.clone()?, tree)?;
     let grants = give(alloc.clone()?, &flat, steps)?;
-    let certificate = name(alloc, &flat, &grants)?;
+    let certificate = deepest_entries(alloc, &flat, &grants)?;
     Ok((grants, certificate, steps.count()))
 }
 

@@ -1,7 +1,7 @@
 -- Passive ports that sessions keep.
 use Rattle.std.specs.Prelude.{Bool, true, false, ◌+◌, ◌-◌, nat_le}
 use Rattle.std.specs.declared.io.ErrorKind.{ErrorKind}
-use Rattle.std.specs.declared.io.ErrorKind.TheVariants.{WouldBlock}
+use Rattle.std.specs.declared.io.ErrorKind.TheVariants.{WouldBlock, ConnectionAborted, Interrupted}
 use Rattle.server_config.specs.declared.settings.ServerNumbers.{ServerNumbers}
 
 -- there are as many ports, from the first to the last, as there can be connections
@@ -13,3 +13,11 @@ may_keep_ports numbers =
 abbrev pub none_waits : ErrorKind → Bool
 none_waits WouldBlock = true
 none_waits _ = false
+
+-- a call that accepts and fails by this found no connection, or one that was gone, or was
+-- interrupted: the machine has no fault
+abbrev pub has_no_fault : ErrorKind → Bool
+has_no_fault WouldBlock = true
+has_no_fault ConnectionAborted = true
+has_no_fault Interrupted = true
+has_no_fault _ = false

@@ -11,6 +11,8 @@ pub enum EndCause {
     NothingPrepared,
     /// Nobody connected to the passive port in time.
     NoClient,
+    /// A connection to the passive port could not be accepted: the machine's error of the last look.
+    NotAccepted(io::Error),
     /// The client's port could not be connected to.
     NotConnected(io::Error),
     /// Memory ran out.

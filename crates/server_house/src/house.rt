@@ -23,7 +23,7 @@ use std::sync::Mutex;
 use virtual_tree::Store;
 
 /// The parts that the threads of a server share, with its store `S`, the handler `H` of its owner, and the name `B` of
-/// its board.
+/// its boards.
 #[derive(Drop)]
 pub struct House<S: Store<Global>, H: Drop, B: PartsName> {
     /// The users, and the settings of sessions, which a reload exchanges.
@@ -49,9 +49,10 @@ pub struct House<S: Store<Global>, H: Drop, B: PartsName> {
     pub logins: Mutex<Logins>,
     /// The ticket of each session, by the number of its connection.
     pub tickets: Vec<SessionTicket<S>>,
-    /// The numbers of the tickets on which a transfer waits for a lane. One that was taken back leaves its number here.
+    /// The numbers of the tickets on which a transfer waits for a lane; those of users with a guarantee go first. One that
+    /// was taken back leaves its number here.
     pub board: LentBoard<B, u32>,
-    /// The pass with which sessions push them.
+    /// The passes with which sessions push them.
     pub pass: Mutex<LentPass<B, u32>>,
     /// Increased when a transfer is pushed; idle lanes wait on it.
     pub jobs: SharedEventCount,

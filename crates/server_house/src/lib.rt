@@ -51,7 +51,7 @@ pub use served::{Listing, Served};
 pub use server_hooks::{
     BegunTransfer, ClientSession, DeclinedCommand, LaneLook, NoHooks, NotEnded, NotServed,
     Reloaded, ServerEvent, ServerHooks, ServerLook, SessionEvent, SessionRefusal, StoreNote,
-    TransferKind, TransferRecord,
+    TransferKind, TransferRecord, UnguaranteedLogin,
 };
 pub use session_sign::SessionSign;
 pub use terms::{HeldTerms, SharedTerms, Terms};

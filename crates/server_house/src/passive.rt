@@ -1,8 +1,9 @@
 //! Passive ports: listening, and accepting the peer.
 
-ghost use Rattle.std.specs.Prelude.{◌≡◌, ◌↔◌, IfSome, IsTrue, None};
+ghost use Rattle.std.specs.IoError.{error_kind};
+ghost use Rattle.std.specs.Prelude.{◌≡◌, ◌↔◌, IfErr, IfOk, IfSome, IsTrue, None, OnErr, OnOk, false, not, true};
 ghost use Rattle.server_house.specs.Peers.{IsAddress, IsFrom, IsOctetsOf, IsWanted};
-ghost use Rattle.server_house.specs.Ports.{may_keep_ports, none_waits};
+ghost use Rattle.server_house.specs.Ports.{has_no_fault, may_keep_ports, none_waits};
 
 use server_config::ServerNumbers;
 use std::io;
@@ -56,6 +57,21 @@ fn none_waits(kind: ErrorKind) -> bool
     ensures none { result ≡ none_waits kind }
 {
     kind == ErrorKind::WouldBlock
+}
+
+// Returns whether another connection may wait after this error of a call that accepts. `Err` is the error if it is a fault
+// of the machine.
+fn may_wait(error: io::Error) -> io::Result<bool>
+    ensures wait { IfOk result (λ wait. wait ≡ not (none_waits (error_kind error))) }
+    ensures well { OnOk result (has_no_fault (error_kind error) ≡ true) }
+    ensures fault { OnErr result (has_no_fault (error_kind error) ≡ false) }
+    ensures error { IfErr result (λ fault. fault ≡ error) }
+{
+    match error.kind() {
+        ErrorKind::WouldBlock => Ok(false),
+        ErrorKind::ConnectionAborted | ErrorKind::Interrupted => Ok(true),
+        _ => Err(error),
+    }
 }
 
 fn is_from(from: SocketAddr, peer: [u8; 4]) -> bool
@@ -118,21 +134,30 @@ impl PeerConnection {
 }
 
 /// Accepts a connection from this peer, or from anybody if no peer is given, and closes those of others. `None` if none
-/// has come yet, if the machine reports an error, or after `MOST_STRANGERS` others: the next call goes on.
-pub fn accept_from(listener: &TcpListener, peer: Option<[u8; 4]>) -> Option<PeerConnection>
-    ensures peer { IfSome result (λ connection. connection.peer ≡ peer) }
+/// has come yet, or after `MOST_STRANGERS` others: the next call goes on. `Err` is the error of the machine if it cannot
+/// accept a connection.
+pub fn accept_from(
+    listener: &TcpListener,
+    peer: Option<[u8; 4]>,
+) -> io::Result<Option<PeerConnection>>
+    ensures peer { IfOk result (λ found. IfSome found (λ connection. connection.peer ≡ peer)) }
+    ensures fault { IfErr result (λ fault. has_no_fault (error_kind fault) ≡ false) }
 {
     for _ in 0..MOST_STRANGERS {
         match listener.accept() {
             Ok((stream, from)) => {
                 if let Some(connection) = PeerConnection::of_peer(stream, from, peer) {
-                    return Some(connection);
+                    return Ok(Some(connection));
                 }
             }
-            Err(_) => return None,
+            Err(error) => {
+                if !may_wait(error)? {
+                    return Ok(None);
+                }
+            }
         }
     }
-    None
+    Ok(None)
 }
 
 /// Accepts and closes the connections that wait at a listener. Returns whether none waits any more: `false` after

@@ -3,6 +3,7 @@
 use crate::cause::EndCause;
 use client_patience::TimeOut;
 use passive_ports::AdmitFault;
+use rate_floors::CarryFault;
 use recorded_store::StoreRecord;
 use round_tally::LaneTally;
 use session_table::HookCall;
@@ -36,8 +37,6 @@ pub enum NotServed {
 pub enum SessionRefusal {
     /// The last password that it takes was wrong.
     TooManyLogins,
-    /// The guaranteed rate of the user does not fit.
-    NoGuarantee,
     /// Too many lines were held while a transfer ran.
     TooManyHeldLines,
     /// The user is logged in as often as one user may be.
@@ -78,6 +77,15 @@ pub struct DeclinedCommand<'a> {
     pub line: &'a str,
     /// The code and the text of the reply.
     pub reply: &'a str,
+}
+
+/// A login that was refused, with 421, since the guaranteed rate of its user does not fit.
+#[derive(Clone, Copy)]
+pub struct UnguaranteedLogin<'a> {
+    /// The name of the user, whose password was right; none if there was no memory for it.
+    pub user: Option<&'a str>,
+    /// The limit that all guarantees would be above with this session, what they would add up to, and its rate.
+    pub why: CarryFault,
 }
 
 /// The outcome of a changed configuration.
@@ -247,6 +255,9 @@ pub trait ServerHooks: Drop {
 
     /// A command of this session was refused for what it asks of the store.
     fn on_declined(&mut self, _session: ClientSession, _command: &DeclinedCommand<'_>) {}
+
+    /// A login of this session was refused for the guaranteed rate of its user.
+    fn on_unguaranteed(&mut self, _session: ClientSession, _login: &UnguaranteedLogin<'_>) {}
 
     /// A client of this address is not served.
     fn on_refused(&mut self, _peer: [u8; 4], _why: NotServed) {}

@@ -34,8 +34,9 @@ where
     let near = TcpStream::connect(rt, address).ok()?;
     for _ in 0..1_000_000 {
         match accept_from(listener, Some(LOOPBACK)) {
-            Some(far) => return Some((near, far.into_stream())),
-            None => {}
+            Ok(Some(far)) => return Some((near, far.into_stream())),
+            Ok(None) => {}
+            Err(_) => return None,
         }
     }
     None

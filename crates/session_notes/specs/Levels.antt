@@ -25,6 +25,7 @@ abbrev pub level_of_cause : EndCause → Level
 level_of_cause Aborted = Info
 level_of_cause NothingPrepared = Info
 level_of_cause NoClient = Info
+level_of_cause (ended.NotAccepted error) = Warn
 level_of_cause (NotConnected error) = Info
 level_of_cause NoMemory = Warn
 level_of_cause File = Warn

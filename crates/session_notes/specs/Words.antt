@@ -1,9 +1,15 @@
 -- The words of notes.
-use Rattle.std.specs.Prelude.{ℕ, List, ◌++◌, codes, Option, Some, None, option_map}
+use Rattle.std.specs.Prelude.{ℕ, ℤ, Bool, true, false, List, ◌++◌, codes, Option, Some, None, option_map}
 use Rattle.std.specs.Borrow.{Bor}
 use Rattle.std.specs.Fmt.{◌++?◌, debug_str, decimal}
 use Rattle.std.specs.Net.Text.{ipv4_text}
 use Rattle.std.specs.declared.alloc.Global.{Global}
+use Rattle.std.specs.declared.io.ErrorKind.{ErrorKind}
+use Rattle.std.specs.declared.io.ErrorKind.TheVariants.{WouldBlock}
+use Rattle.std.specs.declared.io.ErrorKind.TheVariants as kind
+use Rattle.line_rates.specs.declared.ask.Name.{Name}
+use Rattle.line_rates.specs.declared.ask.Name.TheVariants.{Server, Direction, Group, User, Session}
+use Rattle.line_rates.specs.declared.ask.Way.TheVariants.{Down, Up}
 use Rattle.passive_ports.specs.declared.fault.AdmitFault.TheVariants.{TooMany, TooManyOfAddress, Memory}
 use Rattle.server_house.specs.declared.cause.EndCause.{EndCause}
 use Rattle.server_house.specs.declared.cause.EndCause.TheVariants.{Aborted, NothingPrepared, NoClient, NotConnected, NoMemory, File, Connection, ControlLost, ServerEnds, SessionEnded}
@@ -15,7 +21,7 @@ use Rattle.server_house.specs.declared.server_hooks.ServerEvent.{ServerEvent}
 use Rattle.server_house.specs.declared.server_hooks.ServerEvent.TheVariants.{NotBound, NotAccepted, FewDescriptors, Drains, DrainTimedOut, Waits, Misplaced}
 use Rattle.server_house.specs.declared.server_hooks.SessionEvent.{SessionEvent}
 use Rattle.server_house.specs.declared.server_hooks.SessionEvent.TheVariants.{Refused, NoPort, TimedOut, Ended}
-use Rattle.server_house.specs.declared.server_hooks.SessionRefusal.TheVariants.{TooManyLogins, NoGuarantee, TooManyHeldLines, TooManySessions}
+use Rattle.server_house.specs.declared.server_hooks.SessionRefusal.TheVariants.{TooManyLogins, TooManyHeldLines, TooManySessions}
 use Rattle.session_table.specs.declared.actions.HookCall.{HookCall}
 use Rattle.session_table.specs.declared.actions.HookCall.TheVariants as hook
 use Rattle.client_patience.specs.declared.waits.TimeOut.TheVariants as time
@@ -51,6 +57,14 @@ note_of (hook.LoginFailed name) = Some (LoginFailed, Some name)
 note_of (hook.Logout name) = Some (Logout, Some name)
 note_of _ = None
 
+-- an error of this kind, with the number by which a call of the machine has reported it, if one
+-- has, says that a limit of the server has passed
+abbrev pub is_own_limit : ErrorKind → Option ℤ → Bool
+is_own_limit WouldBlock code = true
+is_own_limit kind.TimedOut None = true
+is_own_limit kind.TimedOut (Some code) = false
+is_own_limit _ code = false
+
 -- the address of the client, and the number of the session
 abbrev pub head_text : ClientSession → Option (List ℕ)
 head_text session = Some (ipv4_text session.peer ++ codes " #" ++ decimal session.serial)
@@ -66,6 +80,7 @@ abbrev pub cause_words : EndCause → List ℕ
 cause_words Aborted = codes "aborted by the client"
 cause_words NothingPrepared = codes "no data connection was prepared"
 cause_words NoClient = codes "nobody connected to the passive port in time"
+cause_words (ended.NotAccepted error) = codes "the client's connection could not be accepted"
 cause_words (NotConnected error) = codes "the client's port could not be connected to"
 cause_words NoMemory = codes "out of memory"
 cause_words File = codes "the file could not be read or written"
@@ -77,13 +92,24 @@ cause_words SessionEnded = codes "the administrator ended the session"
 
 abbrev pub session_words : SessionEvent → List ℕ
 session_words (Refused TooManyLogins) = codes "refused: too many login attempts"
-session_words (Refused NoGuarantee) = codes "refused: the guaranteed rate is not available"
 session_words (Refused TooManyHeldLines) = codes "refused: too many held lines"
 session_words (Refused TooManySessions) = codes "refused: too many sessions of this user"
 session_words (NoPort error) = codes "no passive port"
 session_words (TimedOut time.Login) = codes "timed out without a login"
 session_words (TimedOut time.Idle) = codes "timed out without a sign of life"
 session_words Ended = codes "ended by the administrator"
+
+-- a limit in the words of a plan
+abbrev pub limit_words : Name → List ℕ
+limit_words Server = codes "server"
+limit_words (Direction Down) = codes "server down"
+limit_words (Direction Up) = codes "server up"
+limit_words (Group Down group) = codes "group down"
+limit_words (Group Up group) = codes "group up"
+limit_words (User Down user) = codes "user down"
+limit_words (User Up user) = codes "user up"
+limit_words (Session Down user session) = codes "session down"
+limit_words (Session Up user session) = codes "session up"
 
 abbrev pub server_words : ServerEvent → List ℕ
 server_words (NotBound address port error) = codes "cannot listen on"

@@ -23,7 +23,8 @@ pub(crate) fn level_of_cause(cause: EndCause) -> Level
     ensures level { result ≡ level_of_cause cause }
 {
     match cause {
-        EndCause::NoMemory | EndCause::File | EndCause::Refused => Level::Warn,
+        EndCause::NoMemory | EndCause::File | EndCause::Refused | EndCause::NotAccepted(_) =>
+            Level::Warn,
         _ => Level::Info,
     }
 }

@@ -8,13 +8,14 @@ use crate::stamp::Stamp;
 use crate::stores::{ChangeText, level_of_record, path_in, path_to, record_words};
 use crate::transfers::{TransferText, file_transfer};
 use crate::words::{
-    CauseText, DeclinedText, ServerText, SessionHead, SessionText, note_of, refusal_words,
+    CauseText, DeclinedText, ServerText, SessionHead, SessionText, UnguaranteedText, note_of,
+    refusal_words,
 };
 use line_queue::LogForm;
 use log::{Level, Log, log};
 use server_house::{
     BegunTransfer, ClientSession, DeclinedCommand, NotEnded, NotServed, Reloaded, ServerEvent,
-    ServerHooks, ServerLook, SessionEvent, StoreNote, TransferRecord,
+    ServerHooks, ServerLook, SessionEvent, StoreNote, TransferRecord, UnguaranteedLogin,
 };
 use session_table::HookCall;
 use std::alloc::Global;
@@ -98,6 +99,13 @@ impl<L: Log + Clock + Drop, T: TransferLog + Drop> ServerHooks for Notes<L, T> {
         let head = SessionHead(session);
         let text = DeclinedText(*command);
         log!(self.log; target: "", Level::Debug, "{stamp}{head} {text}");
+    }
+
+    fn on_unguaranteed(&mut self, session: ClientSession, login: &UnguaranteedLogin<'_>) {
+        let stamp = self.stamp();
+        let head = SessionHead(session);
+        let text = UnguaranteedText(*login);
+        log!(self.log; target: "", Level::Warn, "{stamp}{head} {text}");
     }
 
     fn on_refused(&mut self, peer: [u8; 4], why: NotServed) {

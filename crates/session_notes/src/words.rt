@@ -1,12 +1,16 @@
 //! The words of events and refusals.
 
+ghost use Rattle.std.specs.IoError.{error_kind, raw_os_error};
 ghost use Rattle.std.specs.Prelude.{◌≡◌, option_map};
-ghost use Rattle.session_notes.specs.Words.{cause_words, event_words, note_of, parts_of, refusal_words, server_words, session_words};
+ghost use Rattle.session_notes.specs.Words.{cause_words, event_words, is_own_limit, limit_words, note_of, parts_of, refusal_words, server_words, session_words};
 
 use client_patience::TimeOut;
+use line_rates::{Name, Way};
 use passive_ports::AdmitFault;
+use rate_floors::CarryFault;
 use server_house::{
     ClientSession, DeclinedCommand, EndCause, NotServed, ServerEvent, SessionEvent, SessionRefusal,
+    UnguaranteedLogin,
 };
 use session_table::HookCall;
 use std::alloc::Global;
@@ -112,6 +116,7 @@ fn cause_words(cause: EndCause) -> &'static str
         EndCause::Aborted => "aborted by the client",
         EndCause::NothingPrepared => "no data connection was prepared",
         EndCause::NoClient => "nobody connected to the passive port in time",
+        EndCause::NotAccepted(_) => "the client's connection could not be accepted",
         EndCause::NotConnected(_) => "the client's port could not be connected to",
         EndCause::NoMemory => "out of memory",
         EndCause::File => "the file could not be read or written",
@@ -123,10 +128,22 @@ fn cause_words(cause: EndCause) -> &'static str
     }
 }
 
+// Returns whether an error says that a limit of the server has passed: a socket has waited as long as it may, or no call of
+// the machine has reported the error.
+fn is_own_limit(error: io::Error) -> bool
+    ensures limit { result ≡ is_own_limit (error_kind error) (raw_os_error error) }
+{
+    match error.kind() {
+        ErrorKind::WouldBlock => true,
+        ErrorKind::TimedOut => error.raw_os_error().is_none(),
+        _ => false,
+    }
+}
+
 // The machine's error of a cause, if there is one.
 fn error_of(cause: EndCause) -> Option<io::Error> {
     match cause {
-        EndCause::NotConnected(error) => Some(error),
+        EndCause::NotAccepted(error) | EndCause::NotConnected(error) => Some(error),
         EndCause::Connection(error) => error,
         _ => None,
     }
@@ -146,12 +163,8 @@ impl fmt::Display for CauseText {
         f.write_str(cause_words(self.cause))?;
         match error_of(self.cause).or(self.error) {
             None => Ok(()),
-            Some(error) => match error.kind() {
-                ErrorKind::WouldBlock | ErrorKind::TimedOut => f.write_str(
-                    ": no octet moved in time",
-                ),
-                _ => write!(f, ": {error}"),
-            },
+            Some(error) if is_own_limit(error) => f.write_str(": no octet moved in time"),
+            Some(error) => write!(f, ": {error}"),
         }
     }
 }
@@ -161,9 +174,6 @@ fn session_words(event: SessionEvent) -> &'static str
 {
     match event {
         SessionEvent::Refused(SessionRefusal::TooManyLogins) => "refused: too many login attempts",
-        SessionEvent::Refused(SessionRefusal::NoGuarantee) => {
-            "refused: the guaranteed rate is not available"
-        }
         SessionEvent::Refused(SessionRefusal::TooManyHeldLines) => "refused: too many held lines",
         SessionEvent::Refused(SessionRefusal::TooManySessions) => {
             "refused: too many sessions of this user"
@@ -187,6 +197,50 @@ impl fmt::Display for SessionText {
             SessionEvent::Refused(_) | SessionEvent::TimedOut(_) | SessionEvent::Ended => {
                 f.write_str(words)
             }
+        }
+    }
+}
+
+// A limit in the words of a plan. Of a group, a user and a session it is the user's whose login is refused.
+fn limit_words(name: Name) -> &'static str
+    ensures words { result.now ≡ limit_words name }
+{
+    match name {
+        Name::Server => "server",
+        Name::Direction(Way::Down) => "server down",
+        Name::Direction(Way::Up) => "server up",
+        Name::Group(Way::Down, _) => "group down",
+        Name::Group(Way::Up, _) => "group up",
+        Name::User(Way::Down, _) => "user down",
+        Name::User(Way::Up, _) => "user up",
+        Name::Session(Way::Down, _, _) => "session down",
+        Name::Session(Way::Up, _, _) => "session up",
+    }
+}
+
+/// A login that was refused for the guaranteed rate of its user.
+#[derive(Clone, Copy)]
+pub(crate) struct UnguaranteedText<'a>(pub UnguaranteedLogin<'a>);
+
+impl fmt::Display for UnguaranteedText<'_> {
+    fn fmt<W: fmt::Write>(&self, f: &mut fmt::Formatter<W>) -> fmt::Result {
+        f.write_str("refused: the guaranteed rate is not available")?;
+        if let Some(user) = self.0.user {
+            write!(f, ": user {user:?}")?;
+        }
+        match self.0.why {
+            CarryFault::Broken {
+                name,
+                promised,
+                rate,
+            } => {
+                let limit = limit_words(name);
+                write!(
+                    f,
+                    ": {promised} octets a second would be guaranteed of the {rate} of {limit}"
+                )
+            }
+            CarryFault::TooLarge | CarryFault::Memory => write!(f, ": {}", self.0.why),
         }
     }
 }

@@ -134,7 +134,11 @@ static TURNS: [(Rates, &[(Turn, bool)]); 5] = [
 fn expect_answers(rt: &impl Abort, floors: &mut Floors, turns: &[(Turn, bool)]) {
     for (turn, wanted) in turns {
         let answer = match turn {
-            Admit(user) => floors.admit(*user),
+            Admit(user) => {
+                let fits = floors.refusal(*user).is_none();
+                holds(rt, floors.admit(*user) == fits);
+                fits
+            }
             Release(user) => floors.release(*user),
         };
         holds(rt, answer == *wanted);
@@ -148,6 +152,32 @@ fn sessions_are_admitted(rt: HostRuntime) {
         let limits = limits_of(&rt, rates);
         let mut floors = Floors::of(rt.alloc(), &limits).expect(&rt, "memory");
         expect_answers(&rt, &mut floors, turns);
+    }
+}
+
+/// Rates, the users whose sessions are admitted, one who is not, and why: the name, the guarantees and the rate.
+static REASONS: [(Rates, &[u32], u32, (Name, u64, u64)); 4] = [
+    (SHARED, &[1], 1, (Name::Server, 160, 100)),
+    (IN_A_GROUP, &[1], 1, (Name::Group(Way::Down, 4), 60, 50)),
+    (LIMITED, &[], 1, (Name::Session(Way::Down, 1, 0), 21, 20)),
+    (LIMITED, &[2, 2], 2, (Name::User(Way::Down, 2), 75, 50)),
+];
+
+#[test]
+fn sessions_are_refused_for_a_limit(rt: HostRuntime) {
+    for (rates, admitted, user, (name, promised, rate)) in &REASONS {
+        let limits = limits_of(&rt, rates);
+        let mut floors = Floors::of(rt.alloc(), &limits).expect(&rt, "memory");
+        for other in *admitted {
+            holds(&rt, floors.admit(*other));
+        }
+        let reason = CarryFault::Broken {
+            name: *name,
+            promised: *promised,
+            rate: *rate,
+        };
+        holds(&rt, floors.refusal(*user) == Some(reason));
+        holds(&rt, floors.has_guarantee(*user) && !floors.has_guarantee(7));
     }
 }
 

@@ -25,6 +25,11 @@ cause_of false NoConnection fault = Some cause.NoClient
 cause_of false NoMemory fault = Some cause.NoMemory
 cause_of false Aborted fault = Some cause.ServerEnds
 
+-- nobody has come, or the machine could not accept who has
+abbrev pub absence : Option Error → EndCause
+absence None = cause.NoClient
+absence (Some error) = cause.NotAccepted error
+
 -- with nothing prepared the transfer ends at once, for that reason
 abbrev pub StartCause : Prepared → Option EndCause → Type 0
 StartCause prepared.Nothing new = new ≡ Some cause.NothingPrepared

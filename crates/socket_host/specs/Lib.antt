@@ -10,6 +10,7 @@ pub mod Replied
 pub mod Running
 pub mod Standing
 pub mod Texts
+pub mod Unguaranteed
 pub mod Doing
 pub mod DoingLaws
 pub mod Hosted

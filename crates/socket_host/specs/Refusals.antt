@@ -1,5 +1,5 @@
 -- Replies that end a session.
-use Rattle.std.specs.Prelude.{Bool, true, false, List, Option, Some, None}
+use Rattle.std.specs.Prelude.{Bool, true, false, List, [], ◌∷◌, Option, Some, None}
 use Rattle.std.specs.List.{list_any}
 use Rattle.server_house.specs.declared.server_hooks.SessionRefusal.{SessionRefusal}
 use Rattle.server_house.specs.declared.server_hooks.SessionRefusal.TheVariants as session
@@ -8,13 +8,12 @@ use Rattle.session_table.specs.declared.actions.Action.TheVariants.{Say, Hook, O
 use Rattle.session_table.specs.declared.answers.Answer.{Answer}
 use Rattle.session_table.specs.declared.answers.Answer.TheVariants as answer
 use Rattle.session_table.specs.declared.refusals.Refusal.{Refusal}
-use Rattle.session_table.specs.declared.refusals.Refusal.TheVariants.{TooManyLogins, NoGuarantee, TooManyHeldLines}
+use Rattle.session_table.specs.declared.refusals.Refusal.TheVariants.{TooManyLogins, TooManyHeldLines}
 use Rattle.std.specs.declared.alloc.Global.{Global}
 
--- the refusal by which a session ends
+-- the refusal by which a session ends, but that of a guarantee, which is told with its reason
 abbrev pub ending_refusal : Refusal → Option SessionRefusal
 ending_refusal TooManyLogins = Some session.TooManyLogins
-ending_refusal NoGuarantee = Some session.NoGuarantee
 ending_refusal TooManyHeldLines = Some session.TooManyHeldLines
 ending_refusal _ = None
 
@@ -35,6 +34,15 @@ refusal_of (Start job) = None
 refusal_of Abort = None
 refusal_of CloseControl = None
 refusal_of (ReleaseFloor user) = None
+
+abbrev pub or_later : Option SessionRefusal → Option SessionRefusal → Option SessionRefusal
+or_later (Some why) later = Some why
+or_later None later = later
+
+-- the first such refusal that a step with these actions says
+abbrev pub first_refusal : {R K : Type 0} → List (Action Global R K) → Option SessionRefusal
+first_refusal [] = None
+first_refusal (action ∷ actions) = or_later (refusal_of action) (first_refusal actions)
 
 abbrev pub is_refusing : Answer Global → Bool
 is_refusing (answer.Notice notice) = false

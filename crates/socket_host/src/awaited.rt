@@ -1,11 +1,12 @@
 //! The client whom a session's passive ports are for.
 
 ghost use Rattle.std.specs.Prelude.{◌≡◌, IfSome, None, Some};
+ghost use Rattle.socket_host.specs.Causes.{absence};
 
 use crate::ports::early_of;
-use server_house::{PeerConnection, accept_from, empty_queue};
-use std::mem;
+use server_house::{EndCause, PeerConnection, accept_from, empty_queue};
 use std::net::TcpListener;
+use std::{io, mem};
 
 /// The client of a session's passive ports: the peer whose connections are taken, none for any, and its connection if
 /// that came before its transfer was begun.
@@ -13,6 +14,8 @@ use std::net::TcpListener;
 pub(crate) struct AwaitedClient {
     wanted: Option<[u8; 4]>,
     early: Option<PeerConnection>,
+    // the machine's error of the last look for a connection, if it could not accept one
+    fault: Option<io::Error>,
 }
 
 impl AwaitedClient {
@@ -20,10 +23,12 @@ impl AwaitedClient {
     pub(crate) fn new(wanted: Option<[u8; 4]>) -> AwaitedClient
         ensures wanted { result.wanted ≡ wanted }
         ensures none { result.early ≡ None }
+        ensures well { result.fault ≡ None }
     {
         AwaitedClient {
             wanted,
             early: None,
+            fault: None,
         }
     }
 
@@ -57,14 +62,35 @@ impl AwaitedClient {
                 return Some(connection);
             }
         }
-        accept_from(listener, self.wanted)
+        match accept_from(listener, self.wanted) {
+            Ok(found) => {
+                self.fault = None;
+                found
+            }
+            Err(error) => {
+                self.fault = Some(error);
+                None
+            }
+        }
     }
 
-    /// Closes the connection that is held, if there is one.
+    /// The reason for the end of a transfer whose client has not come: the machine's error, if the last look had one.
+    pub(crate) fn absence(&self) -> EndCause
+        ensures reason { result ≡ absence self.now.fault }
+    {
+        match self.fault {
+            Some(error) => EndCause::NotAccepted(error),
+            None => EndCause::NoClient,
+        }
+    }
+
+    /// Closes the connection that is held, if there is one, and forgets the error of a look.
     pub(crate) fn forget(&mut self)
         ensures none { self.new.early ≡ None }
+        ensures well { self.new.fault ≡ None }
         ensures wanted { self.new.wanted ≡ self.old.wanted }
     {
         self.early = None;
+        self.fault = None;
     }
 }

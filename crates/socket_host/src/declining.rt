@@ -8,10 +8,12 @@ ghost use Rattle.socket_host.specs.Declined.{IsLineOf, declined_by, declined_in,
 
 use control_session::{NoStep, Session};
 use ftp_wire::{LineItem, write_command};
+use lent_parts::PartsName;
+use server_house::{ClientSession, DeclinedCommand, House, ServerHooks, ServerRuntime};
 use session_table::{Action, Answer, Input, Refusal};
 use std::alloc::{AllocError, Global};
 use virtual_path::PathFault;
-use virtual_tree::StoreFault;
+use virtual_tree::{Store, StoreFault};
 
 // Returns whether a refusal is for what a command asks of the store: its path, its letters, or what is there. Faults of the
 // store itself are reported as such.
@@ -55,10 +57,8 @@ fn declined_by<R, K>(actions: &[Action<Global, R, K>]) -> Option<Refusal>
     None
 }
 
-/// The refusal that a step replies, if it was made, for what its command asks of the store.
-pub(crate) fn declined<R, K>(
-    made: &Result<Vec<Action<Global, R, K>>, NoStep<Global, K>>,
-) -> Option<Refusal>
+// The refusal that a step replies, if it was made, for what its command asks of the store.
+fn declined<R, K>(made: &Result<Vec<Action<Global, R, K>>, NoStep<Global, K>>) -> Option<Refusal>
     ensures declined { MatchResult made.now
         (λ actions. result ≡ declined_by actions.items) (λ why. result ≡ None) }
 {
@@ -93,8 +93,8 @@ pub(crate) fn line_of<K>(
     }
 }
 
-/// The text of the reply of a refusal.
-pub(crate) fn reply_of(alloc: Global, refusal: Refusal) -> Result<Vec<u8>, AllocError>
+// The text of the reply of a refusal.
+fn reply_of(alloc: Global, refusal: Refusal) -> Result<Vec<u8>, AllocError>
     ensures reply { IfOk result (λ text.
         text.items ≡ reply_text (OneLine (refusal_row refusal).0 (refusal_row refusal).1)) }
 {
@@ -104,10 +104,42 @@ pub(crate) fn reply_of(alloc: Global, refusal: Refusal) -> Result<Vec<u8>, Alloc
     Ok(text)
 }
 
-/// The text of a line without its end; empty if it is no line of UTF-8.
-pub(crate) fn without_end(line: &[u8]) -> &str {
+// The text of a line without its end; empty if it is no line of UTF-8.
+fn without_end(line: &[u8]) -> &str {
     match std::str::from_utf8(line) {
         Ok(text) => text.strip_suffix("\r\n").unwrap_or(text),
         Err(_) => "",
     }
+}
+
+/// Reports the command of a user's step, if it was refused for what it asks of the store. Without memory nothing is
+/// reported.
+pub(crate) fn tell_declined<R, S, H, B, F, K>(
+    rt: &R,
+    house: &House<S, H, B>,
+    own: ClientSession,
+    user: &str,
+    session: &Session<Global>,
+    line: &Option<Vec<u8>>,
+    made: &Result<Vec<Action<Global, F, K>>, NoStep<Global, K>>,
+)
+where
+    R: ServerRuntime,
+    S: Store<Global>,
+    H: ServerHooks,
+    B: PartsName,
+{
+    let (Some(line), Some(refusal)) = (line, declined(made)) else {
+        return;
+    };
+    let Ok(reply) = reply_of(rt.alloc(), refusal) else {
+        return;
+    };
+    let command = DeclinedCommand {
+        user,
+        directory: session.directory(),
+        line: without_end(line.as_slice()),
+        reply: without_end(reply.as_slice()),
+    };
+    house.handler.lock(rt).on_declined(own, &command);
 }

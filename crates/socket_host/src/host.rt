@@ -14,7 +14,7 @@ ghost use Rattle.socket_host.specs.Doing.{SocketDoes, Stays, kept_users};
 ghost use Rattle.socket_host.specs.Lending.{LentFor, RefusedFor};
 
 use crate::control::ControlSocket;
-use crate::declining::{declined, line_of, reply_of, without_end};
+use crate::declining::{line_of, tell_declined};
 use crate::judging::{
     asks_floors, cause_of_cut, cause_with, ends_file, ends_listing, entrant, is_end, is_line,
     is_text, is_without_port, kind_of,
@@ -22,21 +22,22 @@ use crate::judging::{
 use crate::keeping::PortWatch;
 use crate::last_replies::{CROWDED, last_reply, time_out_reply};
 use crate::moments::millis_since_1970;
-use crate::refusals::{is_refused, refusal_of};
+use crate::refusals::{ending_refusal, is_refused};
 use crate::side::SocketSide;
 use crate::standing::Standing;
+use crate::unguaranteed::{Entrant, entrant_of, reason_for, tell_unguaranteed};
 use crate::waiting::{is_due, is_life, passed_limit};
 use client_patience::{TimeOut, Waits};
 use control_session::{Host, Leaving, NoStep, Piece, Session, close_by, end_by, step_by};
 use event_word::micros;
 use ftp_wire::HostPort;
 use lent_parts::PartsName;
-use rate_floors::Floors;
+use rate_floors::{CarryFault, Floors};
 use recorded_store::{Recorder, StoreRecord};
 use server_house::{
-    BegunTransfer, ClientSession, DeclinedCommand, EndCause, HeldTerms, OwnRuns, ServerHooks,
-    ServerRuntime, SessionEvent, SessionRefusal, ShutdownStage, StoreNote, TransferKind,
-    TransferRecord, copy_settings,
+    BegunTransfer, ClientSession, EndCause, HeldTerms, OwnRuns, ServerHooks, ServerRuntime,
+    SessionEvent, SessionRefusal, ShutdownStage, StoreNote, TransferKind, TransferRecord,
+    copy_settings,
 };
 use session_table::{Action, HookCall, Input, Job, Settings, Text};
 use std::alloc::{AllocError, Global};
@@ -456,56 +457,24 @@ where
         }
     }
 
-    // Reports the refusals among the actions of a step.
-    fn report_refusals<F, K>(&self, actions: &[Action<Global, F, K>]) {
-        for action in actions {
-            if let Some(why) = refusal_of(action) {
-                self.report(SessionEvent::Refused(why));
-            }
-        }
-    }
-
-    // Reports the refusals of a step, if it was made.
+    // Reports the refusal of a step by which the session ends, if it was made and says one.
     fn report_made<F, K>(&self, made: &Result<Vec<Action<Global, F, K>>, NoStep<Global, K>>) {
-        if let Ok(actions) = made {
-            self.report_refusals(actions);
+        if let Some(why) = ending_refusal(made) {
+            self.report(SessionEvent::Refused(why));
         }
     }
 
-    // Reports the command of a step, if it was refused for what it asks of the store. Without memory nothing is reported.
-    fn report_declined<F, K>(
-        &self,
-        session: &Session<Global>,
-        line: &Option<Vec<u8>>,
-        made: &Result<Vec<Action<Global, F, K>>, NoStep<Global, K>>,
-    ) {
-        let (Some(line), Some(refusal)) = (line, declined(made)) else {
-            return;
-        };
-        let Ok(reply) = reply_of(self.rt.alloc(), refusal) else {
-            return;
-        };
-        let command = DeclinedCommand {
-            user: self.standing.name(),
-            directory: session.directory(),
-            line: without_end(line.as_slice()),
-            reply: without_end(reply.as_slice()),
-        };
-        self.side
-            .house
-            .handler
-            .lock(self.rt)
-            .on_declined(self.own, &command);
-    }
-
-    // Makes a step of the session. Returns the record of its store too.
+    // Makes a step of the session. Returns the record of its store too, and why the guarantee of the user whom it would
+    // have logged in did not fit, if it was refused for that.
     fn step_over(
         &mut self,
         session: &mut Session<Global>,
         input: &mut Option<Input<Global, S::Sink>>,
+        entrant: &Option<Entrant>,
     ) -> (
         Result<Vec<Action<Global, S::Source, S::Sink>>, NoStep<Global, S::Sink>>,
         Option<StoreRecord>,
+        Option<CarryFault>,
     )
         ensures row { IfSome input.old (λ input. IfOk result.0 (λ actions.
             LentFor (IsRow S.Step) (kept_users self.old.standing)
@@ -523,13 +492,14 @@ where
             let mut floors = self.side.house.floors.lock(self.rt);
             let mut store = self.side.house.store_of(self.own.number).lock(self.rt);
             let made = step_by(session, users, &mut *floors, &mut *store, input, moment);
-            return (made, store.take_last());
+            let reason = reason_for(&made, &*floors, entrant);
+            return (made, store.take_last(), reason);
         }
         // Asks for no admission (`others_ask_no_floors` of `session_table`), so needs no lock of the floors.
         let floors = &mut self.no_floors;
         let mut store = self.side.house.store_of(self.own.number).lock(self.rt);
         let made = step_by(session, users, floors, &mut *store, input, moment);
-        (made, store.take_last())
+        (made, store.take_last(), None)
     }
 
     // Reports an event of the session that is none of its steps.
@@ -678,11 +648,15 @@ where
         let is_pass = asks_floors(session, input);
         self.take_terms(newer, session.is_inside());
         let line = line_of(self.rt.alloc(), session, input);
-        let (made, record) = self.step_over(session, input);
+        let users = &self.standing.terms().users;
+        let entrant = entrant_of(self.rt.alloc(), session, users, input);
+        let (made, record, reason) = self.step_over(session, input, &entrant);
         self.keep_place(is_pass, session);
         self.follow_store(record, is_refused(&made));
         self.report_made(&made);
-        self.report_declined(session, &line, &made);
+        let (house, user) = (self.side.house, self.standing.name());
+        tell_declined(self.rt, house, self.own, user, session, &line, &made);
+        tell_unguaranteed(self.rt, house, self.own, &entrant, reason);
         made
     }
 

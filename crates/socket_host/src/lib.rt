@@ -27,6 +27,7 @@ mod running;
 mod serving;
 mod side;
 mod standing;
+mod unguaranteed;
 mod waiting;
 
 pub use control::ControlSocket;

@@ -19,7 +19,8 @@ pub(crate) fn early_of(listener: &TcpListener, peer: Option<[u8; 4]>) -> Option<
     ensures peer { IfSome result (λ connection. connection.peer ≡ peer) }
 {
     for _ in 0..CROWDS {
-        if let Some(connection) = accept_from(listener, peer) {
+        // An error of the machine is told by the look of a transfer that was begun.
+        if let Ok(Some(connection)) = accept_from(listener, peer) {
             return Some(connection);
         }
     }

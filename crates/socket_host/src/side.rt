@@ -410,10 +410,19 @@ where
         self.house.jobs.signal_one();
     }
 
-    // Appends the number of the ticket to those with a transfer that waits. There is room for each number once.
+    // Appends the number of the ticket to those with a transfer that waits: to those that go first, if something is
+    // guaranteed to the user. There is room for each number once.
     fn list(&self) {
+        let goes_first = self
+            .house
+            .floors
+            .lock(self.rt)
+            .has_guarantee(self.run.payer);
         let mut pass = self.house.pass.lock(self.rt);
-        let _ = self.house.board.push(self.rt, &mut *pass, self.session);
+        let _ = self
+            .house
+            .board
+            .push(self.rt, &mut *pass, self.session, goes_first);
     }
 
     // Ends a transfer that got no data connection.
@@ -455,7 +464,8 @@ where
             None => {
                 if has_passed(since, now, PATIENCE) {
                     self.close_port(listener, port);
-                    self.end_without(EndCause::NoClient, job);
+                    let why = self.client.absence();
+                    self.end_without(why, job);
                 } else {
                     self.run.running = Running::Awaited {
                         listener,

@@ -9,7 +9,7 @@ use crate::making::status_of;
 use crate::shown::shown_path;
 use server_house::{
     BegunTransfer, ClientSession, DeclinedCommand, NotEnded, NotServed, Reloaded, ServerEvent,
-    ServerHooks, ServerLook, SessionEvent, StoreNote, TransferRecord,
+    ServerHooks, ServerLook, SessionEvent, StoreNote, TransferRecord, UnguaranteedLogin,
 };
 use session_table::HookCall;
 use std::alloc::{AllocError, Global};
@@ -139,6 +139,10 @@ impl<R: Wait + AllocGlobal + Drop, N: ServerHooks> ServerHooks for StatusKeeper<
 
     fn on_declined(&mut self, session: ClientSession, command: &DeclinedCommand<'_>) {
         self.within.on_declined(session, command);
+    }
+
+    fn on_unguaranteed(&mut self, session: ClientSession, login: &UnguaranteedLogin<'_>) {
+        self.within.on_unguaranteed(session, login);
     }
 
     fn on_refused(&mut self, peer: [u8; 4], why: NotServed) {

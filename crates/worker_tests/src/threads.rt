@@ -3,7 +3,6 @@
 ghost use Rattle.std.specs.Prelude.{◌≡◌, ℕ, true};
 ghost use Rattle.round_pace.specs.Histories.{rates_of};
 ghost use Rattle.lane_desk.specs.Seats.{desk_id};
-ghost use Rattle.lent_parts.specs.Names.{IsPassOf};
 ghost use Rattle.transfer_worker.specs.Boards.{board_id};
 
 use super::counted::End;
@@ -90,14 +89,12 @@ struct Board {
 }
 
 impl Board {
-    // A board on which both transfers wait.
+    // A board on which nothing waits.
     fn new(rt: &(impl Abort + AllocGlobal + Wait)) -> Board {
         let (board, mut passes) = open_board(rt.alloc(), 2, 2).expect(rt, "a board");
-        let (Some(mut one), Some(two)) = (passes.pop(), passes.pop()) else {
+        let (Some(one), Some(two)) = (passes.pop(), passes.pop()) else {
             panic!(rt; "two passes");
         };
-        holds(rt, board.push(rt, &mut one, file_for(FIRST)).is_ok());
-        holds(rt, board.push(rt, &mut one, file_for(SECOND)).is_ok());
         Board { board, one, two }
     }
 }
@@ -158,13 +155,11 @@ where
     (did_one_each, settle_house(rt, house, workers))
 }
 
-// A worker with a pass of the board with this name.
-fn hand_of<B: PartsName>(worker: LentWorker<B>, pass: BoardPass<Job>) -> Hand<B>
-    requires pass { IsPassOf B.board pass }
-{
+// A worker with passes of the boards with this name.
+fn hand_of<B: PartsName>(worker: LentWorker<B>, pass: LentPass<B, Job>) -> Hand<B> {
     Hand {
         worker,
-        pass: LentPass::new(pass),
+        pass,
         did: (0, false),
     }
 }
@@ -180,8 +175,18 @@ fn both<B: PartsName>(
     hands
 }
 
-// Both workers over the desk and the board with this name: whether each ran one job, and the settlement.
-fn work_both<B, R>(rt: &R, opened: Opened, board: Board) -> (bool, SettledNumbers)
+// The jobs of the two sessions, of which the second one's goes first.
+fn push_both<B: PartsName>(
+    rt: &(impl Abort + Wait),
+    board: &LentBoard<B, Job>,
+    pass: &mut LentPass<B, Job>,
+) {
+    holds(rt, board.push(rt, pass, file_for(FIRST), false).is_ok());
+    holds(rt, board.push(rt, pass, file_for(SECOND), true).is_ok());
+}
+
+// Both workers over the desk and the boards with this name: whether each ran one job, and the settlement.
+fn work_both<B, R>(rt: &R, opened: Opened, first: Board, others: Board) -> (bool, SettledNumbers)
 where
     B: PartsName + Send + Sync + 'static,
     R: Abort + AllocGlobal + Threads + Wait + Sync,
@@ -190,22 +195,26 @@ where
     requires rates { B.rates (rates_of opened.rounds.pace) ≡ true }
     requires carried { opened.rounds.carried ≡ B.carried }
     requires any { (moment : ℕ) → B.when moment ≡ true }
-    requires board { board_id board.board ≡ B.board }
+    requires first { board_id first.board ≡ B.first }
+    requires others { board_id others.board ≡ B.board }
 {
     let Lent {
         house,
-        first,
+        first: worker,
         second,
     } = Lent::<B>::new(opened);
-    let Board { board, one, two } = board;
-    let hands = both(rt, hand_of(first, one), hand_of(second, two));
-    work_and_settle(rt, house, LentBoard::new(board), hands)
+    let board = LentBoard::new(first.board, others.board);
+    let mut pass = LentPass::new(first.one, others.one);
+    let other = LentPass::new(first.two, others.two);
+    push_both(rt, &board, &mut pass);
+    let hands = both(rt, hand_of(worker, pass), hand_of(second, other));
+    work_and_settle(rt, house, board, hands)
 }
 
 #[test]
 fn one_transfer_waits_for_the_other(rt: HostRuntime) {
     let opened = Opened::new(&rt, 0);
-    let board = Board::new(&rt);
-    let (did_one_each, settled) = work_both::<Brand, _>(&rt, opened, board);
+    let (first, others) = (Board::new(&rt), Board::new(&rt));
+    let (did_one_each, settled) = work_both::<Brand, _>(&rt, opened, first, others);
     holds(&rt, did_one_each && settled.moved == 280_000);
 }

@@ -1,14 +1,14 @@
 use Rattle.std.proofs.Common.{None, Some, Bool, codes, false, inl, inr, refl, sym, [], ◌≡◌, ◌∙◌, ap, ap₂, subst, map, ℕ, List, Option, true}
 use Rattle.std.specs.Borrow.{Bor}
 use Rattle.command_line.specs.Commands.{ftpd}
-use Rattle.command_line.specs.Given.{IsCheckConfig, IsFound, IsLoggedBy, IsOfSheets, IsPlanWords, IsRefusal, IsServe, IsShare, IsStatusBy, IsTop}
+use Rattle.command_line.specs.Given.{IsCheckConfig, IsFound, IsLoggedBy, IsOfSheets, IsPlanWords, IsRefusal, IsServe, IsShare, IsStatusBy, IsTop, is_flagged}
 use Rattle.command_line.specs.Stated.{IsStatedBy, IsUnnumbered}
 use Rattle.command_line.specs.Timed.{usual_patience}
 use Rattle.command_line.specs.declared.numbers.NumberForm.TheVariants.{Lines, Port, Seconds}
 use Rattle.command_line.specs.declared.numbers.TheConstants.{ROWS}
 use Rattle.clap.specs.Words.{App, Row, Text, app_of, fault_of, is_simple, is_simple_and_free, first_of, subcommand_of, takes}
 use Rattle.command_line.proofs.AgainstWords.{checks_against, checks_against_json}
-use Rattle.command_line.proofs.Taken.{refused_by_none, ftpd_is_free, ftpd_is_simple, ftpd_checks, ftpd_pictures, ftpd_shares, checks_config, migrates, plans, plans_json, reports_json, scripts}
+use Rattle.command_line.proofs.Taken.{refused_by_none, ftpd_is_free, ftpd_is_simple, ftpd_checks, ftpd_pictures, ftpd_shares, checks_config, checks_running, migrates, plans, plans_json, reports_json, scripts}
 use Rattle.command_line.proofs.StatedNumbers.{no_port, number_plain, patient, refused_other, refused_stated, serve_stated, some_lines, some_port, top_stated, usual, usual_lines}
 use Rattle.command_line.proofs.ServeWords.{serves, serves_logged, serves_ready, serves_status, serves_timed, serves_until}
 use Rattle.command_line.proofs.TopWords.{tops, tops_once}
@@ -42,6 +42,10 @@ returns-in-Err-clause-check_against c = λ word other plain also are.
 pub returns-in-Err-clause-check_against_json : goal.returns-in-Err-clause-check_against_json
 returns-in-Err-clause-check_against_json c = λ word other plain also are.
     c.in-Err.ensures.takes (ap₂ takes c.in-Ok.ensures.ftpd are ∙ (checks_against_json word other plain also).taken)
+
+pub returns-in-Err-clause-check_running : goal.returns-in-Err-clause-check_running
+returns-in-Err-clause-check_running c = λ word plain are.
+    c.in-Err.ensures.takes (ap₂ takes c.in-Ok.ensures.ftpd are ∙ (checks_running word plain).taken)
 
 pub returns-in-Err-clause-migrate : goal.returns-in-Err-clause-migrate
 returns-in-Err-clause-migrate c = λ word plain are.
@@ -159,6 +163,13 @@ returns-in-Err-stated_numbers-clause-check_against c = λ word other plain also 
 pub returns-in-Err-stated_numbers-clause-check_against_json : goal.returns-in-Err-stated_numbers-clause-check_against_json
 returns-in-Err-stated_numbers-clause-check_against_json c = λ word other plain also are.
     let held = checks_against_json word other plain also in
+    let simple : is_simple (app_of c.in-Ok.command) ≡ true = ap is_simple c.in-Ok.ensures.ftpd ∙ ftpd_is_simple in
+    let entered = c.in-Ok-parsed.ensures.found simple ∙ ap₂ subcommand_of c.in-Ok.ensures.ftpd are ∙ held.entered in
+    refused_other _ (codes "check-config") held.rows _ refl refl entered c.in-Err-stated_numbers.ensures.refused
+
+pub returns-in-Err-stated_numbers-clause-check_running : goal.returns-in-Err-stated_numbers-clause-check_running
+returns-in-Err-stated_numbers-clause-check_running c = λ word plain are.
+    let held = checks_running word plain in
     let simple : is_simple (app_of c.in-Ok.command) ≡ true = ap is_simple c.in-Ok.ensures.ftpd ∙ ftpd_is_simple in
     let entered = c.in-Ok-parsed.ensures.found simple ∙ ap₂ subcommand_of c.in-Ok.ensures.ftpd are ∙ held.entered in
     refused_other _ (codes "check-config") held.rows _ refl refl entered c.in-Err-stated_numbers.ensures.refused
@@ -308,36 +319,50 @@ returns-clause-check_config c = λ word plain are.
     let held = checks_config word plain in
     let simple : is_simple (app_of c.in-Ok.command) ≡ true = ap is_simple c.in-Ok.ensures.ftpd ∙ ftpd_is_simple in
     let entered = c.in-Ok-parsed.ensures.found simple ∙ ap₂ subcommand_of c.in-Ok.ensures.ftpd are ∙ held.entered in
-    subst (λ (other : Option Text). IsCheckConfig word false other c.in-Some.words) held.alone
-    (subst (λ (flag : Bool). IsCheckConfig word flag (first_of (codes "against") held.rows) c.in-Some.words) held.unflagged
-    (check_config_is _ _ held.rows word entered held.config c.in-Some.ensures.found))
+    subst (λ (on : Bool). IsCheckConfig word false None on c.in-Some.words) held.still
+    (subst (λ (other : Option Text). IsCheckConfig word false other (is_flagged (codes "against-running") held.rows) c.in-Some.words) held.alone
+    (subst (λ (flag : Bool). IsCheckConfig word flag (first_of (codes "against") held.rows) (is_flagged (codes "against-running") held.rows) c.in-Some.words) held.unflagged
+    (check_config_is _ _ held.rows word entered held.config c.in-Some.ensures.found)))
 
 pub returns-clause-check_config_json : goal.returns-clause-check_config_json
 returns-clause-check_config_json c = λ word plain are.
     let held = reports_json word plain in
     let simple : is_simple (app_of c.in-Ok.command) ≡ true = ap is_simple c.in-Ok.ensures.ftpd ∙ ftpd_is_simple in
     let entered = c.in-Ok-parsed.ensures.found simple ∙ ap₂ subcommand_of c.in-Ok.ensures.ftpd are ∙ held.entered in
-    subst (λ (other : Option Text). IsCheckConfig word true other c.in-Some.words) held.alone
-    (subst (λ (flag : Bool). IsCheckConfig word flag (first_of (codes "against") held.rows) c.in-Some.words) held.flagged
-    (check_config_is _ _ held.rows word entered held.config c.in-Some.ensures.found))
+    subst (λ (on : Bool). IsCheckConfig word true None on c.in-Some.words) held.still
+    (subst (λ (other : Option Text). IsCheckConfig word true other (is_flagged (codes "against-running") held.rows) c.in-Some.words) held.alone
+    (subst (λ (flag : Bool). IsCheckConfig word flag (first_of (codes "against") held.rows) (is_flagged (codes "against-running") held.rows) c.in-Some.words) held.flagged
+    (check_config_is _ _ held.rows word entered held.config c.in-Some.ensures.found)))
 
 pub returns-clause-check_against : goal.returns-clause-check_against
 returns-clause-check_against c = λ word other plain also are.
     let held = checks_against word other plain also in
     let simple : is_simple (app_of c.in-Ok.command) ≡ true = ap is_simple c.in-Ok.ensures.ftpd ∙ ftpd_is_simple in
     let entered = c.in-Ok-parsed.ensures.found simple ∙ ap₂ subcommand_of c.in-Ok.ensures.ftpd are ∙ held.entered in
-    subst (λ (against : Option Text). IsCheckConfig word false against c.in-Some.words) held.against
-    (subst (λ (flag : Bool). IsCheckConfig word flag (first_of (codes "against") held.rows) c.in-Some.words) held.flag
-    (check_config_is _ _ held.rows word entered held.config c.in-Some.ensures.found))
+    subst (λ (on : Bool). IsCheckConfig word false (Some other) on c.in-Some.words) held.still
+    (subst (λ (against : Option Text). IsCheckConfig word false against (is_flagged (codes "against-running") held.rows) c.in-Some.words) held.against
+    (subst (λ (flag : Bool). IsCheckConfig word flag (first_of (codes "against") held.rows) (is_flagged (codes "against-running") held.rows) c.in-Some.words) held.flag
+    (check_config_is _ _ held.rows word entered held.config c.in-Some.ensures.found)))
 
 pub returns-clause-check_against_json : goal.returns-clause-check_against_json
 returns-clause-check_against_json c = λ word other plain also are.
     let held = checks_against_json word other plain also in
     let simple : is_simple (app_of c.in-Ok.command) ≡ true = ap is_simple c.in-Ok.ensures.ftpd ∙ ftpd_is_simple in
     let entered = c.in-Ok-parsed.ensures.found simple ∙ ap₂ subcommand_of c.in-Ok.ensures.ftpd are ∙ held.entered in
-    subst (λ (against : Option Text). IsCheckConfig word true against c.in-Some.words) held.against
-    (subst (λ (flag : Bool). IsCheckConfig word flag (first_of (codes "against") held.rows) c.in-Some.words) held.flag
-    (check_config_is _ _ held.rows word entered held.config c.in-Some.ensures.found))
+    subst (λ (on : Bool). IsCheckConfig word true (Some other) on c.in-Some.words) held.still
+    (subst (λ (against : Option Text). IsCheckConfig word true against (is_flagged (codes "against-running") held.rows) c.in-Some.words) held.against
+    (subst (λ (flag : Bool). IsCheckConfig word flag (first_of (codes "against") held.rows) (is_flagged (codes "against-running") held.rows) c.in-Some.words) held.flag
+    (check_config_is _ _ held.rows word entered held.config c.in-Some.ensures.found)))
+
+pub returns-clause-check_running : goal.returns-clause-check_running
+returns-clause-check_running c = λ word plain are.
+    let held = checks_running word plain in
+    let simple : is_simple (app_of c.in-Ok.command) ≡ true = ap is_simple c.in-Ok.ensures.ftpd ∙ ftpd_is_simple in
+    let entered = c.in-Ok-parsed.ensures.found simple ∙ ap₂ subcommand_of c.in-Ok.ensures.ftpd are ∙ held.entered in
+    subst (λ (on : Bool). IsCheckConfig word false None on c.in-Some.words) held.on
+    (subst (λ (other : Option Text). IsCheckConfig word false other (is_flagged (codes "against-running") held.rows) c.in-Some.words) held.alone
+    (subst (λ (flag : Bool). IsCheckConfig word flag (first_of (codes "against") held.rows) (is_flagged (codes "against-running") held.rows) c.in-Some.words) held.unflagged
+    (check_config_is _ _ held.rows word entered held.config c.in-Some.ensures.found)))
 
 pub returns-clause-migrate : goal.returns-clause-migrate
 returns-clause-migrate c = λ word plain are.

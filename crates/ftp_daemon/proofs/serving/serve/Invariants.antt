@@ -10,5 +10,6 @@ ghosts-serve_named g a = record {
   rates = may_hold a.service.limits g.P.OwnerSigns.allows;
   carried = a.line.book.issued;
   when = g.R.RoundClock.when;
-  board = board_id a.board;
+  first = board_id a.boards.first;
+  board = board_id a.boards.others;
 }

@@ -1,6 +1,7 @@
 use Rattle.std.proofs.Common.{false, true}
 use Rattle.command_line.specs.declared.numbers.TheConstants.{ROWS}
-use Rattle.ftpd_program.proofs.Ends.{against_end, check_end, migrate_end, plan_end, report_end, script_end, serve_end, share_end, top_end}
+use Rattle.ftpd_program.specs.declared.against.TheConstants.{RUNNING_FILE}
+use Rattle.ftpd_program.proofs.Ends.{against_end, check_end, migrate_end, plan_end, report_end, running_end, script_end, serve_end, share_end, top_end}
 use Rattle.ftpd_program.proofs.NoWords.{no_against, no_print, no_serve, no_top, second_of_three, second_word, third_of_four, third_word}
 use Rattle.ftpd_program.specs.declared.printing.Print.TheVariants.{Plan, PlanJson, Report, ReportJson}
 use Rattle.ftpd_program.proofs.run.run_words.Goals as goal
@@ -46,6 +47,12 @@ returns-in-Ok-clause-check_against_json g c = λ config other plain also are.
     let old = g.W.TextWriter.contents c.args.output.now in
     let new = g.W.TextWriter.contents c.run_command.new.output in
     against_end _ (g.O.Lookout.Shows c.run_command.new.files) g.V.Server.Serves _ _ _ _ _ old new _ (c.in-Ok.ensures.check_against_json config other plain also are) c.run_command.ensures.end
+
+pub returns-in-Ok-clause-check_running : goal.returns-in-Ok-clause-check_running
+returns-in-Ok-clause-check_running g c = λ config plain are.
+    let old = g.W.TextWriter.contents c.args.output.now in
+    let new = g.W.TextWriter.contents c.run_command.new.output in
+    running_end _ (g.O.Lookout.Shows c.run_command.new.files) g.V.Server.Serves _ _ _ _ old new _ (c.in-Ok.ensures.check_running config plain are) c.run_command.ensures.end
 
 pub returns-in-Ok-clause-migrate : goal.returns-in-Ok-clause-migrate
 returns-in-Ok-clause-migrate g c = λ config plain are.
@@ -124,6 +131,10 @@ returns-in-Err-clause-check_against g c = λ config other plain also are.
 pub returns-in-Err-clause-check_against_json : goal.returns-in-Err-clause-check_against_json
 returns-in-Err-clause-check_against_json g c = λ config other plain also are.
     no_against true (g.O.Opener.Gives c.args.files.now) config other (g.W.TextWriter.may_refuse c.args.output.now) _ _ _ _ (c.in-Err.ensures.check_against_json config other plain also are) c.report.ensures.reported
+
+pub returns-in-Err-clause-check_running : goal.returns-in-Err-clause-check_running
+returns-in-Err-clause-check_running g c = λ config plain are.
+    no_against false (g.O.Opener.Gives c.args.files.now) config RUNNING_FILE.now (g.W.TextWriter.may_refuse c.args.output.now) _ _ _ _ (c.in-Err.ensures.check_running config plain are) c.report.ensures.reported
 
 pub returns-in-Err-clause-serve_ready : goal.returns-in-Err-clause-serve_ready
 returns-in-Err-clause-serve_ready g c = λ config path ready plain also third are.

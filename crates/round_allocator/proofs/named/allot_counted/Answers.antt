@@ -8,8 +8,8 @@ use Rattle.round_allocator.proofs.Rooms.{bottlenecks-exhausted}
 use Rattle.round_allocator.proofs.Names.{named-backed}
 use Rattle.round_allocator.proofs.named.allot_counted.Goals as goal
 
-pub name-requires : goal.name-requires
-name-requires g c =
+pub deepest_entries-requires : goal.deepest_entries-requires
+deepest_entries-requires g c =
     record { grants = subst (IsWanted (limits c.in_ok-flat.flat)) (sym c.deref.ensures.value) c.in_ok-grants.ensures.within.wanted }
 
 pub returns-clause-within : goal.returns-clause-within

@@ -1,0 +1,10 @@
+use Rattle.std.proofs.Common.{ℕ, ◌<◌}
+use Rattle.limit_tree.specs.Outline.{limits}
+use Rattle.limit_tree.specs.Sharing.{IsUnmet}
+use Rattle.grant_certificate.specs.Users.{HasUserNeck}
+use Rattle.grant_certificate.proofs.by_users.are_backed.Given as goal
+
+abbrev pub invariant-loop-leaf : goal.invariant-loop-leaf
+invariant-loop-leaf g l =
+    (i : ℕ) → i < l.leaf → IsUnmet (limits l.tree) l.grants i
+    → HasUserNeck (limits l.tree) l.owners l.grants l.entries i

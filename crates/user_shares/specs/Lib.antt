@@ -1,0 +1,4 @@
+pub mod Nodes
+pub mod Rebuilt
+pub mod Stages
+pub mod Kinds

@@ -175,14 +175,15 @@ fn both<B: PartsName>(
     hands
 }
 
-// The jobs of the two sessions, of which the second one's goes first.
+// The jobs of the two sessions. That of the first goes first, though it comes last: a worker that took the other before it
+// could run both.
 fn push_both<B: PartsName>(
     rt: &(impl Abort + Wait),
     board: &LentBoard<B, Job>,
     pass: &mut LentPass<B, Job>,
 ) {
-    holds(rt, board.push(rt, pass, file_for(FIRST), false).is_ok());
-    holds(rt, board.push(rt, pass, file_for(SECOND), true).is_ok());
+    holds(rt, board.push(rt, pass, file_for(SECOND), false).is_ok());
+    holds(rt, board.push(rt, pass, file_for(FIRST), true).is_ok());
 }
 
 // Both workers over the desk and the boards with this name: whether each ran one job, and the settlement.

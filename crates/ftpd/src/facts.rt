@@ -3,7 +3,7 @@
 use event_word::micros;
 use line_rates::{Limits, Name, Way};
 use server_config::Config;
-use status_keeper::StatusFacts;
+use status_keeper::{StatedGroup, StatusFacts};
 use std::alloc::Global;
 use std::time::Clock;
 
@@ -44,6 +44,29 @@ pub(crate) fn copied_limits(alloc: Global, limits: &Limits) -> Option<Limits> {
     Limits::of(both, down, up, groups, users).ok()
 }
 
+/// The groups that a configuration has, with their numbers. `None` if memory runs out.
+fn stated_groups(alloc: Global, config: &Config) -> Option<Vec<StatedGroup>> {
+    let mut stated = Vec::with_capacity(alloc, config.limits.groups().len()).ok()?;
+    for row in config.limits.groups() {
+        let name = config.groups.get(row.group as usize)?;
+        let name = String::from_str(alloc, name.as_str()).ok()?;
+        let number = row.group;
+        stated.push(StatedGroup { name, number }).ok()?;
+    }
+    Some(stated)
+}
+
+/// The names of all groups of a configuration that has its numbers, those of the past too. `None` if memory runs out.
+fn group_names(alloc: Global, config: &Config) -> Option<Vec<String>> {
+    let mut names = Vec::with_capacity(alloc, config.groups.len()).ok()?;
+    for name in &config.groups {
+        names
+            .push(String::from_str(alloc, name.as_str()).ok()?)
+            .ok()?;
+    }
+    Some(names)
+}
+
 /// The facts for a status of a configuration, of the limits in force, with rows of the past, and of a start. `None` if
 /// memory runs out.
 pub(crate) fn facts_of(
@@ -52,15 +75,10 @@ pub(crate) fn facts_of(
     config: &Config,
     limits: &Limits,
 ) -> Option<StatusFacts> {
-    let mut groups = Vec::with_capacity(alloc, config.groups.len()).ok()?;
-    for name in &config.groups {
-        groups
-            .push(String::from_str(alloc, name.as_str()).ok()?)
-            .ok()?;
-    }
     Some(StatusFacts {
         limits: copied_limits(alloc, limits)?,
-        groups,
+        stated: stated_groups(alloc, config)?,
+        groups: group_names(alloc, config)?,
         users: config.limits.users().len() as u64,
         lanes: u64::from(config.numbers.lanes),
         max_sessions: u64::from(config.numbers.max_cons),

@@ -25,6 +25,7 @@ use Rattle.server_status.specs.declared.status.Status.{Status}
 use Rattle.server_status.specs.declared.status.TransferStatus.{TransferStatus}
 use Rattle.status_keeper.specs.declared.facts.Counts.{Counts}
 use Rattle.status_keeper.specs.declared.facts.KeptTransfer.{KeptTransfer}
+use Rattle.status_keeper.specs.declared.facts.StatedGroup.{StatedGroup}
 use Rattle.status_keeper.specs.declared.facts.StatusFacts.{StatusFacts}
 
 -- the calls of the machine that an end waits for, as this event or one before it told
@@ -102,17 +103,18 @@ abbrev pub rounds_with : HeldTally → List LaneLook → HeldTally
 rounds_with held [] = held
 rounds_with held (l ∷ ls) = rounds_with (held_sum held (all_rounds l.tally)) ls
 
--- the groups, with their names and rates
-abbrev pub IsGroup : StatusFacts → ℕ → GroupStatus → Type 0
-IsGroup facts number group =
-    (option_map string_bytes (slice_get facts.groups.items number)
-    ≡ Some (string_bytes group.name))
-    × (group.down ≡ rate_of facts.limits (Group Down number))
-    × (group.up ≡ rate_of facts.limits (Group Up number))
+-- a group, with its name and its rates
+abbrev pub IsGroup : Rates → StatedGroup → GroupStatus → Type 0
+IsGroup rates stated group =
+    (string_bytes group.name ≡ string_bytes stated.name)
+    × (group.down ≡ rate_of rates (Group Down stated.number))
+    × (group.up ≡ rate_of rates (Group Up stated.number))
 
+-- a row for each group that the configuration has, in its order
 pub record AreGroups (facts : StatusFacts) (groups : List GroupStatus) : Type 0 where
-  pub count : length groups ≡ length facts.groups.items
-  pub each : (i : ℕ) (g : GroupStatus) → slice_get groups i ≡ Some g → IsGroup facts i g
+  pub count : length groups ≡ length facts.stated.items
+  pub each : (i : ℕ) (g : GroupStatus) → slice_get groups i ≡ Some g
+      → (s : StatedGroup) × (slice_get facts.stated.items i ≡ Some s) × IsGroup facts.limits s g
 
 abbrev pub line_of : Rates → LineRates
 line_of rates = record {

@@ -3,12 +3,23 @@
 use line_rates::Limits;
 use server_house::TransferKind;
 
+/// A group that a configuration has.
+#[derive(Drop)]
+pub struct StatedGroup {
+    pub name: String,
+    /// The number by which rates identify it.
+    pub number: u32,
+}
+
 /// The facts of a configuration, and of the start of a server, that a status has.
 #[derive(Drop)]
 pub struct StatusFacts {
     /// The limits of the line, of its groups and of its users.
     pub limits: Limits,
-    /// The names of the groups, by their numbers.
+    /// The groups of the configuration.
+    pub stated: Vec<StatedGroup>,
+    /// The names of all groups by their numbers, those that the configuration has no longer too: a session of a user whom a
+    /// reload removed goes on under the limits of their group.
     pub groups: Vec<String>,
     /// Number of users.
     pub users: u64,

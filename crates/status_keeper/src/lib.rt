@@ -13,6 +13,6 @@ mod making;
 mod shown;
 
 pub use cell::StatusCell;
-pub use facts::{Counts, KeptTransfer, StatusFacts};
+pub use facts::{Counts, KeptTransfer, StatedGroup, StatusFacts};
 pub use keeper::StatusKeeper;
 pub use making::status_of;

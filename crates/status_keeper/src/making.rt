@@ -3,9 +3,9 @@
 ghost use Rattle.std.specs.Prelude.{◌≡◌, ◌+◌, IfNone, IfOk, IfSome, None, option_map, string_bytes};
 ghost use Rattle.std.specs.FinMap as finite;
 ghost use Rattle.line_rates.specs.Rates.{floor_rate};
-ghost use Rattle.status_keeper.specs.Made.{AreGroups, AreRows, IsLaneOf, IsRow, IsStatus, direction_of, granted_in, group_in, line_of, rounds_of, rounds_with, way_of};
+ghost use Rattle.status_keeper.specs.Made.{AreGroups, AreRows, IsGroup, IsLaneOf, IsRow, IsStatus, direction_of, granted_in, group_in, line_of, rounds_of, rounds_with, way_of};
 
-use crate::facts::{Counts, KeptTransfer, StatusFacts};
+use crate::facts::{Counts, KeptTransfer, StatedGroup, StatusFacts};
 use line_rates::{Limits, Name, Way};
 use round_tally::HeldTally;
 use server_house::{LaneLook, ServerLook, TransferKind};
@@ -177,21 +177,24 @@ fn rounds_with(before: HeldTally, lanes: &[LaneLook]) -> HeldTally
     held
 }
 
-// The groups with their rates.
+// A group with its rates.
+fn group_of(alloc: Global, limits: &Limits, stated: &StatedGroup) -> Result<GroupStatus, AllocError>
+    ensures group { IfOk result (IsGroup limits.now stated.now) }
+{
+    Ok(GroupStatus {
+        name: String::from_str(alloc, stated.name.as_str())?,
+        down: limits.rate(Name::Group(Way::Down, stated.number)),
+        up: limits.rate(Name::Group(Way::Up, stated.number)),
+    })
+}
+
+// The groups of the configuration with their rates, in its order.
 fn groups_of(alloc: Global, facts: &StatusFacts) -> Result<Vec<GroupStatus>, AllocError>
     ensures groups { IfOk result (λ groups. AreGroups facts.now groups.items) }
 {
-    let mut groups = Vec::with_capacity(alloc, facts.groups.len())?;
-    for group in 0..facts.groups.len() {
-        // A configuration has fewer groups.
-        let Ok(number) = u32::try_from(group) else {
-            return Err(AllocError);
-        };
-        groups.push(GroupStatus {
-            name: String::from_str(alloc, facts.groups[group].as_str())?,
-            down: facts.limits.rate(Name::Group(Way::Down, number)),
-            up: facts.limits.rate(Name::Group(Way::Up, number)),
-        })?;
+    let mut groups = Vec::with_capacity(alloc, facts.stated.len())?;
+    for place in 0..facts.stated.len() {
+        groups.push(group_of(alloc, &facts.limits, &facts.stated[place])?)?;
     }
     Ok(groups)
 }

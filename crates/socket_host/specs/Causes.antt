@@ -33,7 +33,7 @@ absence (Some error) = cause.NotAccepted error
 -- with nothing prepared the transfer ends at once, for that reason
 abbrev pub StartCause : Prepared → Option EndCause → Type 0
 StartCause prepared.Nothing new = new ≡ Some cause.NothingPrepared
-StartCause (prepared.Listening listener port) new = ⊤
+StartCause (prepared.Listening port) new = ⊤
 StartCause (prepared.Target to) new = ⊤
 
 -- the reason for an end of a moving transfer: an abort, or what the end and the error say
@@ -45,7 +45,7 @@ module _ {R K : Type 0} where
   -- an aborted transfer that is over by that
   abbrev pub AbortedCause : Running R K → Option EndCause → Option EndCause → Type 0
   AbortedCause running.Nothing old new = new ≡ old
-  AbortedCause (running.Awaited listener port job since) old new = new ≡ old
+  AbortedCause (running.Awaited port job since) old new = new ≡ old
   AbortedCause (running.Connecting outgoing job since) old new = new ≡ old
   AbortedCause (running.Moving connection is_aborted) old new = new ≡ old
   AbortedCause (running.Over reported) old new = new ≡ Some cause.Aborted
@@ -54,7 +54,7 @@ module _ {R K : Type 0} where
   abbrev pub AbortCause
       : Running R K → Running R K → Option EndCause → Option EndCause → Type 0
   AbortCause running.Nothing after old new = new ≡ old
-  AbortCause (running.Awaited listener port job since) after old new = new ≡ Some cause.Aborted
+  AbortCause (running.Awaited port job since) after old new = new ≡ Some cause.Aborted
   AbortCause (running.Connecting outgoing job since) after old new = new ≡ Some cause.Aborted
   AbortCause (running.Moving connection is_aborted) after old new = AbortedCause after old new
   AbortCause (running.Over reported) after old new = new ≡ old
@@ -62,7 +62,7 @@ module _ {R K : Type 0} where
   -- a transfer without a connection may end for a reason of its own
   abbrev pub GoesCause : Running R K → Option EndCause → Option EndCause → Type 0
   GoesCause running.Nothing old new = new ≡ old
-  GoesCause (running.Awaited listener port job since) old new = ⊤
+  GoesCause (running.Awaited port job since) old new = ⊤
   GoesCause (running.Connecting outgoing job since) old new = ⊤
   GoesCause (running.Moving connection is_aborted) old new = new ≡ old
   GoesCause (running.Over reported) old new = new ≡ old
@@ -71,7 +71,7 @@ module _ {R K : Type 0} where
   abbrev pub TakenCause
       : Running R K → Option (TransferEnd K) → Option EndCause → Option EndCause → Type 0
   TakenCause running.Nothing end old new = new ≡ old
-  TakenCause (running.Awaited listener port job since) end old new = new ≡ old
+  TakenCause (running.Awaited port job since) end old new = new ≡ old
   TakenCause (running.Connecting outgoing job since) end old new = new ≡ old
   TakenCause (running.Moving connection is_aborted) None old new = new ≡ old
   TakenCause (running.Moving connection is_aborted) (Some reported) old new =
@@ -82,7 +82,7 @@ module _ {R K : Type 0} where
   abbrev pub LookCause
       : Running R K → Option (Input Global K) → Option EndCause → Option EndCause → Type 0
   LookCause running.Nothing event old new = new ≡ old
-  LookCause (running.Awaited listener port job since) event old new = ⊤
+  LookCause (running.Awaited port job since) event old new = ⊤
   LookCause (running.Connecting outgoing job since) event old new = ⊤
   LookCause (running.Moving connection is_aborted) None old new = new ≡ old
   LookCause (running.Moving connection is_aborted) (Some (TransferEnded end sink)) old new =

@@ -15,5 +15,6 @@ pub mod Doing
 pub mod DoingLaws
 pub mod Hosted
 pub mod Lending
+pub mod Patience
 pub mod Payers
 pub mod Waiting

@@ -1,7 +1,6 @@
 -- The transfer of a session, step by step.
 use Rattle.std.specs.Prelude.{◌≡◌, ◌⊎◌, ⊤, ℕ, ◌+◌, ◌/◌, ◌<◌, max, min, Bool, true, false, not, ◌||◌, IsTrue, Option, Some, None}
 use Rattle.std.specs.declared.alloc.Global.{Global}
-use Rattle.std.specs.declared.net.tcp.TcpListener.{TcpListener}
 use Rattle.server_house.specs.declared.connection.DataConnection.{DataConnection}
 use Rattle.server_house.specs.declared.transfer_end.TransferEnd.{TransferEnd}
 use Rattle.server_house.specs.declared.served.Served.{Served}
@@ -13,6 +12,7 @@ use Rattle.session_table.specs.declared.inputs.End.TheVariants.{NoConnection, No
 use Rattle.session_table.specs.declared.inputs.Input.{Input}
 use Rattle.session_table.specs.declared.inputs.Input.TheVariants.{TransferEnded}
 use Rattle.socket_host.specs.Jobs.{sink_in, sink_of}
+use Rattle.socket_host.specs.declared.ports.LeasedPort.{LeasedPort}
 use Rattle.socket_host.specs.declared.run.Taken.{Taken}
 use Rattle.socket_host.specs.declared.run.Taken.TheVariants as taken
 use Rattle.socket_host.specs.declared.running.Prepared.{Prepared}
@@ -27,13 +27,18 @@ use Rattle.transfer_worker.specs.declared.job.LaneJob.{LaneJob}
 -- the port that is listened on
 abbrev pub port_in : Prepared → Option ℕ
 port_in prepared.Nothing = None
-port_in (prepared.Listening listener port) = Some port
+port_in (prepared.Listening port) = Some port.number
 port_in (prepared.Target to) = None
+
+abbrev pub listened_in : Prepared → Option LeasedPort
+listened_in prepared.Nothing = None
+listened_in (prepared.Listening port) = Some port
+listened_in (prepared.Target to) = None
 
 -- a port is listened on, or nothing is prepared
 abbrev pub IsNoTarget : Prepared → Type 0
 IsNoTarget prepared.Nothing = ⊤
-IsNoTarget (prepared.Listening listener port) = ⊤
+IsNoTarget (prepared.Listening port) = ⊤
 IsNoTarget (prepared.Target to) = ⊥
 
 -- the report of an end
@@ -101,7 +106,7 @@ module _ {R K : Type 0} where
   -- something was begun whose end is not reported
   abbrev pub is_busy : Running R K → Bool
   is_busy running.Nothing = false
-  is_busy (running.Awaited listener port job since) = true
+  is_busy (running.Awaited port job since) = true
   is_busy (running.Connecting outgoing job since) = true
   is_busy (running.Moving connection is_aborted) = true
   is_busy (running.Over reported) = true
@@ -109,7 +114,7 @@ module _ {R K : Type 0} where
   -- a transfer is on the ticket
   abbrev pub is_moving : Running R K → Bool
   is_moving running.Nothing = false
-  is_moving (running.Awaited listener port job since) = false
+  is_moving (running.Awaited port job since) = false
   is_moving (running.Connecting outgoing job since) = false
   is_moving (running.Moving connection is_aborted) = true
   is_moving (running.Over reported) = false
@@ -117,7 +122,7 @@ module _ {R K : Type 0} where
   -- it was aborted
   abbrev pub is_aborted_in : Running R K → Bool
   is_aborted_in running.Nothing = false
-  is_aborted_in (running.Awaited listener port job since) = false
+  is_aborted_in (running.Awaited port job since) = false
   is_aborted_in (running.Connecting outgoing job since) = false
   is_aborted_in (running.Moving connection is_aborted) = is_aborted
   is_aborted_in (running.Over reported) = false
@@ -129,7 +134,7 @@ module _ {R K : Type 0} where
   -- lanes have the transfer, or it is over since there was no memory for it
   abbrev pub IsHandedOver : Job Global R K → Running R K → Type 0
   IsHandedOver job running.Nothing = ⊥
-  IsHandedOver job (running.Awaited listener port waiting since) = ⊥
+  IsHandedOver job (running.Awaited port waiting since) = ⊥
   IsHandedOver job (running.Connecting outgoing waiting since) = ⊥
   IsHandedOver job (running.Moving connection is_aborted) = is_aborted ≡ false
   IsHandedOver job (running.Over reported) = running.Over reported ≡ over NoMemory job
@@ -142,21 +147,21 @@ module _ {R K : Type 0} where
 
   -- the same job waits at the same port since the same moment, and not too long, or it was handed
   -- over, or no client came in time
-  abbrev pub IsAwaited : TcpListener → ℕ → Job Global R K → ℕ → ℕ → Running R K → Type 0
-  IsAwaited listener port job since now running.Nothing = ⊥
-  IsAwaited listener port job since now (running.Awaited again at waiting moment) =
-      (again ≡ listener) × (at ≡ port) × (waiting ≡ job) × (moment ≡ since)
+  abbrev pub IsAwaited : LeasedPort → Job Global R K → ℕ → ℕ → Running R K → Type 0
+  IsAwaited port job since now running.Nothing = ⊥
+  IsAwaited port job since now (running.Awaited at waiting moment) =
+      (at ≡ port) × (waiting ≡ job) × (moment ≡ since)
       × (¬ (since + client_time < now))
-  IsAwaited listener port job since now (running.Connecting outgoing waiting moment) = ⊥
-  IsAwaited listener port job since now (running.Moving connection is_aborted) = is_aborted ≡ false
-  IsAwaited listener port job since now (running.Over reported) =
+  IsAwaited port job since now (running.Connecting outgoing waiting moment) = ⊥
+  IsAwaited port job since now (running.Moving connection is_aborted) = is_aborted ≡ false
+  IsAwaited port job since now (running.Over reported) =
       IsUnbegun job reported × (reported.end ≡ NoConnection → since + client_time < now)
 
   -- the same job waits for the client's port since the same moment, and not too long, or it was
   -- handed over, or there was no connection in time
   abbrev pub IsConnecting : Job Global R K → ℕ → ℕ → Running R K → Type 0
   IsConnecting job since now running.Nothing = ⊥
-  IsConnecting job since now (running.Awaited listener port waiting moment) = ⊥
+  IsConnecting job since now (running.Awaited port waiting moment) = ⊥
   IsConnecting job since now (running.Connecting outgoing waiting moment) =
       (waiting ≡ job) × (moment ≡ since) × (¬ (since + answer_time < now))
   IsConnecting job since now (running.Moving connection is_aborted) = is_aborted ≡ false
@@ -166,7 +171,7 @@ module _ {R K : Type 0} where
   abbrev pub Starts : Prepared → Job Global R K → ℕ → Running R K → Type 0
   Starts prepared.Nothing job now new = new ≡ over NoConnection job
   Starts (prepared.Target to) job now new = IsConnecting job now now new
-  Starts (prepared.Listening listener port) job now new = IsAwaited listener port job now now new
+  Starts (prepared.Listening port) job now new = IsAwaited port job now now new
 
   -- A transfer on a ticket is taken back if no lane has begun it: then it is over, and its sink
   -- comes back. Otherwise it is marked, and its lane is asked to stop, unless it has ended.
@@ -181,7 +186,7 @@ module _ {R K : Type 0} where
   -- lane runs is marked
   abbrev pub Aborts : Ticket R K → Running R K → Running R K → Type 0
   Aborts view running.Nothing new = new ≡ running.Nothing
-  Aborts view (running.Awaited listener port job since) new = new ≡ over Aborted job
+  Aborts view (running.Awaited port job since) new = new ≡ over Aborted job
   Aborts view (running.Connecting outgoing job since) new = new ≡ over Aborted job
   Aborts view (running.Moving connection is_aborted) new =
       (view' : Ticket R K) × Stops view connection new view'
@@ -189,8 +194,8 @@ module _ {R K : Type 0} where
 
   -- only a transfer without a connection goes on by itself
   abbrev pub GoesOn : ℕ → Running R K → Running R K → Type 0
-  GoesOn now (running.Awaited listener port job since) new =
-      IsAwaited listener port job since now new
+  GoesOn now (running.Awaited port job since) new =
+      IsAwaited port job since now new
   GoesOn now (running.Connecting outgoing job since) new = IsConnecting job since now new
   GoesOn now running.Nothing new = new ≡ running.Nothing
   GoesOn now (running.Moving connection is_aborted) new = new ≡ running.Moving connection is_aborted
@@ -204,9 +209,9 @@ module _ {R K : Type 0} where
       × (is_aborted ≡ false → HasSinkOf (has_upload view) reported)
 
   -- the port that a client is awaited at
-  abbrev pub port_of : Running R K → Option (TcpListener × ℕ)
+  abbrev pub port_of : Running R K → Option LeasedPort
   port_of running.Nothing = None
-  port_of (running.Awaited listener port job since) = Some (listener, port)
+  port_of (running.Awaited port job since) = Some port
   port_of (running.Connecting outgoing job since) = None
   port_of (running.Moving connection is_aborted) = None
   port_of (running.Over reported) = None
@@ -219,8 +224,8 @@ module _ {R K : Type 0} where
   -- an end is taken as it is known to the session, or as a lane reports it
   abbrev pub Takes : Ticket R K → Running R K → Taken K → Running R K → Type 0
   Takes view running.Nothing found new = (found ≡ taken.Nothing) × (new ≡ running.Nothing)
-  Takes view (running.Awaited listener port job since) found new =
-      (found ≡ taken.Nothing) × (new ≡ running.Awaited listener port job since)
+  Takes view (running.Awaited port job since) found new =
+      (found ≡ taken.Nothing) × (new ≡ running.Awaited port job since)
   Takes view (running.Connecting outgoing job since) found new =
       (found ≡ taken.Nothing) × (new ≡ running.Connecting outgoing job since)
   Takes view (running.Moving connection is_aborted) taken.Nothing new =
@@ -235,8 +240,8 @@ module _ {R K : Type 0} where
   abbrev pub TakesEnd
       : Ticket R K → Running R K → Option (TransferEnd K) → Running R K → Type 0
   TakesEnd view running.Nothing end new = (end ≡ None) × (new ≡ running.Nothing)
-  TakesEnd view (running.Awaited listener port job since) end new =
-      (end ≡ None) × (new ≡ running.Awaited listener port job since)
+  TakesEnd view (running.Awaited port job since) end new =
+      (end ≡ None) × (new ≡ running.Awaited port job since)
   TakesEnd view (running.Connecting outgoing job since) end new =
       (end ≡ None) × (new ≡ running.Connecting outgoing job since)
   TakesEnd view (running.Moving connection is_aborted) None new =
@@ -258,7 +263,7 @@ module _ {R K : Type 0} where
   -- that it had moved. One without a connection is aborted.
   abbrev pub Settles : Running R K → Option (Input Global K) → ℕ → Type 0
   Settles running.Nothing event moved = event ≡ None
-  Settles (running.Awaited listener port job since) event moved =
+  Settles (running.Awaited port job since) event moved =
       (event ≡ Some (TransferEnded Aborted (sink_in job))) × (moved ≡ 0)
   Settles (running.Connecting outgoing job since) event moved =
       (event ≡ Some (TransferEnded Aborted (sink_in job))) × (moved ≡ 0)
@@ -271,7 +276,7 @@ module _ {R K : Type 0} where
   -- true if there is something to report; either value for a moving transfer
   abbrev pub RestsOn : Running R K → Bool → Type 0
   RestsOn running.Nothing result = result ≡ false
-  RestsOn (running.Awaited listener port job since) result = result ≡ false
+  RestsOn (running.Awaited port job since) result = result ≡ false
   RestsOn (running.Connecting outgoing job since) result = result ≡ false
   RestsOn (running.Moving connection is_aborted) result = ⊤
   RestsOn (running.Over reported) result = result ≡ true

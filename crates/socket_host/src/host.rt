@@ -1,6 +1,6 @@
 //! The host of a control session.
 
-ghost use Rattle.std.specs.Prelude.{◌≡◌, ◌<◌, IfErr, IfOk, IfSome, OnErr, [], length, option_map, string_bytes, true};
+ghost use Rattle.std.specs.Prelude.{◌≡◌, ◌<◌, IfErr, IfOk, IfSome, OnErr, [], false, length, option_map, string_bytes, true};
 ghost use Rattle.std.specs.declared.alloc.Global.{Global};
 ghost use Rattle.control_session.specs.Calls.{reads_within};
 ghost use Rattle.control_session.specs.Rows.{IsRow};
@@ -10,6 +10,7 @@ ghost use Rattle.session_core.specs.Events.{is_event};
 ghost use Rattle.session_table.specs.Views.{is_closed};
 ghost use Rattle.socket_host.specs.Records.{path_of};
 ghost use Rattle.socket_host.specs.Standing.{Follows};
+ghost use Rattle.socket_host.specs.Patience.{FollowsInWaits, delay_of, is_wrong_after};
 ghost use Rattle.socket_host.specs.Doing.{SocketDoes, Stays, kept_users};
 ghost use Rattle.socket_host.specs.Lending.{LentFor, RefusedFor};
 
@@ -42,7 +43,7 @@ use server_house::{
 use session_table::{Action, HookCall, Input, Job, Settings, Text};
 use std::alloc::{AllocError, Global};
 use std::time::Duration;
-use std::{io, thread};
+use std::{io, mem, thread};
 use virtual_path::VPath;
 use virtual_tree::Store;
 
@@ -278,6 +279,9 @@ where
 
     // Lets this many seconds pass, without a lock; ends early if the server ends, or its owner has ended the session.
     fn delay(&self, seconds: u32) {
+        if seconds == 0 {
+            return;
+        }
         let since = micros(self.rt);
         for _ in self.rt.forever() {
             let ends = self.is_ending() || self.is_ended();
@@ -288,20 +292,25 @@ where
         }
     }
 
-    // Delays the reply to a wrong password.
-    fn delay_wrong(&mut self)
+    // The seconds by which the next reply is delayed: those of the server if it is to a wrong password.
+    fn take_delay(&mut self) -> u32
+        ensures delay { result ≡ delay_of self.old.is_wrong self.old.side.house.now.patience }
+        ensures taken { self.new.is_wrong ≡ false }
         ensures standing { self.new.standing ≡ self.old.standing }
         ensures side { self.new.side ≡ self.old.side }
     {
-        if self.is_wrong {
-            self.is_wrong = false;
-            self.delay(self.side.house.patience.login_delay);
+        if mem::replace(&mut self.is_wrong, false) {
+            self.side.house.patience.login_delay
+        } else {
+            0
         }
     }
 
-    // Follows who is logged in, and when.
+    // Follows who is logged in, and when, and whether the next reply is to a wrong password.
     fn follow(&mut self, call: &HookCall<Global>)
         ensures follows { Follows self.old.standing call.now self.new.standing }
+        ensures waits { FollowsInWaits self.old.waits call.now self.new.waits }
+        ensures wrong { self.new.is_wrong ≡ is_wrong_after self.old.is_wrong call.now }
         ensures side { self.new.side ≡ self.old.side }
     {
         match call {
@@ -699,7 +708,8 @@ where
     }
 
     fn write(&mut self, reply: &[u8]) -> io::Result<()> {
-        self.delay_wrong();
+        let seconds = self.take_delay();
+        self.delay(seconds);
         self.socket.write(reply, &self.side.house.ending)
     }
 

@@ -1,13 +1,13 @@
 //! The passive port that a session keeps between its transfers.
 
 ghost use Rattle.std.specs.Prelude.{◌≡◌, ◌+◌, ◌<◌, ◌↔◌, IsTrue, None, false};
-ghost use Rattle.socket_host.specs.Keeping.{closed_after, kept_after, may_keep, without_port};
+ghost use Rattle.socket_host.specs.Keeping.{closed_after, kept_after, may_keep, with_port, without_port};
 
+use crate::ports::LeasedPort;
 use event_word::has_passed;
 use server_config::ServerNumbers;
 use server_house::may_keep_ports;
 use std::mem;
-use std::net::TcpListener;
 
 /// Microseconds between two looks at the port that a session keeps.
 const LOOK: u64 = 1_000_000;
@@ -15,11 +15,10 @@ const LOOK: u64 = 1_000_000;
 /// Microseconds without a sign of its client after which a session keeps no port.
 const SILENCE: u64 = 10_000_000;
 
-/// The port that a session keeps, with its listener, if sessions keep ports.
-#[derive(Drop)]
+/// The port that a session keeps, if sessions keep ports.
 pub(crate) struct KeptPort {
     keeps: bool,
-    pub(crate) at: Option<(TcpListener, u16)>,
+    pub(crate) at: Option<LeasedPort>,
 }
 
 impl KeptPort {
@@ -36,23 +35,39 @@ impl KeptPort {
 
     /// Keeps a port at which the client has connected, if ports are kept. Returns that which is to be closed and given
     /// back: the one kept before, if there was one, or this one if none are kept.
-    pub(crate) fn keep(&mut self, listener: TcpListener, port: u16) -> Option<(TcpListener, u16)>
-        ensures kept { self.new ≡ kept_after self.old (listener, port) }
-        ensures closes { result ≡ closed_after self.old (listener, port) }
+    pub(crate) fn keep(&mut self, port: LeasedPort) -> Option<LeasedPort>
+        ensures kept { self.new ≡ kept_after self.old port }
+        ensures closes { result ≡ closed_after self.old port }
     {
         if self.keeps {
-            mem::replace(&mut self.at, Some((listener, port)))
+            mem::replace(&mut self.at, Some(port))
         } else {
-            Some((listener, port))
+            Some(port)
         }
     }
 
     /// Takes the port that is kept, if there is one.
-    pub(crate) fn take(&mut self) -> Option<(TcpListener, u16)>
+    pub(crate) fn take(&mut self) -> Option<LeasedPort>
         ensures taken { result ≡ self.old.at }
         ensures none { self.new ≡ without_port self.old }
     {
         mem::replace(&mut self.at, None)
+    }
+
+    /// Puts a port back that was taken. Returns the one that was put here meanwhile, if there is one.
+    pub(crate) fn put_back(&mut self, port: LeasedPort) -> Option<LeasedPort>
+        ensures kept { self.new ≡ with_port self.old port }
+        ensures before { result ≡ self.old.at }
+    {
+        mem::replace(&mut self.at, Some(port))
+    }
+
+    /// Keeps no port any longer. Returns the one that was kept, if there was one.
+    pub(crate) fn into_port(self) -> Option<LeasedPort>
+        ensures port { result ≡ self.at }
+    {
+        let KeptPort { keeps: _, at } = self;
+        at
     }
 }
 

@@ -2,7 +2,7 @@
 
 ghost use Rattle.std.specs.Prelude.{◌≡◌, IfSome};
 
-use passive_ports::{PortHost, RestingPorts};
+use passive_ports::{MOST_TRIES, PortHost, RestingPorts, open_passive};
 use server_config::ServerNumbers;
 use server_house::{OwnAddress, PeerConnection, accept_from, listen};
 use std::io;
@@ -25,6 +25,35 @@ pub(crate) fn early_of(listener: &TcpListener, peer: Option<[u8; 4]>) -> Option<
         }
     }
     None
+}
+
+/// A passive port that is leased, and listened on. It cannot be dropped: `give_back` alone takes it, so no branch of a
+/// session can keep a port from all others.
+pub(crate) struct LeasedPort {
+    listener: TcpListener,
+    number: u16,
+}
+
+impl LeasedPort {
+    pub(crate) fn number(&self) -> u16
+        ensures number { result ≡ self.now.number }
+    {
+        self.number
+    }
+
+    pub(crate) fn listener(&self) -> &TcpListener
+        ensures listener { result.now ≡ self.now.listener }
+    {
+        &self.listener
+    }
+}
+
+/// Closes a port, if there is one, and gives it back.
+pub(crate) fn give_back<R: Wait>(rt: &R, ports: &Mutex<RestingPorts>, port: Option<LeasedPort>) {
+    if let Some(LeasedPort { listener, number }) = port {
+        drop(listener);
+        ports.lock(rt).give_back(number);
+    }
 }
 
 /// The passive ports behind their lock, and the numbers of the server that listens on them.
@@ -65,4 +94,13 @@ where
     fn rest(&mut self, port: u16) {
         self.ports.lock(self.rt).give_back(port);
     }
+}
+
+/// Leases a port and listens on it, as `open_passive`.
+pub(crate) fn open_port<R>(ports: &mut SharedPorts<'_, '_, R>) -> Option<LeasedPort>
+where
+    R: Wait + Net<Listener = TcpListener, Stream = TcpStream>,
+{
+    let (number, listener) = open_passive(ports, MOST_TRIES)?;
+    Some(LeasedPort { listener, number })
 }

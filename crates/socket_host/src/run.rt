@@ -7,11 +7,11 @@ ghost use Rattle.transfer_ticket.specs.Tickets.{is_busy, is_owner};
 ghost use Rattle.transfer_ticket.specs.Views.{owner_view};
 ghost use Rattle.transfer_ticket.specs.declared.view.TicketView.TheVariants.{Idle};
 
-use crate::running::{Running, lane_job, over, taken_back};
+use crate::ports::LeasedPort;
+use crate::running::{Running, lane_job, over, put_in, taken_back};
 use server_house::{DataConnection, LaneEnds, SessionEnd, SessionJob, TransferEnd};
 use session_table::{End, Job};
 use std::alloc::Global;
-use std::net::TcpListener;
 use std::{io, mem};
 use transfer_ticket::TicketOwner;
 use virtual_tree::Store;
@@ -100,11 +100,23 @@ impl<'h, S: Store<Global>> SessionRun<'h, S> {
     {
         let job = lane_job(job, theirs, self.payer, session);
         let is_to_list = self.owner.put(job);
-        self.running = Running::Moving {
+        let moving = Running::Moving {
             connection,
             is_aborted: false,
         };
+        put_in(&mut self.running, moving);
         is_to_list
+    }
+
+    /// Has a transfer wait for its connection, or be over.
+    pub(crate) fn begin(&mut self, next: Running<S::Source, S::Sink>)
+        requires nothing { self.old.running ≡ Running.Nothing }
+        requires waits { is_moving next ≡ false }
+        ensures running { self.new.running ≡ next }
+        ensures payer { self.new.payer ≡ self.old.payer }
+        ensures owner { owner_view self.new.owner ≡ owner_view self.old.owner }
+    {
+        put_in(&mut self.running, next);
     }
 
     /// Takes out a transfer without a connection, or its end; one on the ticket stays there.
@@ -123,7 +135,7 @@ impl<'h, S: Store<Global>> SessionRun<'h, S> {
     }
 
     /// Aborts the transfer. Returns the port that it waited at, if it did, which is to be closed.
-    pub(crate) fn abort(&mut self) -> Option<(TcpListener, u16)>
+    pub(crate) fn abort(&mut self) -> Option<LeasedPort>
         ensures running { Aborts (owner_view self.old.owner) self.old.running self.new.running }
         ensures port { result ≡ port_of self.old.running }
         ensures payer { self.new.payer ≡ self.old.payer }
@@ -131,13 +143,12 @@ impl<'h, S: Store<Global>> SessionRun<'h, S> {
         let before = mem::replace(&mut self.running, Running::Nothing);
         match before {
             Running::Awaited {
-                listener,
                 port,
                 job,
                 since: _,
             } => {
-                self.running = over(End::Aborted, job);
-                Some((listener, port))
+                put_in(&mut self.running, over(End::Aborted, job));
+                Some(port)
             }
             Running::Connecting {
                 outgoing,
@@ -145,19 +156,20 @@ impl<'h, S: Store<Global>> SessionRun<'h, S> {
                 since: _,
             } => {
                 drop(outgoing);
-                self.running = over(End::Aborted, job);
+                put_in(&mut self.running, over(End::Aborted, job));
                 None
             }
             Running::Moving {
                 connection,
                 is_aborted: _,
             } => {
-                self.running = stop::<S>(&mut self.owner, connection);
+                let stopped = stop::<S>(&mut self.owner, connection);
+                put_in(&mut self.running, stopped);
                 None
             }
             Running::Nothing => None,
             Running::Over(reported) => {
-                self.running = Running::Over(reported);
+                put_in(&mut self.running, Running::Over(reported));
                 None
             }
         }
@@ -182,29 +194,32 @@ impl<'h, S: Store<Global>> SessionRun<'h, S> {
                     Taken::Reported(reported, is_aborted, fault)
                 }
                 None => {
-                    self.running = Running::Moving {
+                    let moving = Running::Moving {
                         connection,
                         is_aborted,
                     };
+                    put_in(&mut self.running, moving);
                     Taken::Nothing
                 }
             },
             waiting => {
-                self.running = waiting;
+                put_in(&mut self.running, waiting);
                 Taken::Nothing
             }
         }
     }
 
-    /// Leaves the ticket, with nothing on it.
-    pub(crate) fn leave(self)
+    /// Leaves the ticket, with nothing on it. Returns the port at which a client was awaited, if one was.
+    pub(crate) fn leave(self) -> Option<LeasedPort>
         requires nothing { is_moving self.running ≡ false }
+        ensures port { result ≡ port_of self.running }
     {
         let SessionRun {
             owner,
-            running: _,
+            running,
             payer: _,
         } = self;
         owner.leave();
+        running.into_port()
     }
 }

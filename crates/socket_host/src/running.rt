@@ -3,33 +3,43 @@
 ghost use Rattle.std.specs.Prelude.{◌≡◌};
 ghost use Rattle.socket_host.specs.Jobs.{IsBrief, fits_first_write, is_upload, lane_job, sink_of};
 ghost use Rattle.socket_host.specs.Payers.{user_of};
-ghost use Rattle.socket_host.specs.Running.{over, taken_back};
+ghost use Rattle.socket_host.specs.Running.{listened_in, over, port_of, taken_back};
 
+use crate::ports::LeasedPort;
 use ftp_terms::DataType;
 use ftp_wire::HostPort;
 use server_house::{DataConnection, FIRST_WRITE, Listing, Outgoing, Served, TransferEnd};
 use session_table::{End, Job};
 use std::alloc::Global;
-use std::net::TcpListener;
+use std::mem;
 use transfer_worker::LaneJob;
 use virtual_tree::{Sink, Source};
 
 /// The preparation of the next transfer.
-#[derive(Drop)]
 pub(crate) enum Prepared {
     Nothing,
-    Listening(TcpListener, u16),
+    Listening(LeasedPort),
     Target(HostPort),
 }
 
+impl Prepared {
+    /// The port that was listened on, if there is one: nothing is prepared any longer.
+    pub(crate) fn into_port(self) -> Option<LeasedPort>
+        ensures port { result ≡ listened_in self }
+    {
+        match self {
+            Prepared::Listening(port) => Some(port),
+            Prepared::Nothing | Prepared::Target(_) => None,
+        }
+    }
+}
+
 /// The transfer of a session.
-#[derive(Drop)]
 pub(crate) enum Running<R: Drop, K: Drop> {
     Nothing,
     /// The client has not connected yet. The wait began at `since`, in microseconds.
     Awaited {
-        listener: TcpListener,
-        port: u16,
+        port: LeasedPort,
         job: Job<Global, R, K>,
         since: u64,
     },
@@ -46,6 +56,35 @@ pub(crate) enum Running<R: Drop, K: Drop> {
     },
     /// It has ended, and the session does not know yet.
     Over(TransferEnd<K>),
+}
+
+impl<R: Drop, K: Drop> Running<R, K> {
+    /// The port at which the client was awaited, if it was: the transfer is given up.
+    pub(crate) fn into_port(self) -> Option<LeasedPort>
+        ensures port { result ≡ port_of self }
+    {
+        match self {
+            Running::Awaited { port, .. } => Some(port),
+            Running::Nothing
+            | Running::Connecting { .. }
+            | Running::Moving { .. }
+            | Running::Over(_) => None,
+        }
+    }
+}
+
+/// Puts a transfer in the place of none.
+pub(crate) fn put_in<R: Drop, K: Drop>(place: &mut Running<R, K>, next: Running<R, K>)
+    requires nothing { place.old ≡ Running.Nothing }
+    ensures put { place.new ≡ next }
+{
+    match mem::replace(place, next) {
+        Running::Nothing => {}
+        Running::Awaited { .. } => unreachable!(),
+        Running::Connecting { .. } => unreachable!(),
+        Running::Moving { .. } => unreachable!(),
+        Running::Over(_) => unreachable!(),
+    }
 }
 
 /// A transfer that never ran; an upload's sink is returned.

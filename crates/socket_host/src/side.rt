@@ -13,13 +13,12 @@ ghost use Rattle.transfer_ticket.specs.declared.view.TicketView.TheVariants.{Idl
 
 use crate::awaited::AwaitedClient;
 use crate::keeping::KeptPort;
-use crate::ports::SharedPorts;
+use crate::ports::{LeasedPort, SharedPorts, give_back, open_port};
 use crate::run::{SessionRun, Taken};
 use crate::running::{Prepared, Running, is_brief, is_upload, over};
 use event_word::{has_passed, micros};
 use ftp_wire::HostPort;
 use lent_parts::PartsName;
-use passive_ports::{MOST_TRIES, open_passive};
 use server_house::{
     DataConnection, EndCause, House, LaneEnds, Outgoing, OwnRuns, PeerConnection, Progress,
     ServerRuntime, SessionEnd, SessionJob, TransferEnd, empty_queue, socket_address,
@@ -27,7 +26,7 @@ use server_house::{
 use session_table::{End, Input, Job};
 use std::alloc::Global;
 use std::io::ErrorKind;
-use std::net::{TcpListener, TcpStream};
+use std::net::TcpStream;
 use std::time::Duration;
 use std::{io, mem, thread};
 use transfer_ticket::TicketOwner;
@@ -173,28 +172,32 @@ where
         ensures payer { self.new.run.payer ≡ self.old.run.payer }
     {
         self.client.forget();
-        let before = mem::replace(&mut self.prepared, Prepared::Nothing);
-        match before {
-            Prepared::Listening(listener, port) => self.close_port(listener, port),
-            Prepared::Nothing | Prepared::Target(_) => {}
-        }
+        self.prepare(Prepared::Nothing);
     }
 
-    fn close_port(&self, listener: TcpListener, port: u16) {
-        drop(listener);
-        self.house.ports.lock(self.rt).give_back(port);
+    // Prepares this in the place of what was prepared before; a port then rests.
+    fn prepare(&mut self, next: Prepared)
+        ensures prepared { self.new.prepared ≡ next }
+        ensures client { self.new.client ≡ self.old.client }
+        ensures running { self.new.run.running ≡ self.old.run.running }
+        ensures ready { self.new.ready ≡ self.old.ready }
+        ensures cause { self.new.cause ≡ self.old.cause }
+        ensures kept { self.new.kept ≡ self.old.kept }
+        ensures payer { self.new.run.payer ≡ self.old.run.payer }
+    {
+        let before = mem::replace(&mut self.prepared, next);
+        self.close(before.into_port());
     }
 
-    fn close(&self, port: Option<(TcpListener, u16)>) {
-        if let Some((listener, port)) = port {
-            self.close_port(listener, port);
-        }
+    // Closes a port, if there is one, which then rests.
+    fn close(&self, port: Option<LeasedPort>) {
+        give_back(self.rt, &self.house.ports, port);
     }
 
-    // Takes the port that is kept, with its listener, once no connection waits there: one that does was made to the port
-    // of the transfer before, and is closed. If the queue is not empty then, the port is closed instead.
-    fn take_kept(&mut self) -> Option<(u16, TcpListener)>
-        ensures found { IfSome result (λ found. self.old.kept.at ≡ Some (found.1, found.0)) }
+    // Takes the port that is kept, once no connection waits there: one that does was made to the port of the transfer
+    // before, and is closed. If the queue is not empty then, the port is closed instead.
+    fn take_kept(&mut self) -> Option<LeasedPort>
+        ensures found { IfSome result (λ port. self.old.kept.at ≡ Some port) }
         ensures none { self.new.kept ≡ without_port self.old.kept }
         ensures prepared { self.new.prepared ≡ self.old.prepared }
         ensures running { self.new.run.running ≡ self.old.run.running }
@@ -202,11 +205,11 @@ where
         ensures cause { self.new.cause ≡ self.old.cause }
         ensures payer { self.new.run.payer ≡ self.old.run.payer }
     {
-        let (listener, port) = self.kept.take()?;
-        if empty_queue(&listener) {
-            return Some((port, listener));
+        let port = self.kept.take()?;
+        if empty_queue(port.listener()) {
+            return Some(port);
         }
-        self.close_port(listener, port);
+        self.close(Some(port));
         None
     }
 
@@ -220,8 +223,8 @@ where
         ensures kept { self.new.kept ≡ self.old.kept }
         ensures payer { self.new.run.payer ≡ self.old.run.payer }
     {
-        if let Prepared::Listening(listener, _) = &self.prepared {
-            self.client.welcome(listener);
+        if let Prepared::Listening(port) = &self.prepared {
+            self.client.welcome(port.listener());
         }
     }
 
@@ -239,17 +242,18 @@ where
         ensures payer { self.new.run.payer ≡ self.old.run.payer }
     {
         self.welcome();
-        if let Some((port, listener)) = self.take_kept() {
-            if is_silent {
-                self.close_port(listener, port);
+        if let Some(port) = self.take_kept() {
+            let closed = if is_silent {
+                Some(port)
             } else {
-                self.kept.at = Some((listener, port));
-            }
+                self.kept.put_back(port)
+            };
+            self.close(closed);
         }
     }
 
     // Leases a port and listens on it. If none could be listened on, the error of the last is kept.
-    fn listening(&mut self) -> Option<(u16, TcpListener)>
+    fn listening(&mut self) -> Option<LeasedPort>
         ensures prepared { self.new.prepared ≡ self.old.prepared }
         ensures running { self.new.run.running ≡ self.old.run.running }
         ensures cause { self.new.cause ≡ self.old.cause }
@@ -262,7 +266,7 @@ where
             numbers: self.house.numbers,
             fault: None,
         };
-        let listening = open_passive(&mut ports, MOST_TRIES);
+        let listening = open_port(&mut ports);
         let SharedPorts { fault, .. } = ports;
         self.port_fault = fault;
         listening
@@ -291,7 +295,7 @@ where
     }
 
     // Takes the port that is kept, or leases another one and listens on it.
-    fn find_port(&mut self) -> Option<(u16, TcpListener)>
+    fn find_port(&mut self) -> Option<LeasedPort>
         ensures none { self.new.kept ≡ without_port self.old.kept }
         ensures prepared { self.new.prepared ≡ self.old.prepared }
         ensures running { self.new.run.running ≡ self.old.run.running }
@@ -315,9 +319,9 @@ where
     {
         self.drop_data();
         match self.find_port() {
-            Some((port, listener)) => {
-                self.prepared = Prepared::Listening(listener, port);
-                self.ready = Some(Some(port));
+            Some(port) => {
+                self.ready = Some(Some(port.number()));
+                self.prepare(Prepared::Listening(port));
             }
             None => self.ready = Some(None),
         }
@@ -334,7 +338,7 @@ where
         self.drop_data();
         let kept = self.kept.take();
         self.close(kept);
-        self.prepared = Prepared::Target(to);
+        self.prepare(Prepared::Target(to));
     }
 
     // Hands a transfer to the lanes.
@@ -382,7 +386,7 @@ where
         ensures payer { self.new.run.payer ≡ self.old.run.payer }
     {
         self.cause = Some(EndCause::NoMemory);
-        self.run.running = over(End::NoMemory, job);
+        self.run.begin(over(End::NoMemory, job));
     }
 
     // Puts a transfer on the ticket. A brief download is run here, if it can be; the lanes run any other.
@@ -436,43 +440,37 @@ where
         ensures payer { self.new.run.payer ≡ self.old.run.payer }
     {
         self.cause = Some(why);
-        self.run.running = over(End::NoConnection, job);
+        self.run.begin(over(End::NoConnection, job));
     }
 
     // Checks once, at this moment, whether the client has connected to its port. The port is then kept, if ports are.
     fn await_client(
         &mut self,
-        listener: TcpListener,
-        port: u16,
+        port: LeasedPort,
         job: Job<Global, S::Source, S::Sink>,
         since: u64,
         now: u64,
     )
         requires nothing { self.old.run.running ≡ Running.Nothing }
-        ensures running { IsAwaited listener port job since now self.new.run.running }
+        ensures running { IsAwaited port job since now self.new.run.running }
         ensures prepared { self.new.prepared ≡ self.old.prepared }
         ensures ready { self.new.ready ≡ self.old.ready }
-        ensures kept { Keeps self.old.kept (listener, port) self.new.run.running self.new.kept }
+        ensures kept { Keeps self.old.kept port self.new.run.running self.new.kept }
         ensures payer { self.new.run.payer ≡ self.old.run.payer }
     {
-        match self.client.take(&listener) {
+        match self.client.take(port.listener()) {
             Some(connection) => {
-                let closed = self.kept.keep(listener, port);
+                let closed = self.kept.keep(port);
                 self.close(closed);
                 self.hand_over_to(connection, job);
             }
             None => {
                 if has_passed(since, now, PATIENCE) {
-                    self.close_port(listener, port);
+                    self.close(Some(port));
                     let why = self.client.absence();
                     self.end_without(why, job);
                 } else {
-                    self.run.running = Running::Awaited {
-                        listener,
-                        port,
-                        job,
-                        since,
-                    };
+                    self.run.begin(Running::Awaited { port, job, since });
                 }
             }
         }
@@ -501,11 +499,11 @@ where
                     let error = io::Error::from(ErrorKind::TimedOut);
                     self.end_without(EndCause::NotConnected(error), job);
                 } else {
-                    self.run.running = Running::Connecting {
+                    self.run.begin(Running::Connecting {
                         outgoing,
                         job,
                         since,
-                    };
+                    });
                 }
             }
         }
@@ -556,9 +554,7 @@ where
         match prepared {
             Prepared::Nothing => self.end_without(EndCause::NothingPrepared, job),
             Prepared::Target(to) => self.connect(to, job, now),
-            Prepared::Listening(listener, port) => {
-                self.await_client(listener, port, job, now, now);
-            }
+            Prepared::Listening(port) => self.await_client(port, job, now, now),
         }
     }
 
@@ -575,9 +571,8 @@ where
         ensures payer { self.new.run.payer ≡ self.old.run.payer }
     {
         let is_open = !matches!(&self.run.running, Running::Nothing | Running::Over(_));
-        if let Some((listener, port)) = self.run.abort() {
-            self.close_port(listener, port);
-        }
+        let waited = self.run.abort();
+        self.close(waited);
         if is_open && matches!(&self.run.running, Running::Over(_)) {
             self.cause = Some(EndCause::Aborted);
         }
@@ -627,14 +622,9 @@ where
         ensures payer { self.new.run.payer ≡ self.old.run.payer }
     {
         match self.run.take_out() {
-            Some(
-                Running::Awaited {
-                    listener,
-                    port,
-                    job,
-                    since,
-                },
-            ) => self.await_client(listener, port, job, since, now),
+            Some(Running::Awaited { port, job, since }) => {
+                self.await_client(port, job, since, now);
+            }
             Some(
                 Running::Connecting {
                     outgoing,
@@ -642,7 +632,7 @@ where
                     since,
                 },
             ) => self.await_answer(outgoing, job, since, now),
-            Some(Running::Over(reported)) => self.run.running = Running::Over(reported),
+            Some(Running::Over(reported)) => self.run.begin(Running::Over(reported)),
             Some(Running::Moving { .. }) => unreachable!(),
             Some(Running::Nothing) | None => {}
         }
@@ -746,33 +736,23 @@ where
     /// Leaves the ticket to the next session. A transfer that still runs is ended, and no port is listened on.
     pub fn leave(self) {
         let mut side = self;
-        side.drop_data();
         side.clear();
-        let kept = side.kept.take();
-        side.close(kept);
-        side.part();
-    }
-
-    // Leaves the ticket, with nothing running and no port listened on.
-    fn part(self)
-        requires running { self.run.running ≡ Running.Nothing }
-        requires prepared { self.prepared ≡ Prepared.Nothing }
-        requires kept { self.kept.at ≡ None }
-    {
         let SocketSide {
-            rt: _,
-            house: _,
+            rt,
+            house,
             runs: _,
             client: _,
             session: _,
             run,
-            prepared: _,
-            kept: _,
+            prepared,
+            kept,
             cause: _,
             moved: _,
             ready: _,
             port_fault: _,
-        } = self;
-        run.leave();
+        } = side;
+        give_back(rt, &house.ports, prepared.into_port());
+        give_back(rt, &house.ports, kept.into_port());
+        give_back(rt, &house.ports, run.leave());
     }
 }

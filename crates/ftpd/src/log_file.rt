@@ -2,9 +2,10 @@
 
 ghost use Rattle.std.specs.Prelude.{◌≡◌, ◌/◌, ◌%◌, ◌^◌, ◌||◌, nat_eq};
 
+use crate::options::log_options;
+use counted_file::CountedFile;
 use line_queue::{LineOutlet, Readiness};
-use std::fs::{File, OpenOptions};
-use std::io::Write;
+use std::fs::File;
 use std::os::unix::fs::{MetadataExt, OpenOptionsExt};
 use std::{fs, io};
 use transfer_log::{FileNumbers, must_open};
@@ -12,8 +13,17 @@ use transfer_log::{FileNumbers, must_open};
 /// A file that is open, with its numbers.
 #[derive(Drop)]
 struct OpenLog {
-    file: File,
+    file: CountedFile<File>,
     numbers: Option<FileNumbers>,
+}
+
+impl OpenLog {
+    // Writes some of these octets. Returns their number; 0 if no call passed.
+    fn write(&mut self, octets: &[u8]) -> usize
+        ensures taken { self.new.file.calls.passed ≡ self.old.file.calls.passed → result ≡ 0 }
+    {
+        self.file.write_some(octets).unwrap_or(0)
+    }
 }
 
 /// The file of a path, to which lines are appended. It is opened anew, before a line, once another file or none is at the
@@ -52,18 +62,16 @@ fn is_log(mode: u32) -> bool
 // Opens a log for reading and appending, which waits for nobody at the other end of a pipe (fifo(7)), and looks at it by
 // its descriptor. What can be no log is refused.
 fn opened(machine: &HostRuntime, path: &str) -> io::Result<OpenLog> {
-    let file = OpenOptions::new()
-        .read(true)
-        .append(true)
-        .create(true)
-        .mode(MODE)
-        .open(machine, path)?;
+    let file = log_options().mode(MODE).open(machine, path)?;
     let found = file.metadata()?;
     if !is_log(found.mode()) {
         return Err(io::Error::from_raw_os_error(NO_LOG));
     }
     let numbers = numbers_of(Ok(found));
-    Ok(OpenLog { file, numbers })
+    Ok(OpenLog {
+        file: CountedFile::new(file),
+        numbers,
+    })
 }
 
 impl LogFile {
@@ -105,7 +113,7 @@ impl LineOutlet for LogFile {
         if !goes_on {
             self.reopen();
         }
-        self.open.file.write(octets).unwrap_or(0)
+        self.open.write(octets)
     }
 
     fn follow(&mut self) -> bool {

@@ -10,6 +10,7 @@ mod known;
 mod log_file;
 mod log_thread;
 mod machine_files;
+mod options;
 mod own_thread;
 mod page_thread;
 mod ready_file;

@@ -1,5 +1,7 @@
 //! The thread that serves the status page.
 
+ghost use Rattle.ftpd.specs.Machine.{IsOwn};
+
 use crate::own_thread::{STACK, ThreadSigns, shared};
 use client_door::{Arrival, ClientDoor, DoorBell, WaitingRoom};
 use ftp_daemon::{ServeFault, ServerRuntime};
@@ -34,7 +36,10 @@ pub(crate) struct PageSocket {
     bell: DoorBell,
 }
 
-fn page_address(port: u16) -> SocketAddr {
+// The address of a page: no other machine reaches it.
+fn page_address(port: u16) -> SocketAddr
+    ensures own { IsOwn result port }
+{
     SocketAddr::V4(SocketAddrV4::new(Ipv4Addr::new(127, 0, 0, 1), port))
 }
 

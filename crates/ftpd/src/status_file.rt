@@ -4,6 +4,7 @@ ghost use Rattle.std.specs.Prelude.{true};
 
 use crate::end_file::EndFile;
 use crate::log_thread::PlainNotes;
+use crate::options::new_file_options;
 use crate::reload_file::{ReloadFile, TakenConfig};
 use crate::sign_file::{SignFile, SignLook};
 use crate::status_thread::StatusWriter;
@@ -11,7 +12,6 @@ use folder_store::{FolderMachine, LeaveSign};
 use ftp_daemon::{EndSign, OwnerSigns, ReloadFault, ReloadSign};
 use server_status::status_text;
 use status_keeper::StatusCell;
-use std::fs::OpenOptions;
 use std::io::Write;
 use std::os::unix::fs::OpenOptionsExt;
 use std::sync::{Arc, Wait};
@@ -35,11 +35,7 @@ pub(crate) struct StatusFile {
 // could not.
 fn write_new(machine: &HostRuntime, path: &str, mode: u32, text: &[u8]) -> io::Result<()> {
     let _ = fs::remove_file(machine, path);
-    let mut file = OpenOptions::new()
-        .write(true)
-        .create_new(true)
-        .mode(mode)
-        .open(machine, path)?;
+    let mut file = new_file_options().mode(mode).open(machine, path)?;
     file.write_all(text)?;
     let mut machine = *machine;
     machine.close(file)

@@ -281,7 +281,23 @@ def rounds_without_memory():
             server.__exit__(None, None, None)
 
 
+def a_last_reply_before_lines_unread():
+    """A client that has sent more lines than its session reads gets the last reply and the end, and no reset (RFC 1122, section 4.2.2.13)."""
+    with Server() as server:
+        client = Client(server)
+        # a session reads 4,096 octets at once, and 2,048 more once it has said its last reply
+        client.socket.sendall(b"QUIT\r\n" + b"NOOP\r\n" * 900)
+        client.says(None, "221 Goodbye")
+        try:
+            want(not client.more(), "nothing follows the last reply")
+        except ConnectionResetError:
+            raise Refused("the connection is reset after the last reply") from None
+        client.close()
+        server.ended()
+
+
 ROWS = [
+    a_last_reply_before_lines_unread,
     rounds_without_memory,
     aborted_in_each_state,
     lost_in_each_state,

@@ -8,7 +8,7 @@ import os
 import socket
 import time
 
-from serving_kit import Client, Refused, Server, until, want, wait_for
+from serving_kit import Client, Refused, Server, same, until, want, wait_for
 
 # More octets than the sockets between a server and a client hold.
 MUCH = 200_000_000
@@ -287,13 +287,12 @@ def a_last_reply_before_lines_unread():
         client = Client(server)
         # a session reads 4,096 octets at once, and 2,048 more once it has said its last reply
         client.socket.sendall(b"QUIT\r\n" + b"NOOP\r\n" * 900)
-        client.says(None, "221 Goodbye")
-        try:
-            want(not client.more(), "nothing follows the last reply")
-        except ConnectionResetError:
-            raise Refused("the connection is reset after the last reply") from None
-        client.close()
         server.ended()
+        # once the server has closed it, a reset has come, if there was one: it may take what was not read yet with it
+        same(client.socket.getsockopt(socket.SOL_SOCKET, socket.SO_ERROR), 0, "the error of the connection (errno(3))")
+        client.says(None, "221 Goodbye")
+        want(not client.more(), "nothing follows the last reply")
+        client.close()
 
 
 ROWS = [

@@ -111,10 +111,11 @@ IsGroup rates stated group =
     × (group.up ≡ rate_of rates (Group Up stated.number))
 
 -- a row for each group that the configuration has, in its order
-pub record AreGroups (facts : StatusFacts) (groups : List GroupStatus) : Type 0 where
-  pub count : length groups ≡ length facts.stated.items
+pub record AreGroups (rates : Rates) (stated : List StatedGroup) (groups : List GroupStatus)
+    : Type 0 where
+  pub count : length groups ≡ length stated
   pub each : (i : ℕ) (g : GroupStatus) → slice_get groups i ≡ Some g
-      → (s : StatedGroup) × (slice_get facts.stated.items i ≡ Some s) × IsGroup facts.limits s g
+      → (s : StatedGroup) × (slice_get stated i ≡ Some s) × IsGroup rates s g
 
 abbrev pub line_of : Rates → LineRates
 line_of rates = record {
@@ -130,7 +131,7 @@ pub record IsStatus (facts : StatusFacts) (ts : List KeptTransfer) (counts : Cou
   pub started : s.started ≡ facts.started
   pub micros : s.micros ≡ look.micros - facts.zero
   pub line : s.line ≡ line_of facts.limits
-  pub groups : AreGroups facts s.groups.items
+  pub groups : AreGroups facts.limits facts.stated.items s.groups.items
   pub users : s.users ≡ facts.users
   pub sessions : s.sessions ≡ look.sessions
   pub max_sessions : s.max_sessions ≡ facts.max_sessions

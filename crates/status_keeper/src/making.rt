@@ -189,12 +189,16 @@ fn group_of(alloc: Global, limits: &Limits, stated: &StatedGroup) -> Result<Grou
 }
 
 // The groups of the configuration with their rates, in its order.
-fn groups_of(alloc: Global, facts: &StatusFacts) -> Result<Vec<GroupStatus>, AllocError>
-    ensures groups { IfOk result (λ groups. AreGroups facts.now groups.items) }
+fn groups_of(
+    alloc: Global,
+    limits: &Limits,
+    stated: &[StatedGroup],
+) -> Result<Vec<GroupStatus>, AllocError>
+    ensures groups { IfOk result (λ groups. AreGroups limits.now stated.now groups.items) }
 {
-    let mut groups = Vec::with_capacity(alloc, facts.stated.len())?;
-    for place in 0..facts.stated.len() {
-        groups.push(group_of(alloc, &facts.limits, &facts.stated[place])?)?;
+    let mut groups = Vec::with_capacity(alloc, stated.len())?;
+    for place in 0..stated.len() {
+        groups.push(group_of(alloc, limits, &stated[place])?)?;
     }
     Ok(groups)
 }
@@ -221,7 +225,7 @@ pub fn status_of(
     ensures status { IfOk result (IsStatus facts.now transfers.now counts look.now) }
 {
     let rows = rows_of(alloc, facts, transfers, look.lanes)?;
-    let groups = groups_of(alloc, facts)?;
+    let groups = groups_of(alloc, &facts.limits, facts.stated.as_slice())?;
     let granted = granted_in(&rows);
     Ok(Status {
         started: facts.started,

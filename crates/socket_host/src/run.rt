@@ -212,7 +212,7 @@ impl<'h, S: Store<Global>> SessionRun<'h, S> {
     /// Leaves the ticket, with nothing on it. Returns the port at which a client was awaited, if one was.
     pub(crate) fn leave(self) -> Option<LeasedPort>
         requires nothing { is_moving self.running ≡ false }
-        ensures port { result ≡ port_of self.running }
+        ensures port { result ≡ port_of self.entry.running }
     {
         let SessionRun {
             owner,

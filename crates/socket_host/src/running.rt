@@ -64,11 +64,35 @@ impl<R: Drop, K: Drop> Running<R, K> {
         ensures port { result ≡ port_of self }
     {
         match self {
-            Running::Awaited { port, .. } => Some(port),
-            Running::Nothing
-            | Running::Connecting { .. }
-            | Running::Moving { .. }
-            | Running::Over(_) => None,
+            Running::Awaited {
+                port,
+                job,
+                since: _,
+            } => {
+                drop(job);
+                Some(port)
+            }
+            Running::Connecting {
+                outgoing,
+                job,
+                since: _,
+            } => {
+                drop(outgoing);
+                drop(job);
+                None
+            }
+            Running::Moving {
+                connection,
+                is_aborted: _,
+            } => {
+                drop(connection);
+                None
+            }
+            Running::Over(reported) => {
+                drop(reported);
+                None
+            }
+            Running::Nothing => None,
         }
     }
 }

@@ -621,20 +621,19 @@ where
             self.new.kept }
         ensures payer { self.new.run.payer ≡ self.old.run.payer }
     {
-        match self.run.take_out() {
-            Some(Running::Awaited { port, job, since }) => {
-                self.await_client(port, job, since, now);
-            }
-            Some(
-                Running::Connecting {
-                    outgoing,
-                    job,
-                    since,
-                },
-            ) => self.await_answer(outgoing, job, since, now),
-            Some(Running::Over(reported)) => self.run.begin(Running::Over(reported)),
-            Some(Running::Moving { .. }) => unreachable!(),
-            Some(Running::Nothing) | None => {}
+        let Some(waiting) = self.run.take_out() else {
+            return;
+        };
+        match waiting {
+            Running::Awaited { port, job, since } => self.await_client(port, job, since, now),
+            Running::Connecting {
+                outgoing,
+                job,
+                since,
+            } => self.await_answer(outgoing, job, since, now),
+            Running::Over(reported) => self.run.begin(Running::Over(reported)),
+            Running::Moving { .. } => unreachable!(),
+            Running::Nothing => {}
         }
     }
 

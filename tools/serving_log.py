@@ -228,19 +228,24 @@ def a_transfer_log_that_is_moved():
 
 
 def a_transfer_log_that_takes_nothing():
-    """Lines that are left at the end are counted in the last note, and the server ends with a fault after its settled line."""
+    """That it takes nothing is noted at once, and once. Lines that are left at the end are counted in the last note, and the server ends with a fault after its settled line."""
+    unwritten = '[WARN ] the transfer log "/dev/full" cannot be written: No space left on device (os error 28)'
     with Server(sessions=0, root="folder", files={"f": b"x"}, stop=True, words=["--transfer-log", "/dev/full"]) as server:
         client = Client(server)
-        for _ in range(3):
+        client.retrieve("f")
+        until(lambda: unwritten in server.noted().splitlines(), "the note of a log that takes nothing")
+        for _ in range(2):
             client.retrieve("f")
         client.quit()
         server.stop()
         server.ended(status=1)
+        same(server.noted().splitlines().count(unwritten), 1, "the notes of it")
         same(server.noted().splitlines()[-2:], ["[WARN ] lines of the transfer log dropped: 3", "ftpd: TransferLog"], "the last lines")
 
 
 def a_transfer_log_that_fills_its_disk():
-    """The line that has begun in a file that takes no more is begun anew, once that file is moved away."""
+    """The line that has begun in a file that takes no more is begun anew, once that file is moved away. That it takes no more is noted once."""
+    unwritten = '[WARN ] the transfer log "xferlog" cannot be written: File too large (os error 27)'
     server = Server(sessions=0, root="folder", files={"f": b"x"}, stop=True, before='trap "" XFSZ', words=["--transfer-log", "xferlog"])
     path, line = f"{server.place}/xferlog", "Thu Nov 26 15:04:45 2026 2 127.0.0.1 6 /a_b.txt b _ o r ann ftp 0 * c\n"
     with open(path, "w", encoding="utf-8") as log:
@@ -252,12 +257,13 @@ def a_transfer_log_that_fills_its_disk():
         for _ in range(3):
             client.retrieve("f")
         until(lambda: os.path.getsize(path) == most, "a log that takes no more")
-        time.sleep(0.1)
+        until(lambda: unwritten in server.noted().splitlines(), "its note")
         os.rename(path, f"{path}.1")
         until(lambda: os.path.exists(path) and os.path.getsize(path) > 100, "a new log")
         client.quit()
         server.stop()
         server.ended()
+        same(server.noted().splitlines().count(unwritten), 1, "the notes of a log that takes no more")
         with open(path, encoding="utf-8") as log:
             same([it.path for it in xferlog_reading.read_text(log.read())], ["/f", "/f"], "its lines")
         with open(f"{path}.1", encoding="utf-8") as log:

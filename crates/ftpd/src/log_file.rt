@@ -2,7 +2,6 @@
 
 ghost use Rattle.std.specs.Prelude.{◌≡◌, ◌/◌, ◌%◌, ◌^◌, ◌||◌, nat_eq};
 
-use line_queue::{LineOutlet, Readiness};
 use std::fs::{File, OpenOptions};
 use std::io::Write;
 use std::os::unix::fs::{MetadataExt, OpenOptionsExt};
@@ -79,9 +78,14 @@ impl LogFile {
         }
     }
 
-    // Opens the file anew if it was moved away. The one that is open stays if that fails. Returns whether another one is
-    // open now.
-    fn reopen(&mut self) -> bool {
+    /// Returns the path.
+    pub fn path(&self) -> &str {
+        self.path.as_str()
+    }
+
+    /// Opens the file anew if it was moved away. The one that is open stays if that fails. Returns whether another one is
+    /// open now.
+    pub fn reopen(&mut self) -> bool {
         let there = numbers_of(fs::metadata(&self.machine, self.path.as_str()));
         if !must_open(self.open.numbers, there) {
             return false;
@@ -94,21 +98,13 @@ impl LogFile {
             Err(_) => false,
         }
     }
-}
 
-impl LineOutlet for LogFile {
-    fn readiness(&mut self, _millis: u16) -> Readiness {
-        Readiness::Ready
-    }
-
-    fn write(&mut self, octets: &[u8], goes_on: bool) -> usize {
+    /// Appends some of these octets, which begin a line unless `goes_on`: then the file is opened anew first, if it was moved
+    /// away. Returns their number. `Err` is the machine's reason if it takes none.
+    pub fn append(&mut self, octets: &[u8], goes_on: bool) -> io::Result<usize> {
         if !goes_on {
             self.reopen();
         }
-        self.open.file.write(octets).unwrap_or(0)
-    }
-
-    fn follow(&mut self) -> bool {
-        self.reopen()
+        self.open.file.write(octets)
     }
 }

@@ -4,11 +4,12 @@ import os
 import re
 import resource
 import select
+import signal
 import subprocess
 import time
 
 import xferlog_reading
-from serving_kit import SERVER, Client, Data, Server, same, until, want
+from serving_kit import SERVER, TOP, Client, Data, Server, same, until, want
 
 COUNT = re.compile(r"\[WARN \] lines dropped: (\d+)")
 # A name that is noted in some 1,200 octets, so that a pipe is full after few lines.
@@ -270,6 +271,44 @@ def a_transfer_log_that_fills_its_disk():
             same(log.read().count("\n"), 10_001, "the whole lines of the old log")
 
 
+def shown(heading):
+    """The lines that docs/server.md shows below a bold heading, up to the next one."""
+    with open(f"{TOP}/docs/server.md", encoding="utf-8") as page:
+        part = page.read().partition(f"**{heading}**")[2].partition("\n**")[0]
+    return "\n".join(it[4:] for it in part.split("\n") if it.startswith("    "))
+
+
+def a_program_after_each_upload():
+    """The commands of docs/server.md run a program after each upload that came whole, with its path, also once the log was moved away, and after no other transfer."""
+    with Server(sessions=0, root="folder", files={"f": b"x"}, stop=True, words=["--transfer-log", "xferlog"]) as server:
+        words, seen = shown("A program after each upload").replace("/var/log/ftpd/", "").replace("/srv/ftp", "files"), f"{server.place}/seen"
+        with open(f"{server.place}/after-upload", "w", encoding="utf-8") as it:
+            it.write(f'#!/bin/sh\necho "$1" >>{seen}\n')
+        os.chmod(f"{server.place}/after-upload", 0o700)
+        follower = subprocess.Popen(["/bin/sh", "-c", words], cwd=server.place, start_new_session=True, env={"PATH": f"{server.place}:{os.environ['PATH']}"})
+        try:
+            client = Client(server)
+            # (it follows the log from its end on, once it has begun)
+            until(lambda: client.store("first", b"x") or os.path.exists(seen), "the program after an upload")
+            client.retrieve("f")
+            data = client.passive()
+            client.says("STOR part", "150 Opening data connection")
+            data.socket.sendall(b"x")
+            client.says("ABOR", "426 Transfer aborted", "226 Abort done")
+            os.rename(f"{server.place}/xferlog", f"{server.place}/xferlog.1")
+            client.store("after this", b"x")
+            until(lambda: "files/after_this\n" in open(seen, encoding="utf-8"), "the program after the last upload")
+            with open(seen, encoding="utf-8") as it:
+                same(set(it), {"files/first\n", "files/after_this\n"}, "the uploads")
+            data.close()
+            client.quit()
+            server.stop()
+            server.ended()
+        finally:
+            os.killpg(follower.pid, signal.SIGKILL)
+            follower.wait()
+
+
 def a_stop_file_that_cannot_be_seen():
     """A path at which nothing can be looked for any more is noted once, and the file is seen once it can."""
     server = Server(sessions=0, words=["--stop-file", "signs/stop"])
@@ -429,6 +468,7 @@ ROWS = [
     a_transfer_log_that_is_moved,
     a_transfer_log_that_takes_nothing,
     a_transfer_log_that_fills_its_disk,
+    a_program_after_each_upload,
     a_stop_file_that_cannot_be_seen,
     transfers_have_their_amounts,
     a_reader_that_stops_for_a_while,

@@ -410,7 +410,10 @@ def a_path_of_another_file():
         (["--transfer-log", "link"], "ftpd.toml is stated for two files: state a path of its own for each", "OnePath"),
         (["--stop-file", "gone", "--ready-file", "gone"], "gone is stated for two files: state a path of its own for each", "OnePath"),
         (["--status", "text"], "text is no status of a server: move it away, or state another path", "StatusFile"),
+        (["--stop-file", "gone", "--drain-file", "gone"], "gone is stated for two files: state a path of its own for each", "OnePath"),
         (["--status", "/dev/null"], "/dev/null is no status of a server: move it away, or state another path", "StatusFile"),
+        (["--status", "folder"], "folder is no status of a server: move it away, or state another path", "StatusFile"),
+        (["--transfer-log", "folder"], "folder is no transfer log: move it away, or state another path", "TransferLog"),
         (["--transfer-log", "text"], "text is no transfer log: move it away, or state another path", "TransferLog"),
         (["--transfer-log", "pipe"], "pipe is no transfer log: move it away, or state another path", "TransferLog"),
     ):
@@ -420,9 +423,11 @@ def a_path_of_another_file():
             text.write("version = 1\n")
         os.link(f"{it.place}/ftpd.toml", f"{it.place}/link")
         os.mkfifo(f"{it.place}/pipe")
+        os.mkdir(f"{it.place}/folder")
         same(it.run(), (1, "", f"{reason}\nftpd: {name}\n"), f"the end of {words}")
         with open(f"{it.place}/text", encoding="utf-8") as text:
             same(text.read(), "version = 1\n", "the text")
+        same(os.listdir(f"{it.place}/folder"), [], "the folder")
         it.room.cleanup()
 
 

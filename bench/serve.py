@@ -50,17 +50,17 @@ def ports(count):
 
 
 class Running:
-    """A server that runs. `rates` are lines of its table, `users` its users: (name, more lines)."""
+    """A server that runs. `rates` are lines of its table, `users` its users: (name, more lines), and `groups` the tables of its groups."""
 
-    def __init__(self, folder, program, is_plain, rates="", users=(("ann", ""),)):
+    def __init__(self, folder, program, is_plain, rates="", users=(("ann", ""),), groups=""):
         self.folder, self.program, self.is_plain = folder, program, is_plain
         self.port = ports(1_000)
         first, last = self.port + 1, self.port + 999
         if is_plain:
             self.words = [program, str(self.port), f"{folder}/files", str(LANES), str(first), str(last)]
             return
-        head = f'version = 1\n[server]\nroot = "{folder}/files"\nport = {self.port}\npassive_first = {first}\npassive_last = {last}\nmax_cons = 512\nlanes = {LANES}\n{rates}\n'
-        text = head + "".join(f'[[user]]\nname = "{name}"\npassword = "secret"\nhome = "/"\nperms = "elradfmw"\n{more}\n' for name, more in users)
+        head = f'version = 2\n[server]\nroot = "{folder}/files"\nport = {self.port}\npassive_first = {first}\npassive_last = {last}\nmax_cons = 512\nlanes = {LANES}\n{rates}\n'
+        text = head + groups + "".join(f'[[user]]\nname = "{name}"\npassword = "secret"\nhome = "/"\nperms = "elradfmw"\n{more}\n' for name, more in users)
         with open(f"{folder}/ftpd.toml", "w", encoding="utf-8") as it:
             it.write(text)
         self.words = [program, "serve", f"{folder}/ftpd.toml"]

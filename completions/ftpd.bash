@@ -5,6 +5,9 @@
 _ftpd_words() {
     local word=${COMP_WORDS[COMP_CWORD]} before=${COMP_WORDS[COMP_CWORD - 1]} options='-h --help'
     COMPREPLY=()
+    # (bash splits an option and its value at the equals sign)
+    [[ $word == = ]] && word=''
+    [[ $before == = ]] && before=${COMP_WORDS[COMP_CWORD - 2]}
     if [[ $COMP_CWORD -eq 1 ]]; then
         mapfile -t COMPREPLY < <(compgen -W "$1 -h --help -V --version" -- "$word")
         return

@@ -153,6 +153,17 @@ def a_drain_file_at_the_start():
     server.room.cleanup()
 
 
+def a_time_without_a_drain_file():
+    """A time for draining without a drain file would have no effect, and is refused; 0 is no time."""
+    server = Server(words=["--drain-seconds", "5"])
+    wanted = "--drain-seconds has no effect without --drain-file: state one, or leave it out\nftpd: DrainSeconds\n"
+    same(server.run(), (1, "", wanted), "its end")
+    server.room.cleanup()
+    with Server(sessions=0, words=["--drain-seconds", "0", "--stop-file", "stop"]) as server:
+        server.stop()
+        server.ended()
+
+
 ROWS = [
     transfers_have_their_end,
     a_client_that_waits_has_its_transfer,
@@ -161,4 +172,5 @@ ROWS = [
     a_drain_that_takes_too_long,
     a_stop_ends_a_drain,
     a_drain_file_at_the_start,
+    a_time_without_a_drain_file,
 ]

@@ -4,11 +4,12 @@ import os
 import re
 import resource
 import select
+import signal
 import subprocess
 import time
 
 import xferlog_reading
-from serving_kit import SERVER, Client, Data, Server, same, until, want
+from serving_kit import SERVER, TOP, Client, Data, Server, same, until, want
 
 COUNT = re.compile(r"\[WARN \] lines dropped: (\d+)")
 # A name that is noted in some 1,200 octets, so that a pipe is full after few lines.
@@ -228,19 +229,24 @@ def a_transfer_log_that_is_moved():
 
 
 def a_transfer_log_that_takes_nothing():
-    """Lines that are left at the end are counted in the last note, and the server ends with a fault after its settled line."""
+    """That it takes nothing is noted at once, and once. Lines that are left at the end are counted in the last note, and the server ends with a fault after its settled line."""
+    unwritten = '[WARN ] the transfer log "/dev/full" cannot be written: No space left on device (os error 28)'
     with Server(sessions=0, root="folder", files={"f": b"x"}, stop=True, words=["--transfer-log", "/dev/full"]) as server:
         client = Client(server)
-        for _ in range(3):
+        client.retrieve("f")
+        until(lambda: unwritten in server.noted().splitlines(), "the note of a log that takes nothing")
+        for _ in range(2):
             client.retrieve("f")
         client.quit()
         server.stop()
         server.ended(status=1)
+        same(server.noted().splitlines().count(unwritten), 1, "the notes of it")
         same(server.noted().splitlines()[-2:], ["[WARN ] lines of the transfer log dropped: 3", "ftpd: TransferLog"], "the last lines")
 
 
 def a_transfer_log_that_fills_its_disk():
-    """The line that has begun in a file that takes no more is begun anew, once that file is moved away."""
+    """The line that has begun in a file that takes no more is begun anew, once that file is moved away. That it takes no more is noted once."""
+    unwritten = '[WARN ] the transfer log "xferlog" cannot be written: File too large (os error 27)'
     server = Server(sessions=0, root="folder", files={"f": b"x"}, stop=True, before='trap "" XFSZ', words=["--transfer-log", "xferlog"])
     path, line = f"{server.place}/xferlog", "Thu Nov 26 15:04:45 2026 2 127.0.0.1 6 /a_b.txt b _ o r ann ftp 0 * c\n"
     with open(path, "w", encoding="utf-8") as log:
@@ -252,16 +258,55 @@ def a_transfer_log_that_fills_its_disk():
         for _ in range(3):
             client.retrieve("f")
         until(lambda: os.path.getsize(path) == most, "a log that takes no more")
-        time.sleep(0.1)
+        until(lambda: unwritten in server.noted().splitlines(), "its note")
         os.rename(path, f"{path}.1")
         until(lambda: os.path.exists(path) and os.path.getsize(path) > 100, "a new log")
         client.quit()
         server.stop()
         server.ended()
+        same(server.noted().splitlines().count(unwritten), 1, "the notes of a log that takes no more")
         with open(path, encoding="utf-8") as log:
             same([it.path for it in xferlog_reading.read_text(log.read())], ["/f", "/f"], "its lines")
         with open(f"{path}.1", encoding="utf-8") as log:
             same(log.read().count("\n"), 10_001, "the whole lines of the old log")
+
+
+def shown(heading):
+    """The lines that docs/server.md shows below a bold heading, up to the next one."""
+    with open(f"{TOP}/docs/server.md", encoding="utf-8") as page:
+        part = page.read().partition(f"**{heading}**")[2].partition("\n**")[0]
+    return "\n".join(it[4:] for it in part.split("\n") if it.startswith("    "))
+
+
+def a_program_after_each_upload():
+    """The commands of docs/server.md run a program after each upload that came whole, with its path, also once the log was moved away, and after no other transfer."""
+    with Server(sessions=0, root="folder", files={"f": b"x"}, stop=True, words=["--transfer-log", "xferlog"]) as server:
+        words, seen = shown("A program after each upload").replace("/var/log/ftpd/", "").replace("/srv/ftp", "files"), f"{server.place}/seen"
+        with open(f"{server.place}/after-upload", "w", encoding="utf-8") as it:
+            it.write(f'#!/bin/sh\necho "$1" >>{seen}\n')
+        os.chmod(f"{server.place}/after-upload", 0o700)
+        follower = subprocess.Popen(["/bin/sh", "-c", words], cwd=server.place, start_new_session=True, env={"PATH": f"{server.place}:{os.environ['PATH']}"})
+        try:
+            client = Client(server)
+            # (it follows the log from its end on, once it has begun)
+            until(lambda: client.store("first", b"x") or os.path.exists(seen), "the program after an upload")
+            client.retrieve("f")
+            data = client.passive()
+            client.says("STOR part", "150 Opening data connection")
+            data.socket.sendall(b"x")
+            client.says("ABOR", "426 Transfer aborted", "226 Abort done")
+            os.rename(f"{server.place}/xferlog", f"{server.place}/xferlog.1")
+            client.store("after this", b"x")
+            until(lambda: "files/after_this\n" in open(seen, encoding="utf-8"), "the program after the last upload")
+            with open(seen, encoding="utf-8") as it:
+                same(set(it), {"files/first\n", "files/after_this\n"}, "the uploads")
+            data.close()
+            client.quit()
+            server.stop()
+            server.ended()
+        finally:
+            os.killpg(follower.pid, signal.SIGKILL)
+            follower.wait()
 
 
 def a_stop_file_that_cannot_be_seen():
@@ -423,6 +468,7 @@ ROWS = [
     a_transfer_log_that_is_moved,
     a_transfer_log_that_takes_nothing,
     a_transfer_log_that_fills_its_disk,
+    a_program_after_each_upload,
     a_stop_file_that_cannot_be_seen,
     transfers_have_their_amounts,
     a_reader_that_stops_for_a_while,

@@ -99,7 +99,7 @@ def what_is_refused_changes_nothing():
         ann, bob = Client(server), Client(server, "bob")
         good = server.text
         for text, reason in (
-            ("version = 1\n[server]\nrot = 1\n", "rot: no such key"),
+            ("version = 1\n[server]\nrot = 1\n", "configuration not reloaded: ftpd.toml: line 2: [server]: rot: no such key; a similar key is root"),
             (good.replace("lanes = 16", "lanes = 15"), "`lanes` cannot change while the server runs"),
             (good.replace(f"rate = {RATE}", "rate = 400000"), "the sessions inside are promised 500000, and `rate` of the server would be 400000"),
         ):

@@ -383,6 +383,26 @@ def a_status_that_cannot_be_written():
         server.ended()
 
 
+def a_status_whose_folder_goes():
+    """That the status cannot be written any more is noted once, until it can; then the next one is there."""
+    server = Server(sessions=0, stop=True, words=["--status", "shown/status.json"])
+    folder, unwritten = f"{server.place}/shown", '[WARN ] the status file "shown/status.json" cannot be written: No such file or directory (os error 2)'
+    os.mkdir(folder)
+    with server:
+        for times in (1, 2):
+            until(lambda: os.path.exists(f"{folder}/status.json"), "a status")
+            os.rename(folder, f"{folder}.{times}")
+            until(lambda: server.noted().splitlines().count(unwritten) == times, "the note of a folder that is gone")
+            # (two looks more)
+            time.sleep(2.5)
+            same(server.noted().splitlines().count(unwritten), times, "the notes")
+            os.mkdir(folder)
+        until(lambda: os.path.exists(f"{folder}/status.json"), "a status")
+        server.stop()
+        server.ended()
+        want(not os.path.exists(f"{folder}/status.json"), "the status is removed at the end")
+
+
 def a_path_of_another_file():
     """One path for two files, a status where something else is, and a log that goes on with something else are refused at the start; nothing is changed."""
     for words, reason, name in (
@@ -390,7 +410,10 @@ def a_path_of_another_file():
         (["--transfer-log", "link"], "ftpd.toml is stated for two files: state a path of its own for each", "OnePath"),
         (["--stop-file", "gone", "--ready-file", "gone"], "gone is stated for two files: state a path of its own for each", "OnePath"),
         (["--status", "text"], "text is no status of a server: move it away, or state another path", "StatusFile"),
+        (["--stop-file", "gone", "--drain-file", "gone"], "gone is stated for two files: state a path of its own for each", "OnePath"),
         (["--status", "/dev/null"], "/dev/null is no status of a server: move it away, or state another path", "StatusFile"),
+        (["--status", "folder"], "folder is no status of a server: move it away, or state another path", "StatusFile"),
+        (["--transfer-log", "folder"], "folder is no transfer log: move it away, or state another path", "TransferLog"),
         (["--transfer-log", "text"], "text is no transfer log: move it away, or state another path", "TransferLog"),
         (["--transfer-log", "pipe"], "pipe is no transfer log: move it away, or state another path", "TransferLog"),
     ):
@@ -400,9 +423,11 @@ def a_path_of_another_file():
             text.write("version = 1\n")
         os.link(f"{it.place}/ftpd.toml", f"{it.place}/link")
         os.mkfifo(f"{it.place}/pipe")
+        os.mkdir(f"{it.place}/folder")
         same(it.run(), (1, "", f"{reason}\nftpd: {name}\n"), f"the end of {words}")
         with open(f"{it.place}/text", encoding="utf-8") as text:
             same(text.read(), "version = 1\n", "the text")
+        same(os.listdir(f"{it.place}/folder"), [], "the folder")
         it.room.cleanup()
 
 
@@ -427,4 +452,4 @@ def a_table_of_the_status():
         server.ended()
 
 
-ROWS = [a_status_file, what_holds_transfers_back, the_division_is_shown, a_status_page, a_status_that_cannot_be_written, a_path_of_another_file, a_table_of_the_status]
+ROWS = [a_status_file, what_holds_transfers_back, the_division_is_shown, a_status_page, a_status_that_cannot_be_written, a_status_whose_folder_goes, a_path_of_another_file, a_table_of_the_status]

@@ -25,6 +25,7 @@ enum Reading {
 /// A file that a thread reads, which nobody waits for.
 #[derive(Drop)]
 pub(crate) struct ConfigReader {
+    path: String,
     reading: Mutex<Reading>,
     signs: ThreadSigns,
     /// A file is removed once it is read, unless it is empty.
@@ -88,6 +89,7 @@ impl ConfigReader {
         let reader = shared(
             machine.alloc(),
             ConfigReader {
+                path,
                 reading: Mutex::new(Reading::Idle),
                 signs: ThreadSigns::new(),
                 removes,
@@ -96,26 +98,31 @@ impl ConfigReader {
         let own = Arc::try_clone(&reader)?;
         let runtime = *rt;
         let machine = *machine;
-        let started = Builder::new().stack_size(STACK).spawn(rt, move || {
-            own.work(&runtime, &machine, path.as_str());
-        });
+        let started = Builder::new()
+            .stack_size(STACK)
+            .spawn(rt, move || own.work(&runtime, &machine));
         match started {
             Ok(_) => Ok(reader),
             Err(_) => Err(ServeFault::NoThread),
         }
     }
 
+    /// Returns the path.
+    pub fn path(&self) -> &str {
+        self.path.as_str()
+    }
+
     // The octets of the file, which is removed if it is to be.
-    fn read(&self, machine: &HostRuntime, path: &str) -> ReadOctets {
-        let octets = read_file(machine, path);
+    fn read(&self, machine: &HostRuntime) -> ReadOctets {
+        let octets = read_file(machine, self.path());
         if !self.removes {
             return octets;
         }
-        removed(machine, path, octets)
+        removed(machine, self.path(), octets)
     }
 
     // Reads the file each time that it is asked to, until no more work comes.
-    fn work<R: Wait + Clock>(&self, rt: &R, machine: &HostRuntime, path: &str) {
+    fn work<R: Wait + Clock>(&self, rt: &R, machine: &HostRuntime) {
         for _ in rt.forever() {
             let seen = self.signs.seen();
             if self.signs.is_closed() {
@@ -123,7 +130,7 @@ impl ConfigReader {
                 return;
             }
             if self.is_asked(rt) {
-                let octets = self.read(machine, path);
+                let octets = self.read(machine);
                 *self.reading.lock(rt) = Reading::Done(octets);
             } else {
                 self.signs.wait(rt, seen);

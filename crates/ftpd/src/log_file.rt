@@ -4,7 +4,6 @@ ghost use Rattle.std.specs.Prelude.{◌≡◌, ◌/◌, ◌%◌, ◌^◌, ◌||�
 
 use crate::options::log_options;
 use counted_file::CountedFile;
-use line_queue::{LineOutlet, Readiness};
 use std::fs::File;
 use std::os::unix::fs::{MetadataExt, OpenOptionsExt};
 use std::{fs, io};
@@ -15,15 +14,6 @@ use transfer_log::{FileNumbers, must_open};
 struct OpenLog {
     file: CountedFile<File>,
     numbers: Option<FileNumbers>,
-}
-
-impl OpenLog {
-    // Writes some of these octets. Returns their number; 0 if no call passed.
-    fn write(&mut self, octets: &[u8]) -> usize
-        ensures taken { self.new.file.calls.passed ≡ self.old.file.calls.passed → result ≡ 0 }
-    {
-        self.file.write_some(octets).unwrap_or(0)
-    }
 }
 
 /// The file of a path, to which lines are appended. It is opened anew, before a line, once another file or none is at the
@@ -87,9 +77,14 @@ impl LogFile {
         }
     }
 
-    // Opens the file anew if it was moved away. The one that is open stays if that fails. Returns whether another one is
-    // open now.
-    fn reopen(&mut self) -> bool {
+    /// Returns the path.
+    pub fn path(&self) -> &str {
+        self.path.as_str()
+    }
+
+    /// Opens the file anew if it was moved away. The one that is open stays if that fails. Returns whether another one is
+    /// open now.
+    pub fn reopen(&mut self) -> bool {
         let there = numbers_of(fs::metadata(&self.machine, self.path.as_str()));
         if !must_open(self.open.numbers, there) {
             return false;
@@ -102,21 +97,13 @@ impl LogFile {
             Err(_) => false,
         }
     }
-}
 
-impl LineOutlet for LogFile {
-    fn readiness(&mut self, _millis: u16) -> Readiness {
-        Readiness::Ready
-    }
-
-    fn write(&mut self, octets: &[u8], goes_on: bool) -> usize {
+    /// Appends some of these octets, which begin a line unless `goes_on`: then the file is opened anew first, if it was moved
+    /// away. Returns their number. `Err` is the machine's reason if it takes none.
+    pub fn append(&mut self, octets: &[u8], goes_on: bool) -> io::Result<usize> {
         if !goes_on {
             self.reopen();
         }
-        self.open.write(octets)
-    }
-
-    fn follow(&mut self) -> bool {
-        self.reopen()
+        self.open.file.write_some(octets)
     }
 }

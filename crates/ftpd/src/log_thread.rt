@@ -1,5 +1,7 @@
 //! The threads that write notes and the transfer log.
 
+ghost use Rattle.std.specs.Prelude.{◌≡◌, MatchResult, false, true};
+
 use crate::log_file::LogFile;
 use crate::own_thread::{STACK, ThreadSigns, shared};
 use ftp_daemon::ServeFault;
@@ -61,11 +63,17 @@ impl PlainNotes {
         self.lines.note(rt, line);
     }
 
-    /// Notes that the configuration that the server has could not be written to a file.
-    pub fn note_unwritten<R: Wait + AllocGlobal>(&self, rt: &R, path: &str, reason: io::Error) {
+    /// Notes that a file of the server's cannot be written; `what` says which.
+    pub fn note_unwritten<R: Wait + AllocGlobal>(
+        &self,
+        rt: &R,
+        what: &str,
+        path: &str,
+        reason: io::Error,
+    ) {
         let head = count_head(self.form);
         let line = format!(in rt.alloc();
-            "{head}the running file {path:?} cannot be written: {reason}\n"
+            "{head}the {what} {path:?} cannot be written: {reason}\n"
         );
         self.lines.note(rt, line);
     }
@@ -103,6 +111,55 @@ impl<R: Wait + AllocGlobal> LineOutlet for NoteOutlet<R> {
         let line = copied(self.rt.alloc(), octets);
         self.notes.note(&self.rt, line);
         octets.len()
+    }
+}
+
+/// The file of the transfer log, of which is noted once that it takes nothing, until it does.
+#[derive(Drop)]
+struct NotedLog<R: Wait + AllocGlobal> {
+    rt: R,
+    notes: PlainNotes,
+    file: LogFile,
+    is_noted: bool,
+}
+
+impl<R: Wait + AllocGlobal> NotedLog<R> {
+    // The number of octets that the file took, by its answer. That it takes none is noted once, until it does.
+    fn count(&mut self, answer: io::Result<usize>) -> usize
+        ensures taken { MatchResult answer (λ count. result ≡ count) (λ _. result ≡ 0) }
+        ensures noted { MatchResult answer (λ _. self.new.is_noted ≡ false)
+            (λ _. self.new.is_noted ≡ true) }
+    {
+        match answer {
+            Ok(count) => {
+                self.is_noted = false;
+                count
+            }
+            Err(reason) => {
+                if !self.is_noted {
+                    let path = self.file.path();
+                    self.notes
+                        .note_unwritten(&self.rt, "transfer log", path, reason);
+                }
+                self.is_noted = true;
+                0
+            }
+        }
+    }
+}
+
+impl<R: Wait + AllocGlobal> LineOutlet for NotedLog<R> {
+    fn readiness(&mut self, _millis: u16) -> Readiness {
+        Readiness::Ready
+    }
+
+    fn write(&mut self, octets: &[u8], goes_on: bool) -> usize {
+        let answer = self.file.append(octets, goes_on);
+        self.count(answer)
+    }
+
+    fn follow(&mut self) -> bool {
+        self.file.reopen()
     }
 }
 
@@ -184,19 +241,28 @@ where
 // Starts the thread of the transfer log, whose counts are among the notes.
 fn start_transfers<R>(
     rt: &R,
-    head: &'static str,
     file: LogFile,
     thread: Arc<LineThread>,
-    notes: Arc<SharedLines>,
+    notes: PlainNotes,
+    counts: Arc<SharedLines>,
 ) -> Result<(), ServeFault>
 where
     R: Threads + Wait + Clock + AllocGlobal + Copy + Send + Sync + 'static,
 {
     let runtime = *rt;
+    let head = count_head(notes.form);
     let started = Builder::new().stack_size(STACK).spawn(rt, move || {
-        let mut counts = NoteOutlet { rt: runtime, notes };
-        let mut file = file;
-        thread.write(&runtime, head, &mut counts, &mut file);
+        let mut counts = NoteOutlet {
+            rt: runtime,
+            notes: counts,
+        };
+        let mut log = NotedLog {
+            rt: runtime,
+            notes,
+            file,
+            is_noted: false,
+        };
+        thread.write(&runtime, head, &mut counts, &mut log);
     });
     match started {
         Ok(_) => Ok(()),
@@ -223,7 +289,8 @@ impl LogThreads {
             Some(file) => {
                 let own = Arc::try_clone(&transfers)?;
                 let counts = Arc::try_clone(&notes.lines)?;
-                start_transfers(rt, head, file, own, counts)?;
+                let lines = Arc::try_clone(&notes.lines)?;
+                start_transfers(rt, file, own, PlainNotes { form, lines }, counts)?;
             }
             None => transfers.signs.end(),
         }

@@ -114,11 +114,11 @@ pub(crate) fn capacity_of(store: &ServedStore) -> u64 {
     }
 }
 
-/// The configuration of octets. `Err` is the reason for which they are none.
-fn config_of(alloc: Global, octets: &[u8]) -> Result<Config, Option<String>> {
+/// The configuration of octets of the file at a path. `Err` is the reason for which they are none, with the path.
+fn config_of(alloc: Global, path: &str, octets: &[u8]) -> Result<Config, Option<String>> {
     match Config::read(alloc, octets) {
         Ok(config) => Ok(config),
-        Err(fault) => Err(words(alloc, &fault)),
+        Err(fault) => Err(format!(in alloc; "{path}: {fault}").ok()),
     }
 }
 
@@ -170,7 +170,7 @@ impl ReloadFile {
     fn read<R: Wait>(&self, rt: &R, octets: ReadOctets) -> Result<Reload, Option<String>> {
         let alloc = self.machine.alloc();
         let octets = octets?;
-        let config = config_of(alloc, octets.as_slice())?;
+        let config = config_of(alloc, self.reader.path(), octets.as_slice())?;
         if let Some(reason) = self.hindrance(&config) {
             return Err(reason);
         }

@@ -96,7 +96,7 @@ fn noted<R: Wait + AllocGlobal>(
     match written {
         Ok(()) => true,
         Err(reason) => {
-            notes.note_unwritten(rt, file.path(), reason);
+            notes.note_unwritten(rt, "running file", file.path(), reason);
             false
         }
     }

@@ -315,7 +315,8 @@ struct OwnMeans {
     running: Option<(StatusFile, PlainNotes)>,
     /// The path of the end file, if there is to be one.
     end: Option<String>,
-    status: Option<StatusFile>,
+    /// The status file, if there is to be one, and the notes of the thread that writes it.
+    status: Option<(StatusFile, PlainNotes)>,
     page: Option<PageSocket>,
     cell: Arc<StatusCell>,
 }
@@ -355,7 +356,7 @@ impl OwnThreads {
             None => None,
         };
         let status = match status {
-            Some(file) => Some(StatusWriter::start(rt, machine.alloc(), file)?),
+            Some((file, notes)) => Some(StatusWriter::start(rt, machine.alloc(), file, notes)?),
             None => None,
         };
         let page = match page {
@@ -420,12 +421,12 @@ fn kept_octets<R: ServerRuntime>(
     Ok(Some(octets))
 }
 
-/// The running file, if there is to be one, with notes of what cannot be written.
+/// A file that a thread writes, if there is to be one, with notes of what cannot be written.
 fn with_notes(
-    running: Option<StatusFile>,
+    written: Option<StatusFile>,
     log: &LogThreads,
 ) -> Result<Option<(StatusFile, PlainNotes)>, AllocError> {
-    match running {
+    match written {
         Some(file) => Ok(Some((file, log.plain_notes()?))),
         None => Ok(None),
     }
@@ -479,7 +480,7 @@ where
         config: if reload.is_some() { Some(path) } else { None },
         running: with_notes(running, log)?,
         end: end_path,
-        status,
+        status: with_notes(status, log)?,
         page,
         cell,
     };

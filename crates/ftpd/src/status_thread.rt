@@ -1,5 +1,6 @@
 //! The thread that writes the status file.
 
+use crate::log_thread::PlainNotes;
 use crate::own_thread::{STACK, ThreadSigns, shared};
 use crate::status_file::StatusFile;
 use ftp_daemon::ServeFault;
@@ -17,14 +18,16 @@ pub(crate) struct StatusWriter {
 }
 
 impl StatusWriter {
-    /// Starts the thread for a file. Fails without a thread, or memory.
+    /// Starts the thread for a file; that it cannot be written is noted once, until it can. Fails without a thread, or
+    /// memory.
     pub fn start<R>(
         rt: &R,
         alloc: Global,
         file: StatusFile,
+        notes: PlainNotes,
     ) -> Result<Arc<StatusWriter>, ServeFault>
     where
-        R: Threads + Wait + Clock + Copy + Send + Sync + 'static,
+        R: Threads + Wait + Clock + AllocGlobal + Copy + Send + Sync + 'static,
     {
         let writer = shared(
             alloc,
@@ -37,7 +40,7 @@ impl StatusWriter {
         let runtime = *rt;
         let started = Builder::new()
             .stack_size(STACK)
-            .spawn(rt, move || own.work(&runtime, &file));
+            .spawn(rt, move || own.work(&runtime, &file, &notes));
         match started {
             Ok(_) => Ok(writer),
             Err(_) => Err(ServeFault::NoThread),
@@ -45,7 +48,8 @@ impl StatusWriter {
     }
 
     // Writes each text that it is given, until no more work comes; then removes the file.
-    fn work<R: Wait + Clock>(&self, rt: &R, file: &StatusFile) {
+    fn work<R: Wait + Clock + AllocGlobal>(&self, rt: &R, file: &StatusFile, notes: &PlainNotes) {
+        let mut is_noted = false;
         for _ in rt.forever() {
             let seen = self.signs.seen();
             if self.signs.is_closed() {
@@ -54,9 +58,15 @@ impl StatusWriter {
                 return;
             }
             match self.next(rt) {
-                Some(text) => {
-                    let _ = file.write(text.as_bytes());
-                }
+                Some(text) => match file.write(text.as_bytes()) {
+                    Ok(()) => is_noted = false,
+                    Err(reason) => {
+                        if !is_noted {
+                            notes.note_unwritten(rt, "status file", file.path(), reason);
+                        }
+                        is_noted = true;
+                    }
+                },
                 None => self.signs.wait(rt, seen),
             }
         }

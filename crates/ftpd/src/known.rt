@@ -1,5 +1,7 @@
 //! The names of users and groups that a server knows by numbers.
 
+ghost use Rattle.ftpd.specs.Known.{AreBelow};
+
 use authorizer::{Authorizer, AuthorizerFault};
 use config_change::{NumberedName, known_names};
 use line_rates::Limits;
@@ -16,7 +18,7 @@ const NOBODY: &str = "\n";
 pub(crate) struct Known {
     // in the order of their numbers
     users: Vec<NumberedName>,
-    // the least number that no user has had, nor any below it
+    // the least number above all that users have or had
     next: u64,
     // the numbers of those who are users now, ascending
     present: Vec<u32>,
@@ -24,6 +26,18 @@ pub(crate) struct Known {
     pub groups: Vec<String>,
     /// The limits in force, with the rows of the past.
     pub limits: Limits,
+    ghost below: { AreBelow users.items next },
+}
+
+/// The least number above those of all.
+fn next_number(users: &[NumberedName]) -> u64
+    ensures below { AreBelow users.now result }
+{
+    let mut next = 0;
+    for place in 0..users.len() {
+        next = next.max(u64::from(users[place].number) + 1);
+    }
+    next
 }
 
 /// Has an authorizer use the numbers from one up to another for nobody.
@@ -57,14 +71,10 @@ impl Known {
         limits: Limits,
     ) -> Result<Known, AllocError> {
         let mut numbered = known_names(alloc, users, earlier)?;
-        let mut next = 0;
-        for user in &numbered {
-            next = next.max(u64::from(user.number) + 1);
-        }
         numbered.sort_unstable_by_key(|user| user.number);
         Ok(Known {
+            next: next_number(numbered.as_slice()),
             users: numbered,
-            next,
             present: present_of(alloc, users)?,
             groups,
             limits,

@@ -40,6 +40,9 @@ class Wrapped(Server):
         os.kill(self.wrapper(), number)
 
     def running(self):
+        """The octets of the running file; none if it is not there yet."""
+        if not os.path.exists(f"{self.signs}/running.toml"):
+            return b""
         with open(f"{self.signs}/running.toml", "rb") as it:
             return it.read()
 

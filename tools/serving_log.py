@@ -9,7 +9,7 @@ import subprocess
 import time
 
 import xferlog_reading
-from serving_kit import SERVER, TOP, Client, Data, Server, same, until, want
+from serving_kit import PORTS_TO_HAND_OUT, SERVER, TOP, Client, Data, Server, same, until, want
 
 COUNT = re.compile(r"\[WARN \] lines dropped: (\d+)")
 # A name that is noted in some 1,200 octets, so that a pipe is full after few lines.
@@ -271,6 +271,26 @@ def a_transfer_log_that_fills_its_disk():
             same(log.read().count("\n"), 10_001, "the whole lines of the old log")
 
 
+def warnings_of_a_configuration():
+    """What is accepted and has no use is noted at the start, in the words of check-config: the control port among passive ones, guarantees that do not fit together, and names that nobody gives."""
+    first = PORTS_TO_HAND_OUT.take(9)
+    head = f'version = 2\n[server]\nroot = "memory"\nport = {first + 4}\npassive_first = {first}\npassive_last = {first + 8}\nmax_cons = 8\nlanes = 8\nup_rate = 1000\n'
+    users = "".join(f'[[user]]\nname = "{name}"\npassword = "secret"\nhome = "/"\nsession_up_floor = 400\n' for name in ("", "bob ", " carol"))
+    wanted = [
+        f"port {first + 4} is that of control connections and among the passive ports, {first} to {first + 8}: no client is told it",
+        "a session of each user is guaranteed 1200 up in all, and the rate is 1000: not all of them can be logged in at once",
+        "the name of a user is empty, so nobody can log in by it",
+        "user bob : the name begins or ends with a blank",
+        "user  carol: the name begins or ends with a blank",
+    ]
+    with Server(text=head + users, port=first + 4, stop=True) as server:
+        same(server.warned(), wanted, "the notes")
+        found = subprocess.run([SERVER, "check-config", "ftpd.toml"], cwd=server.place, capture_output=True, text=True)
+        same([it.removeprefix("warning: ") for it in found.stdout.splitlines() if it.startswith("warning: ")], wanted, "the warnings of check-config")
+        server.stop()
+        server.ended()
+
+
 def shown(heading):
     """The lines that docs/server.md shows below a bold heading, up to the next one."""
     with open(f"{TOP}/docs/server.md", encoding="utf-8") as page:
@@ -477,4 +497,5 @@ ROWS = [
     notes_name_their_session,
     notes_for_the_journal,
     logs_that_cannot_be_had,
+    warnings_of_a_configuration,
 ]

@@ -3,7 +3,7 @@
 /// The policy for browsers: they may run the script of the page and use its style, by their hashes, and ask the server
 /// itself. `tools/page-policy --write` computes the hashes.
 pub const POLICY: &str =
-    "default-src 'none'; connect-src 'self'; script-src 'sha256-rnru4BEm1MrhGYLgNaJ1C2n7aGkghXgg9USMEtPTSps='; style-src 'sha256-S2OK/3jFGzhxX59B5bvWp9SZKq5+ulgFhhsqoTbxAT4='; base-uri 'none'; form-action 'none'; frame-ancestors 'none'";
+    "default-src 'none'; connect-src 'self'; script-src 'sha256-Z8rZgevJ7we66Q4r8AyT1Jb114dgzd/rYfYG8nRZBYg='; style-src 'sha256-S2OK/3jFGzhxX59B5bvWp9SZKq5+ulgFhhsqoTbxAT4='; base-uri 'none'; form-action 'none'; frame-ancestors 'none'";
 
 /// The page. It asks for `status.json` once a second, and shows each text in it as text.
 pub const PAGE: &str = r##"<!doctype html>
@@ -132,7 +132,7 @@ const percent = part => Math.round(100 * part) + " %";
 const cut = (text, most) => [...text].length > most ? [...text].slice(0, most - 1).join("") + "…" : text;
 const roomWide = () => Math.min(1160, byId("lines").clientWidth);
 let last = null, paused = false, answered = null;
-// What each user got in each second of the last ten minutes, and since when each guarantee is not met.
+// The seconds of the last ten minutes, each with the octets of each user, and since when each guarantee is not met.
 let past = [], unmet = new Map();
 // The colours of the limits that held somebody back in these ten minutes, and of the users who had most, by name.
 const limitColours = new Map(), userColours = new Map();

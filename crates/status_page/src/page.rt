@@ -3,7 +3,7 @@
 /// The policy for browsers: they may run the script of the page and use its style, by their hashes, and ask the server
 /// itself. `tools/page-policy --write` computes the hashes.
 pub const POLICY: &str =
-    "default-src 'none'; connect-src 'self'; script-src 'sha256-JSa+VO85PRz68GiTXRAu4mFf7QAB7ufBHrpHXIPZAt4='; style-src 'sha256-S1QIpUhj630TuBKmMLHiQ4lfjKtgna1KOY8s7nyaqGk='; base-uri 'none'; form-action 'none'; frame-ancestors 'none'";
+    "default-src 'none'; connect-src 'self'; script-src 'sha256-Z8rZgevJ7we66Q4r8AyT1Jb114dgzd/rYfYG8nRZBYg='; style-src 'sha256-S2OK/3jFGzhxX59B5bvWp9SZKq5+ulgFhhsqoTbxAT4='; base-uri 'none'; form-action 'none'; frame-ancestors 'none'";
 
 /// The page. It asks for `status.json` once a second, and shows each text in it as text.
 pub const PAGE: &str = r##"<!doctype html>
@@ -41,12 +41,12 @@ button { font: inherit; }
 .wide { overflow-x: auto; }
 .wide:focus-visible { outline: 2px solid var(--c0); }
 #lines { display: grid; grid-template-columns: repeat(auto-fit, minmax(17rem, 1fr)); gap: .6rem 2rem; margin: .7rem 0; }
-.track { height: .7rem; background: var(--rule); border-radius: .35rem; overflow: hidden; margin-top: .15rem; }
-.track i { display: block; height: 100%; background: var(--c0); }
-.track i.full { background: var(--bad); }
+.track { position: relative; height: .7rem; background: var(--rule); border-radius: .35rem; overflow: hidden; margin-top: .15rem; }
+.track i { position: absolute; height: 100%; }
 table { border-collapse: collapse; width: 100%; font-variant-numeric: tabular-nums; font-size: .93rem; }
 th, td { padding: .15rem .5rem .15rem 0; text-align: left; white-space: nowrap; border-bottom: 1px solid var(--rule);
-  max-width: 10.5rem; overflow: hidden; text-overflow: ellipsis; }
+  max-width: 7rem; overflow: hidden; text-overflow: ellipsis; }
+.held { max-width: 14rem; }
 .number { text-align: right; }
 .mark { display: inline-block; width: .8em; height: .8em; border-radius: .15em; margin-right: .4em; }
 ul { list-style: none; padding: 0; margin: .3rem 0; display: flex; flex-wrap: wrap; gap: .1rem 1.2rem; }
@@ -58,14 +58,15 @@ svg text { fill: var(--ink); }
 .c4 { fill: var(--c4); background: var(--c4); } .c5 { fill: var(--c5); background: var(--c5); }
 .c6 { fill: var(--c6); background: var(--c6); } .c7 { fill: var(--c7); background: var(--c7); }
 .c8 { fill: var(--c8); background: var(--c8); } .c9 { fill: var(--c9); background: var(--c9); }
-.foot { fill: var(--foot); }
+.foot { fill: var(--foot); background: var(--foot); }
 .missing { fill: none; stroke: var(--bad); stroke-width: 2; stroke-dasharray: 4 3; }
 .lid { stroke: var(--bad); stroke-width: 2; }
 .level { stroke: var(--ink); stroke-dasharray: 6 4; }
 .base { stroke: var(--rule); }
+svg .scale { fill: var(--faint); }
 @media (max-width: 40rem) {
   .more { display: none; }
-  th, td { max-width: 7.5rem; }
+  .held { max-width: none; white-space: normal; }
 }
 </style>
 </head>
@@ -97,18 +98,16 @@ svg text { fill: var(--ink); }
 </section>
 <p id="key" class="faint" hidden>A column is a transfer, its height the octets granted in a second, its colour the limit that holds
 it back. Dark foot: guaranteed; dashed box: missing of it. Lid: the lesser rate of the user and the session. Dashed line: what a
-limit leaves to each whom it holds back.</p>
+limit leaves to each whom it holds back. A line above has the colour of its columns, grey if it holds nobody back.</p>
 <section id="history" hidden>
-<h2>Last ten minutes, by user</h2>
-<div class="wide" tabindex="0" role="group" aria-label="Octets granted a second, by user">
-<svg id="past" width="1160" height="92" viewBox="0 0 1160 92" role="img" aria-label="Octets granted a second in the last ten minutes"></svg>
-</div>
+<h2>Last ten minutes, by user <span id="past-most" class="faint"></span></h2>
+<svg id="past" role="img" aria-label="Octets granted a second in the last ten minutes"></svg>
 <ul id="past-users" aria-label="Colours: users"></ul>
 </section>
 <h2>Transfers</h2>
 <div class="wide" tabindex="0" role="group" aria-label="Transfers">
 <table>
-<thead><tr><th scope="col">user</th><th scope="col" class="number">rate</th><th scope="col">held by</th>
+<thead><tr><th scope="col">user</th><th scope="col" class="number">rate</th><th scope="col" class="held">held by</th>
 <th scope="col" class="number">guaranteed</th><th scope="col" class="number more">own limit</th>
 <th scope="col" class="number more">done</th><th scope="col" class="more">file</th><th scope="col" class="more">way</th>
 <th scope="col" class="more">group</th><th scope="col" class="more">session</th><th scope="col" class="more">from</th></tr></thead>
@@ -120,22 +119,32 @@ limit leaves to each whom it holds back.</p>
 "use strict";
 const KINDS = ["server", "direction", "group", "user", "session", "nothing"];
 const WAYS = ["down", "up"];
-const COLOURS = 10, KEPT_MICROS = 600e6, BASE = 160, ROOM = 72;
+const COLOURS = 10, KEPT_MICROS = 600e6, BASE = 160, ROOM = 72, LONGEST = 20;
 const byId = id => document.getElementById(id);
 const sum = numbers => numbers.reduce((a, b) => a + b, 0);
 const whole = n => Math.round(n).toLocaleString("en");
 const rateText = n => n === null ? "-" : n >= 999500 ? (n / 1e6).toFixed(2) + " MB/s" : (n / 1e3).toFixed(1) + " kB/s";
-const megabits = n => (n * 8 / 1e6).toFixed(1);
+const megabits = n => (n * 8 / 1e6).toFixed(n < 1.25e6 ? 2 : 1);
+const amountText = n => n >= 999.5e6 ? (n / 1e9).toFixed(2) + " GB" : n >= 999500 ? (n / 1e6).toFixed(1) + " MB" : (n / 1e3).toFixed(1) + " kB";
+const timeText = seconds => seconds < 120 ? Math.round(seconds) + " s" : Math.floor(seconds / 60) + " min";
 const pair = (now, rate) => rate >= 999500 ? `${(now / 1e6).toFixed(2)} of ${rateText(rate)}` : `${(now / 1e3).toFixed(1)} of ${rateText(rate)}`;
 const percent = part => Math.round(100 * part) + " %";
-const cut = (text, most) => text.length > most ? text.slice(0, most - 1) + "…" : text;
-let before = null, last = null, paused = false, answered = null, past = [];
-// The colour of each limit and of each user that was shown, by name: it stays the same while the page is open.
+const cut = (text, most) => [...text].length > most ? [...text].slice(0, most - 1).join("") + "…" : text;
+const roomWide = () => Math.min(1160, byId("lines").clientWidth);
+let last = null, paused = false, answered = null;
+// The seconds of the last ten minutes, each with the octets of each user, and since when each guarantee is not met.
+let past = [], unmet = new Map();
+// The colours of the limits that held somebody back in these ten minutes, and of the users who had most, by name.
 const limitColours = new Map(), userColours = new Map();
 
-function colourOf(colours, name) {
-  if (!colours.has(name)) colours.set(name, "c" + colours.size % COLOURS);
-  return colours.get(name);
+// Each of these names keeps its colour, and a new one takes the first of those that the fewest have.
+function giveColours(colours, names) {
+  for (const name of colours.keys()) if (!names.includes(name)) colours.delete(name);
+  for (const name of names.filter(it => !colours.has(it))) {
+    const taken = new Array(COLOURS).fill(0);
+    for (const style of colours.values()) taken[style.slice(1)] += 1;
+    colours.set(name, "c" + taken.indexOf(Math.min(...taken)));
+  }
 }
 
 // The lesser of two rates, each of which may be missing.
@@ -159,88 +168,109 @@ function draw(parent, name, attributes, text) {
   return child;
 }
 
+// Makes a drawing of this size, with nothing in it.
+function setSize(chart, wide, high) {
+  for (const [name, value] of [["width", wide], ["height", high], ["viewBox", `0 0 ${wide} ${high}`]]) chart.setAttribute(name, value);
+  chart.replaceChildren();
+}
+
 // The limit of a kind that holds a transfer back, by the name that `ftpd plan` gives it.
-function limitName(kind, transfer) {
-  if (kind === "direction") return "server " + transfer.direction;
-  if (kind === "group") return `group ${transfer.group ?? "?"} ${transfer.direction}`;
-  if (kind === "user") return `user ${transfer.user} ${transfer.direction}`;
-  if (kind === "session") return "session " + transfer.direction;
-  return kind;
+function limitName(kind, { direction, group, user }, most) {
+  if (kind === "direction") return "server " + direction;
+  if (kind === "group") return `group ${cut(group ?? "?", most)} ${direction}`;
+  if (kind === "user") return `user ${cut(user, most)} ${direction}`;
+  return kind === "session" ? "session " + direction : kind;
 }
 
 // Whose limit it is: each user has a rate of a session of their own.
-function ownerName(kind, transfer) {
-  return limitName(kind, transfer) + (kind === "session" ? " of " + transfer.user : "");
+function ownerName(kind, transfer, most) {
+  return limitName(kind, transfer, most) + (kind === "session" ? " of " + cut(transfer.user, most) : "");
 }
 
 // The course of a transfer since the status before, or since it began.
-function measured(transfer, was, micros, seconds) {
-  const time = was ? seconds : (micros - transfer.begun) / 1e6;
+function measured(transfer, was, micros, before) {
+  const from = was ? before : transfer.begun, time = (micros - from) / 1e6;
   const granted = transfer.granted - (was ? was.granted : 0);
   const rounds = KINDS.map(kind => transfer.held[kind] - (was ? was.held[kind] : 0));
   const most = Math.max(...rounds);
   const kind = most > 0 ? KINDS[rounds.indexOf(most)] : "nothing";
   const rate = time > 0 ? Math.max(0, granted / time) : 0;
   return {
-    transfer, kind, rate, held: limitName(kind, transfer), limit: ownerName(kind, transfer), part: most > 0 ? most / sum(rounds) : 0,
+    transfer, kind, from, granted, rate, limit: ownerName(kind, transfer, Infinity), part: most > 0 ? most / sum(rounds) : 0,
     own: lesser(transfer.user_rate, transfer.session_rate),
     lacks: !transfer.waiting && kind !== "nothing" && transfer.guaranteed !== null && rate < 0.9 * transfer.guaranteed,
   };
 }
 
+const key = transfer => transfer.session + " " + transfer.begun;
+
+// The courses of all transfers, in an order that rates do not change: by the limit, the outer one first, then by what is
+// guaranteed and by user.
 function measuredAll(status, old) {
-  const key = t => t.session + " " + t.begun;
   const earlier = new Map((old ? old.transfers : []).map(t => [key(t), t]));
-  const seconds = old ? (status.micros - old.micros) / 1e6 : 0;
-  return status.transfers.map(t => measured(t, earlier.get(key(t)), status.micros, seconds));
+  return status.transfers.map(t => measured(t, earlier.get(key(t)), status.micros, old?.micros)).sort((a, b) =>
+    KINDS.indexOf(a.kind) - KINDS.indexOf(b.kind) || a.limit.localeCompare(b.limit)
+    || (b.transfer.guaranteed ?? 0) - (a.transfer.guaranteed ?? 0)
+    || a.transfer.user.localeCompare(b.transfer.user) || a.transfer.session - b.transfer.session);
 }
 
-// One line: what is used of it, a bar of that, and below it the same in megabits, and what is guaranteed of it.
-function addLine(name, rows, rate) {
+// The colour of a limit, grey if it holds nobody back.
+function styleOf(limit, rows) {
+  return rows.some(r => r.limit === limit && r.kind !== "nothing" && !r.transfer.waiting) ? limitColours.get(limit) : "nothing";
+}
+
+// One line: what is used of it, and what is guaranteed; as a bar, and in megabits.
+function addLine(name, shown, rows, style, rate) {
   const now = sum(rows.map(r => r.rate)), promised = sum(rows.map(r => r.transfer.guaranteed ?? 0));
-  const part = rate === null ? 0 : now / rate, full = part >= 0.985;
   const line = put(byId("lines"), "div"), text = put(line, "div");
-  put(text, "b", name + " ");
-  put(text, "span", rate === null ? rateText(now) + ", no limit" : pair(now, rate) + ", ");
+  put(text, "b", shown + " ").title = name;
+  text.append(rate === null ? rateText(now) + ", no limit" : pair(now, rate) + ", ");
   if (rate !== null) {
-    put(text, "span", full ? "full" : percent(part), full ? "bad" : "");
-    const bar = put(put(line, "div", undefined, "track"), "i", undefined, full ? "full" : "");
-    bar.style.width = Math.round(100 * Math.min(1, part)) + "%";
+    const part = amount => Math.min(1, amount / Math.max(1, rate)), track = put(line, "div", undefined, "track");
+    if (now >= 0.985 * rate) put(text, "b", "full");
+    else text.append(percent(part(now)));
+    for (const [amount, look] of [[now, style], [promised, "foot"]])
+      put(track, "i", undefined, look).style.width = Math.round(100 * part(amount)) + "%";
   }
   put(line, "div", (rate === null ? "" : megabits(now) + " of ") + megabits(rate ?? now) + " Mbit/s"
-    + (promised > 0 ? `, guaranteed ${rateText(promised)}` : ""), "faint");
+    + (promised > 0 ? `, guaranteed ${megabits(promised)} (${rateText(promised)})` : ""), "faint");
 }
 
 function fillLines(status, rows) {
   byId("lines").replaceChildren();
-  const of = (way, group) => rows.filter(r => (way === null || r.transfer.direction === way)
-    && (group === null || r.transfer.group === group));
-  if (status.line.both !== null) addLine("server", rows, status.line.both);
-  for (const way of WAYS) addLine("server " + way, of(way, null), status.line[way]);
+  const add = (kind, transfer, inside, rate) => {
+    const name = limitName(kind, transfer, Infinity);
+    addLine(name, limitName(kind, transfer, LONGEST), rows.filter(r => inside(r.transfer)), styleOf(name, rows), rate);
+  };
+  if (status.line.both !== null) add("server", {}, () => true, status.line.both);
+  for (const direction of WAYS) add("direction", { direction }, t => t.direction === direction, status.line[direction]);
   for (const group of status.groups)
-    for (const way of WAYS)
-      if (group[way] !== null) addLine(`group ${group.name} ${way}`, of(way, group.name), group[way]);
+    for (const direction of WAYS.filter(way => group[way] !== null))
+      add("group", { direction, group: group.name }, t => t.direction === direction && t.group === group.name, group[direction]);
 }
 
-// In words: guarantees that are not met, and who waits since when.
+// Keeps since when each guarantee is not met.
+function keepUnmet(rows) {
+  unmet = new Map(rows.filter(r => r.lacks).map(r => [key(r.transfer), unmet.get(key(r.transfer)) ?? r.from]));
+}
+
+// In words: guarantees that are not met and who waits, since when.
 function fillAlarms(status, rows) {
   const alarms = byId("alarms"), missed = rows.filter(r => r.lacks), waiting = rows.filter(r => r.transfer.waiting);
+  const who = r => `${cut(r.transfer.user, LONGEST)} #${r.transfer.session}`, since = micros => timeText((status.micros - micros) / 1e6);
   alarms.replaceChildren();
-  if (missed.length > 0) put(alarms, "p", "Guarantee not met: " + missed.map(r =>
-    `${cut(r.transfer.user, 20)} #${r.transfer.session} ${rateText(r.rate)} of ${rateText(r.transfer.guaranteed)}`).join(", "), "bad");
+  if (missed.length > 0) put(alarms, "p", "Guarantee not met: " + missed.map(r => `${who(r)} ${rateText(r.rate)} of `
+    + `${rateText(r.transfer.guaranteed)} for ${since(unmet.get(key(r.transfer)))}`).join(", "), "bad");
   if (waiting.length > 0) put(alarms, "p", `${waiting.length} of ${rows.length} wait for a lane: ` + waiting.map(r =>
-    `${cut(r.transfer.user, 20)} ${Math.round((status.micros - r.transfer.begun) / 1e6)} s`
+    `${who(r)} for ${since(r.transfer.begun)}`
     + (r.transfer.guaranteed === null ? "" : ` (guaranteed ${rateText(r.transfer.guaranteed)})`)).join(", "), "bad");
 }
 
-// Transfers by the limit that holds them back, the limit that leaves most first; those without one last.
+// Transfers by the limit that holds them back.
 function byLimit(rows) {
   const groups = new Map();
   for (const row of rows) groups.set(row.limit, [...(groups.get(row.limit) ?? []), row]);
-  const most = held => Math.max(...held.map(r => r.rate));
-  return [...groups].map(([limit, held]) => ({ limit, kind: held[0].kind, held: held.sort((a, b) =>
-    b.rate - a.rate || a.transfer.session - b.transfer.session) }))
-    .sort((a, b) => (a.kind === "nothing") - (b.kind === "nothing") || most(b.held) - most(a.held) || a.limit.localeCompare(b.limit));
+  return [...groups].map(([limit, held]) => ({ limit, kind: held[0].kind, held, style: styleOf(limit, held) }));
 }
 
 // Level of a limit: the most that it leaves to one whom it holds back, without a guarantee. Who is guaranteed as
@@ -250,6 +280,12 @@ function levelOf({ kind, held }) {
   const unpromised = without.filter(r => r.transfer.guaranteed === null);
   const rates = (unpromised.length > 0 ? unpromised : without).map(r => r.rate);
   return kind === "nothing" || rates.length === 0 ? null : Math.max(...rates);
+}
+
+// The top of a scale that has room for a rate: it is round, so that a little more does not change it.
+function roundTop(rate) {
+  const unit = 10 ** Math.floor(Math.log10(rate));
+  return unit * [1, 1.2, 1.5, 2, 2.5, 3, 4, 5, 6, 8, 10].find(it => it * unit >= rate);
 }
 
 function drawColumn(chart, row, style, x, width, y) {
@@ -269,101 +305,118 @@ function drawChart(way, all) {
   byId(way).hidden = rows.length === 0;
   if (rows.length === 0) return;
   const chart = byId(way + "-chart"), list = byId(way + "-limits"), groups = byLimit(rows);
-  const room = Math.min(1160, window.innerWidth - 32) - 14 * groups.length;
+  const gap = Math.min(14, Math.floor(roomWide() / 4 / groups.length)), room = roomWide() - gap * groups.length;
   const width = Math.max(8, Math.min(46, Math.floor(room / rows.length) - 4));
-  const most = Math.max(1, ...rows.map(r => Math.max(r.rate, r.transfer.guaranteed ?? 0)));
-  const y = rate => BASE - (BASE - 10) * rate / most;
-  const wide = 14 * groups.length + (width + 4) * rows.length, high = BASE + ROOM;
-  for (const [key, value] of [["width", wide], ["height", high], ["viewBox", `0 0 ${wide} ${high}`]]) chart.setAttribute(key, value);
-  chart.replaceChildren();
+  const top = roundTop(Math.max(1, ...rows.map(r => Math.max(r.rate, r.transfer.guaranteed ?? 0))));
+  const y = rate => BASE - (BASE - 14) * rate / top;
+  const wide = Math.max(roomWide(), gap * groups.length + (width + 4) * rows.length);
+  setSize(chart, wide, BASE + ROOM);
   list.replaceChildren();
-  draw(chart, "line", { x1: 0, x2: wide, y1: BASE, y2: BASE, class: "base" });
-  let x = 7;
+  for (const rate of [0, top]) draw(chart, "line", { x1: 0, x2: wide, y1: y(rate), y2: y(rate), class: "base" });
+  draw(chart, "text", { x: 0, y: 11, class: "scale" }, rateText(top));
+  let x = gap / 2;
   for (const group of groups) {
-    const style = group.kind === "nothing" ? "nothing" : colourOf(limitColours, group.limit), from = x, level = levelOf(group);
-    for (const row of group.held) { drawColumn(chart, row, style, x, width, y); x += width + 4; }
+    const from = x, level = levelOf(group);
+    for (const row of group.held) { drawColumn(chart, row, group.style, x, width, y); x += width + 4; }
     if (level !== null) draw(chart, "line", { x1: from - 4, x2: x, y1: y(level), y2: y(level), class: "level" });
-    nameLimit(list, group, style, level);
-    x += 14;
+    nameLimit(list, group, level);
+    x += gap;
   }
 }
 
-// A limit with its colour, how many it holds back, and what it leaves to each.
-function nameLimit(list, { limit, kind, held }, style, level) {
-  const item = put(list, "li"), promised = held.filter(r => r.transfer.guaranteed !== null).length, rest = held.length - promised;
+// An item of a list of colours.
+function addMark(list, style, text) {
+  const item = put(list, "li");
   put(item, "span", undefined, "mark " + style);
+  item.append(text);
+  return item;
+}
+
+// A limit with its colour, how many it holds back, and what it leaves to each.
+function nameLimit(list, { limit, kind, held, style }, level) {
+  const promised = held.filter(r => r.transfer.guaranteed !== null).length, rest = held.length - promised;
   const parts = [];
   if (kind === "nothing") parts.push(held.length === 1 ? "its client asks for no more" : held.length + " clients ask for no more");
   else {
     if (rest > 0) parts.push(rest === 1 ? rateText(level) : `${rest} transfers, ${rateText(level)} each`);
     if (promised > 0) parts.push(promised + " with a guarantee");
   }
-  item.append(`${limit}: ${parts.join(", ")}`);
+  addMark(list, style, `${ownerName(kind, held[0].transfer, LONGEST)}: ${parts.join(", ")}`).title = limit;
 }
 
-function addRow(body, row) {
-  const { transfer, held, limit, kind, part, rate, own, lacks } = row, line = put(body, "tr");
+function addRow(body, row, style) {
+  const { transfer, limit, kind, part, rate, own, lacks } = row, line = put(body, "tr");
   const user = put(line, "th", transfer.user);
   user.scope = "row";
   user.title = transfer.user;
   put(line, "td", whole(rate), "number");
-  const why = put(line, "td");
-  if (!transfer.waiting) put(why, "span", undefined, "mark " + (kind === "nothing" ? kind : colourOf(limitColours, limit)));
+  const why = put(line, "td", undefined, "held");
+  why.title = transfer.waiting ? "" : limit;
+  if (!transfer.waiting) put(why, "span", undefined, "mark " + style);
+  const held = limitName(kind, transfer, 12);
   why.append(transfer.waiting ? "waits for a lane" : part > 0 ? `${held} ${percent(part)}` : held);
   put(line, "td", transfer.guaranteed === null ? "-" : whole(transfer.guaranteed), lacks ? "number bad" : "number");
   put(line, "td", own === null ? "-" : whole(own), "number more");
   put(line, "td", transfer.size ? percent(Math.min(1, transfer.moved / transfer.size)) : "-", "number more");
-  for (const text of [transfer.path ?? "a listing", transfer.direction, transfer.group ?? "-", "#" + transfer.session, transfer.peer])
+  const path = transfer.path ?? "a listing";
+  put(line, "td", path.split("/").pop() || path, "more").title = path;
+  for (const text of [transfer.direction, transfer.group ?? "-", "#" + transfer.session, transfer.peer])
     put(line, "td", text, "more").title = text;
 }
 
-// Fills the table: who waits comes first, and then who gets most.
+// Fills the table: who waits comes first, and then as the columns are.
 function fillTransfers(rows) {
   const body = byId("transfers");
   body.replaceChildren();
-  const order = (a, b) => b.transfer.waiting - a.transfer.waiting || b.rate - a.rate || a.transfer.session - b.transfer.session;
-  for (const row of [...rows].sort(order)) addRow(body, row);
+  for (const waiting of [true, false])
+    for (const row of rows.filter(r => r.transfer.waiting === waiting)) addRow(body, row, styleOf(row.limit, rows));
 }
 
-// Keeps what each user got, for ten minutes.
-function remember(status, rows) {
-  const users = new Map();
-  for (const row of rows) users.set(row.transfer.user, (users.get(row.transfer.user) ?? 0) + row.rate);
-  past.push({ micros: status.micros, users });
-  past = past.filter(it => status.micros - it.micros < KEPT_MICROS);
+// Keeps for ten minutes what each user got, what all got together, and which limits held somebody back.
+function remember(status, old, rows) {
+  const users = new Map(), time = (status.micros - old.micros) / 1e6;
+  for (const { transfer, granted } of rows) users.set(transfer.user, (users.get(transfer.user) ?? 0) + Math.max(0, granted));
+  const all = Math.max(status.issued - old.issued, sum([...users.values()]));
+  past = past.filter(it => status.micros - it.to < KEPT_MICROS);
+  past.push({ from: old.micros, to: status.micros, time, users, all, limits: limitsOf(rows) });
 }
 
-// The past as areas, one on another: the six users who had most, and all others.
+// The limits that hold somebody back.
+function limitsOf(rows) {
+  return [...new Set(rows.filter(r => r.kind !== "nothing" && !r.transfer.waiting).map(r => r.limit))];
+}
+
+// The six users who got most in the past, with what they got, and all others together.
+function pastUsers() {
+  const totals = new Map();
+  for (const { users } of past) for (const [user, got] of users) totals.set(user, (totals.get(user) ?? 0) + got);
+  const first = [...totals].filter(it => it[1] > 0).sort((a, b) => b[1] - a[1]).slice(0, 6), rest = sum(past.map(it => it.all)) - sum(first.map(it => it[1]));
+  giveColours(userColours, first.map(it => it[0]));
+  const areas = first.map(([user, got]) => ({ user, got, style: userColours.get(user), of: it => it.users.get(user) ?? 0 }));
+  if (rest > 0) areas.push({ user: "others", got: rest, style: "nothing", of: it => it.all - sum(first.map(([user]) => it.users.get(user) ?? 0)) });
+  return areas;
+}
+
+// The past as areas, one on another.
 function drawPast(status) {
-  const chart = byId("past"), list = byId("past-users"), totals = new Map();
-  for (const { users } of past) for (const [user, rate] of users) totals.set(user, (totals.get(user) ?? 0) + rate);
-  byId("history").hidden = totals.size === 0 || past.length < 2;
-  chart.replaceChildren();
+  const chart = byId("past"), list = byId("past-users"), areas = pastUsers(), wide = roomWide();
+  byId("history").hidden = areas.length === 0;
+  setSize(chart, wide, 108);
   list.replaceChildren();
-  if (byId("history").hidden) return;
-  const first = [...totals.keys()].sort((a, b) => totals.get(b) - totals.get(a)).slice(0, 6);
-  const most = Math.max(1, ...past.map(it => sum([...it.users.values()])));
-  const x = it => 1150 - 1150 * (status.micros - it.micros) / KEPT_MICROS, y = rate => 88 - 84 * rate / most;
+  const most = Math.max(1, ...past.map(it => it.all / it.time));
+  byId("past-most").textContent = "up to " + rateText(most);
+  const x = micros => (wide * Math.max(0, 1 - (status.micros - micros) / KEPT_MICROS)).toFixed(1), y = rate => (88 - 84 * rate / most).toFixed(1);
+  const edge = levels => past.flatMap((it, i) => [x(it.from) + "," + y(levels[i]), x(it.to) + "," + y(levels[i])]);
   let below = past.map(() => 0);
-  const area = (style, rates) => {
-    const above = rates.map((rate, i) => below[i] + rate), at = (levels, i) => `${x(past[i]).toFixed(1)},${y(levels[i]).toFixed(1)}`;
-    const points = [...past.keys()];
-    draw(chart, "polygon", { points: [...points.map(i => at(above, i)), ...points.reverse().map(i => at(below, i))].join(" "), class: style });
+  for (const { user, got, style, of } of areas) {
+    const above = past.map((it, i) => below[i] + of(it) / it.time);
+    draw(chart, "polygon", { points: [...edge(above), ...edge(below).reverse()].join(" "), class: style });
+    addMark(list, style, `${cut(user, LONGEST)} ${amountText(got)}`).title = user;
     below = above;
-  };
-  for (const user of first) {
-    area(colourOf(userColours, user), past.map(it => it.users.get(user) ?? 0));
-    const item = put(list, "li");
-    put(item, "span", undefined, "mark " + colourOf(userColours, user));
-    item.append(cut(user, 20));
   }
-  if (totals.size > first.length) {
-    area("nothing", past.map((it, i) => sum([...it.users.values()]) - below[i]));
-    const item = put(list, "li");
-    put(item, "span", undefined, "mark nothing");
-    item.append(`${totals.size - first.length} others`);
-  }
-  draw(chart, "line", { x1: 0, x2: 1150, y1: 88, y2: 88, class: "base" });
+  draw(chart, "line", { x1: 0, x2: wide, y1: 88, y2: 88, class: "base" });
+  for (const [place, anchor, text] of [[0, "start", "10 minutes ago"], [wide / 2, "middle", "5"], [wide, "end", "now"]])
+    draw(chart, "text", { x: place, y: 102, "text-anchor": anchor, class: "scale" }, text);
 }
 
 function show(status, old) {
@@ -372,11 +425,13 @@ function show(status, old) {
   byId("summary").textContent = `up ${Math.floor(minutes / 60)} h ${minutes % 60} min, `
     + `${status.sessions} of ${status.max_sessions} sessions, ${rows.length - waiting} of ${status.lanes} transfers, ${waiting} waiting, `
     + `${whole(status.ended)} ended, ${whole(status.failed_logins)} wrong passwords, ${whole(status.refused)} refused`;
-  if (old === null) past = [];
+  if (old !== null) remember(status, old, rows);
+  else [past, unmet] = [[], new Map()];
+  keepUnmet(rows);
+  giveColours(limitColours, [...new Set([limitsOf(rows), ...past.map(it => it.limits)].flat())]);
   fillLines(status, rows);
   fillAlarms(status, rows);
   for (const way of WAYS) drawChart(way, rows);
-  remember(status, rows);
   drawPast(status);
   fillTransfers(rows);
   byId("none").hidden = rows.length > 0;
@@ -395,9 +450,8 @@ async function ask() {
     if (!reply.ok) throw new Error("status " + reply.status);
     const status = await reply.json();
     if (last === null || status.micros !== last.micros) {
-      before = last !== null && last.started === status.started && last.micros < status.micros ? last : null;
+      show(status, last !== null && last.started === status.started && last.micros < status.micros ? last : null);
       last = status;
-      show(last, before);
     }
     answered = new Date();
     setLost("");
@@ -408,7 +462,7 @@ async function ask() {
 }
 
 async function run() {
-  if (!paused && !document.hidden) await ask();
+  if (!paused) await ask();
   setTimeout(run, 1000);
 }
 

@@ -1,15 +1,33 @@
 //! Numbers out of their ranges, each refused by its name.
 
 use crate::expect::holds;
-use ftp_server::{FtpServer, FtpServerFault, LimitsFault, MemStore, NoHooks, NumberFault};
+use ftp_server::{
+    FtpServer, FtpServerFault, LimitsFault, MemStore, NoHooks, NumberFault, RoundClock,
+};
+use std::net::{Net, TcpListener, TcpStream};
 use std::process::Abort;
+use std::sync::Wait;
+use std::thread::Threads;
+use std::time::Clock;
 
 fn new_server(rt: &(impl Abort + AllocGlobal)) -> FtpServer {
     FtpServer::at(rt.alloc(), [127, 0, 0, 1], 2121).expect(rt, "memory")
 }
 
 // Stops the test unless the server is refused for this number.
-fn refuses(rt: &HostRuntime, server: FtpServer, number: NumberFault) {
+fn refuses<R>(rt: &R, server: FtpServer, number: NumberFault)
+where
+    R: Abort
+        + Threads
+        + Wait
+        + Clock
+        + RoundClock
+        + Net<Listener = TcpListener, Stream = TcpStream>
+        + AllocGlobal
+        + Copy
+        + Send
+        + Sync,
+{
     let store = MemStore::new(rt.alloc(), 1_000).expect(rt, "memory");
     match server.serve_store(rt, store, NoHooks) {
         Err(FtpServerFault::Number(fault)) => holds(rt, fault == number),

@@ -1,0 +1,9 @@
+pub mod Changes
+pub mod Defaults
+pub mod Folders
+pub mod FromConfig
+pub mod Ranges
+pub mod Rows
+pub use Rattle.ftp_daemon.specs.SameRates
+pub use Rattle.line_rates.specs.Rates
+pub use Rattle.paced_rounds.specs.Seconds

@@ -1,5 +1,4 @@
--- What a session waits for, by the calls of its handler: a login, and the delay after a wrong
--- password.
+-- The waits of a session by the calls of its handler: for a login, and after a wrong password.
 use Rattle.std.specs.Prelude.{◌≡◌, ℕ, Bool, true, false, cond}
 use Rattle.std.specs.declared.alloc.Global.{Global}
 use Rattle.client_patience.specs.declared.patience.Patience.{Patience}

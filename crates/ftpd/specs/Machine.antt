@@ -1,4 +1,4 @@
--- What the machine is asked with, and what its answers count as.
+-- The requests of the program to the machine: files, and the address of the page.
 use Rattle.std.specs.Prelude.{◌≡◌, ℕ, true, [], ◌∷◌}
 use Rattle.std.specs.Fs.{new_options, with_append, with_create, with_create_new, with_read, with_write}
 use Rattle.std.specs.Net.Addr.{ipv4_octets}

@@ -30,7 +30,10 @@ class Wrapped(Server):
         self.notes = open(f"{self.place}/notes", "wb+")
         self.output = open(f"{self.place}/output", "wb+")
         words = [*(APART if self.apart else []), f"{TOP}/package/run", "ftpd.toml", *self.words]
-        self.process = subprocess.Popen(words, cwd=self.place, stdin=subprocess.DEVNULL, stdout=self.output, stderr=self.notes, env=self.environment)
+        # (a shell cannot trap a signal that was ignored when it began, as HUP is below nohup)
+        self.process = subprocess.Popen(
+            words, cwd=self.place, stdin=subprocess.DEVNULL, stdout=self.output, stderr=self.notes, env=self.environment,
+            preexec_fn=lambda: signal.signal(signal.SIGHUP, signal.SIG_DFL))
         until(lambda: self.told().startswith("ready\n") or self.process.poll() is not None, "ready")
 
     def wrapper(self):

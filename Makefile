@@ -17,7 +17,7 @@ SHARE = $(DESTDIR)$(PREFIX)/share
 DOCS = $(DESTDIR)$(DOCDIR)
 # Pages for those who work on the repository are not installed, and a link to what is not installed becomes its text.
 INNER = DECISIONS architecture desk walk working world
-PAGES = $(filter-out $(INNER:%=docs/%.md),$(wildcard docs/*.md)) $(wildcard docs/*.png)
+PAGES = $(filter-out $(INNER:%=docs/%.md),$(wildcard docs/*.md))
 ABSENT = \.\./(README|LICENSE|bench|crates)|($(shell echo $(INNER) | tr ' ' '|'))\.md
 UNITS = $(DESTDIR)$(PREFIX)/lib/systemd/system
 CONFIG = $(DESTDIR)$(SYSCONFDIR)/ftpd.toml
@@ -38,6 +38,7 @@ install:
 	install -D -m 644 -t $(DESTDIR)$(ZSHDIR) completions/_ftpd completions/_sheets
 	install -D -m 644 -t $(SHARE)/fish/vendor_completions.d completions/ftpd.fish completions/sheets.fish
 	install -D -m 644 -t $(DOCS)/docs $(PAGES)
+	install -D -m 644 -t $(DOCS)/docs/pictures docs/pictures/*.png
 	sed -zEi 's@\[([^][]*)\]\(($(ABSENT))[^)]*\)@\1@g' $(DOCS)/docs/*.md
 	install -D -m 644 -t $(DOCS)/examples $(shell find examples -maxdepth 1 -type f)
 	install -d $(UNITS)

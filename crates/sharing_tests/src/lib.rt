@@ -30,3 +30,5 @@ mod small_trees;
 mod ticks;
 #[cfg(test)]
 mod trees;
+#[cfg(test)]
+mod users;

@@ -6,7 +6,7 @@ use crate::expect::holds;
 use limit_tree::Tree;
 use std::process::Abort;
 
-const SMALL: Sizes = Sizes {
+pub(crate) const SMALL: Sizes = Sizes {
     wants: 5,
     limits: 13,
     leaves: 5,
@@ -14,7 +14,7 @@ const SMALL: Sizes = Sizes {
 };
 
 /// Grants of the leaves, followed by zeros.
-type List = [u64; 5];
+pub(crate) type List = [u64; 5];
 
 // Number of lists of five grants below five.
 const LISTS: u32 = 3_125;
@@ -39,7 +39,7 @@ fn is_at_least(list: &[u64], other: &[u64]) -> bool {
     true
 }
 
-fn is_within(made: &Made, list: &[u64]) -> bool {
+pub(crate) fn is_within(made: &Made, list: &[u64]) -> bool {
     for held in made.limits.iter() {
         if sum_of(list, held) > held.limit {
             return false;
@@ -49,7 +49,7 @@ fn is_within(made: &Made, list: &[u64]) -> bool {
 }
 
 // Advances a list to the next one up to the wants. Returns false after the last.
-fn count_on(list: &mut [u64], wants: &[u64]) -> bool {
+pub(crate) fn count_on(list: &mut [u64], wants: &[u64]) -> bool {
     for (leaf, want) in wants.iter().enumerate() {
         if leaf < list.len() {
             if list[leaf] < *want {
@@ -62,7 +62,7 @@ fn count_on(list: &mut [u64], wants: &[u64]) -> bool {
     false
 }
 
-fn sorted(list: List) -> List {
+pub(crate) fn sorted(list: List) -> List {
     let mut sorted = list;
     sorted.sort_unstable();
     sorted
@@ -90,7 +90,7 @@ fn is_surpassed(rt: &impl Abort, made: &Made, known: Option<List>) -> bool {
     panic!(rt; "there are no more lists than these")
 }
 
-fn list_of(grants: &[u64]) -> List {
+pub(crate) fn list_of(grants: &[u64]) -> List {
     let mut list = [0; 5];
     for (place, grant) in list.iter_mut().zip(grants) {
         *place = *grant;

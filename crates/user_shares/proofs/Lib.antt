@@ -6,3 +6,4 @@ pub mod OuterStage
 pub mod TightStage
 pub mod Alike
 pub mod Added
+pub mod Grown

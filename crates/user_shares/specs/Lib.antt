@@ -1,4 +1,5 @@
+pub mod InRow
+pub mod Kinds
 pub mod Nodes
 pub mod Rebuilt
 pub mod Stages
-pub mod Kinds

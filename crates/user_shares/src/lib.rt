@@ -5,10 +5,12 @@
 mod fault;
 mod kinds;
 mod laws;
+mod owners;
 mod rebuild;
 mod share;
 mod stages;
 
 pub use fault::UserShareFault;
 pub use laws::{inner_gives_most, outer_is_backed, tight_is_shared};
+pub use owners::owners_of;
 pub use share::allot_by_users;

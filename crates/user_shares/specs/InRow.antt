@@ -1,4 +1,4 @@
--- Branches that stand in a row, and together have all leaves of a tree.
+-- Branches side by side, which together have all leaves of a tree.
 use Rattle.std.specs.Prelude.{◌≡◌, ℕ, ◌+◌, ◌<◌, ◌≤◌, false, List, [], ◌∷◌, length, slice_get, slice_index, Some}
 use Rattle.limit_tree.specs.Outline.{is_leaf_kind, limits}
 use Rattle.limit_tree.specs.declared.place.Place.{Place}

@@ -4,6 +4,7 @@ ghost use Rattle.std.specs.Prelude.{◌≡◌, ◌+◌, ◌*◌, ◌<◌, ◌≤
 ghost use Rattle.limit_tree.specs.Sharing.{IsWanted, IsWithin, IsBackedBy, IsBest};
 ghost use Rattle.limit_tree.specs.Outline.{limits};
 ghost use Rattle.round_allocator.specs.Rounds.{IsExhausted, IsEntry, IsNamed};
+ghost use Rattle.round_allocator.specs.Order.{GivesInOrder};
 ghost use Rattle.round_allocator.specs.Levels.{branch_count};
 ghost use Rattle.round_allocator.specs.declared.level.TheConstants.{MAX_PROBES};
 ghost use Rattle.round_allocator.specs.Marks.{HasMark, AreDeepest};
@@ -125,6 +126,7 @@ pub fn allot_counted<A: Allocator, B: Allocator + Clone, L: Ledger>(
     ensures named { IfOk result (λ r. IsNamed (limits tree.now) r.0.items r.1) }
     ensures backed { IfOk result (λ r. IsBackedBy (limits tree.now) r.0.items r.1) }
     ensures best { IfOk result (λ r. IsBest (limits tree.now) r.0.items) }
+    ensures order { IfOk result (λ r. GivesInOrder (limits tree.now) r.0.items) }
     ensures counted { IfOk result (λ r. r.2 ≤ MAX_PROBES * branch_count tree.now) }
     ensures probes { IfOk result (λ r. r.2 ≡ steps.new) }
 {
@@ -150,6 +152,7 @@ fn allot_anew<A: Allocator, B: Allocator + Clone, L: Ledger>(
     ensures named { IfOk result (λ r. IsNamed (limits tree.now) r.0.items r.1) }
     ensures backed { IfOk result (λ r. IsBackedBy (limits tree.now) r.0.items r.1) }
     ensures best { IfOk result (λ r. IsBest (limits tree.now) r.0.items) }
+    ensures order { IfOk result (λ r. GivesInOrder (limits tree.now) r.0.items) }
 {
     let mut steps = Steps::<L>::new(blank);
     let (grants, certificate, _probes) = allot_counted(alloc, tree, &mut steps)?;
@@ -171,6 +174,7 @@ pub fn allot<A: Allocator, B: Allocator + Clone>(
     ensures named { IfOk result (λ r. IsNamed (limits tree.now) r.0.items r.1) }
     ensures backed { IfOk result (λ r. IsBackedBy (limits tree.now) r.0.items r.1) }
     ensures best { IfOk result (λ r. IsBest (limits tree.now) r.0.items) }
+    ensures order { IfOk result (λ r. GivesInOrder (limits tree.now) r.0.items) }
 {
     allot_anew::<A, B, Brand>(alloc, tree, Blank::new(1))
 }

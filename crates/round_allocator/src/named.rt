@@ -162,9 +162,9 @@ fn allot_anew<A: Allocator, B: Allocator + Clone, L: Ledger>(
 /// The grants of the leaves of a tree, in octets, and their certificate. The grants are those of handing out one octet
 /// at a time, from the floors on, to the leaf with the smallest grant among those with room, the lowest leaf number
 /// first. They are best. The entry of each leaf that has less than it wants is the deepest full branch above it; all
-/// other entries are none. It is proved that the grants are best; that, of several best lists, they are those of this
-/// rule is only tested. A few allocations, O(nodes * depth) time for each of at most `MAX_PROBES` probes, for any
-/// wants. Returns `AllocError` only if memory runs out.
+/// other entries are none. It is proved that the grants are best, and that of leaves side by side the first is served
+/// first (`order`); that, of several best lists, they are those of this rule is only tested. A few allocations, O(nodes *
+/// depth) time for each of at most `MAX_PROBES` probes, for any wants. Returns `AllocError` only if memory runs out.
 pub fn allot<A: Allocator, B: Allocator + Clone>(
     alloc: B,
     tree: &Tree<A>,

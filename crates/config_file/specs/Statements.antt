@@ -1,4 +1,4 @@
--- What a statement of a TOML text begins with: the header of a table, or a key.
+-- The begin of a statement of a TOML text: the header of a table, or a key.
 use Rattle.std.specs.Prelude.{ℕ, Bool, true, false, ◌||◌, ◌&&◌, not, nat_eq, List, length, drop, codes, Option, Some, None, is_some, option_map, option_and_then, if◌then◌else◌}
 use Rattle.std.specs.List.{starts_with, prefix_len}
 use Rattle.std.specs.Option.{option_or}
@@ -45,7 +45,8 @@ is_header name.Server octets = is_between (codes "[") (codes "server") (codes "]
 is_header name.Group octets = is_between (codes "[[") (codes "group") (codes "]]") octets
 is_header name.User octets = is_between (codes "[[") (codes "user") (codes "]]") octets
 is_header (name.Override user) octets =
-    is_some (option_and_then (after_text (codes "]]")) (option_and_then (after_name (codes "override"))
+    is_some (option_and_then (after_text (codes "]]"))
+    (option_and_then (after_name (codes "override"))
     (option_and_then (after_text (codes ".")) (option_and_then (after_name (codes "user"))
     (after_text (codes "[[") octets)))))
 is_header name.Dir octets = is_between (codes "[[") (codes "dir") (codes "]]") octets

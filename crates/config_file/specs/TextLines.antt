@@ -81,12 +81,12 @@ is_about name.Top key headed octets =
     is_headed key octets || (not headed && is_stated key octets)
 is_about table key headed octets = is_header table octets
 
--- such a statement begins at the point, behind a line
+-- such a statement begins at the point, in a line after this one
 abbrev pub is_found : TableName → List ℕ → ℕ → Point → List ℕ → Bool
 is_found table key behind point octets =
     (is_start point && nat_lt behind point.line) && is_about table key point.headed octets
 
--- the lines, behind one, of the statements that are about a table or a key, in a text from a point on
+-- the lines, after one, of statements that are about a table or a key, in a text from a point on
 abbrev pub lines_about : TableName → List ℕ → ℕ → Point → List ℕ → List ℕ
 lines_about table key behind point [] = []
 lines_about table key behind point (octet ∷ octets) =
@@ -94,12 +94,12 @@ lines_about table key behind point (octet ∷ octets) =
     then point.line ∷ lines_about table key behind (point_after point octet) octets
     else lines_about table key behind (point_after point octet) octets
 
--- the line of the row, which counts from 1, behind a line
+-- the line of the row, which counts from 1, after a line
 abbrev pub row_line : List ℕ → TableName → List ℕ → ℕ → ℕ → Option ℕ
 row_line octets table key behind row =
     slice_get (lines_about table key behind begin octets) (row - 1)
 
--- the line of a key above all tables, or of the first header that begins with it; otherwise the first
+-- the line of a key above all tables, or of the first header that begins with it; otherwise line 1
 abbrev pub key_line : List ℕ → List ℕ → ℕ
 key_line octets key = unwrap_or (row_line octets name.Top key 0 1) 1
 

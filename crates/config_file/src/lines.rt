@@ -6,7 +6,7 @@ ghost use Rattle.config_file.specs.TextLines.{begin, depth_after, from_long, fro
 use crate::fault::TableName;
 use crate::statements::{is_blank, is_headed, is_header, is_stated};
 
-/// What the octets before a point of a text are within: a comment, or a text with its quote.
+/// A comment, or a text with its quote, that a point of a TOML text is within.
 #[derive(Clone, Copy)]
 enum Within {
     /// Neither.
@@ -79,7 +79,7 @@ fn from_long(quote: u8, octet: u8) -> Within
 }
 
 impl Within {
-    /// What the octets up to this one are within.
+    /// The same after an octet.
     fn turn(self, octet: u8) -> Within
         ensures within { result ≡ turn self octet }
     {
@@ -137,7 +137,7 @@ impl Point {
         self.fresh && self.depth == 0 && self.within.is_outside()
     }
 
-    /// The point behind the octet that follows this one.
+    /// The point after the octet that follows this one.
     fn after(self, octet: u8) -> Point
         requires lines { self.line < 2 ^ 63 }
         requires depth { self.depth < 2 ^ 63 }
@@ -173,14 +173,14 @@ fn is_about(octets: &[u8], table: TableName, key: &str, headed: bool) -> bool
     }
 }
 
-/// Returns whether such a statement begins at a point, behind a line.
+/// Returns whether such a statement begins at a point, in a line after this one.
 fn is_found(octets: &[u8], table: TableName, key: &str, behind: usize, point: Point) -> bool
     ensures found { result ≡ is_found table key.now behind point octets.now }
 {
     point.is_start() && behind < point.line && is_about(octets, table, key, point.headed)
 }
 
-/// The line of a row, which counts from 1, of a table or a key, behind a line.
+/// The line of a row, which counts from 1, of a table or a key, after this line.
 fn row_line(octets: &[u8], table: TableName, key: &str, behind: usize, row: usize) -> Option<usize>
     ensures line { result ≡ row_line octets.now table key.now behind row }
 {

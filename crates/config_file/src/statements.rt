@@ -1,4 +1,4 @@
-//! What a statement of a TOML text begins with: the header of a table, or a key.
+//! The begin of a statement of a TOML text: the header of a table, or a key.
 
 ghost use Rattle.std.specs.Prelude.{◌≡◌, ◌≤◌, length, option_map};
 ghost use Rattle.std.specs.List.{prefix_len};

@@ -33,8 +33,8 @@ short_of which promised rate =
     if fits promised rate then None
     else Some (record { limit = which; promised = promised; rate = rate })
 
--- the first rate that the guarantees one way of so many sessions do not fit into: that of a session,
--- of the user, of the group, and of the server
+-- the first rate that the guarantees one way of a number of sessions do not fit into: that of a
+-- session, of the user, of the group, and of the server
 abbrev pub short_down : ServerTable → ℕ → UserTable → ℕ → Option Shortage
 short_down server group user sessions =
     let each = user.session_down_floor in
@@ -52,8 +52,8 @@ short_up server group user sessions =
     (short_of (GroupUp user.group) all group)) (short_of ServerUp all server.up_rate)
 
 -- the same downwards, upwards, and both ways together, of sessions alone on the server
-abbrev pub shortage : ServerTable → List GroupTable → UserTable → ℕ → Option Shortage
-shortage server groups user sessions =
+abbrev pub shortage_of : ServerTable → List GroupTable → UserTable → ℕ → Option Shortage
+shortage_of server groups user sessions =
     let group = rates_named groups user.group in
     let both = sessions * user.session_down_floor + sessions * user.session_up_floor in
     option_or (option_or (short_down server group.0 user sessions)
@@ -62,4 +62,4 @@ shortage server groups user sessions =
 -- that of a second session, if the first can have its guarantees
 abbrev pub second_shortage : ServerTable → List GroupTable → UserTable → Option Shortage
 second_shortage server groups user =
-    if is_some (shortage server groups user 1) then None else shortage server groups user 2
+    if is_some (shortage_of server groups user 1) then None else shortage_of server groups user 2

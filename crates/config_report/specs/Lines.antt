@@ -81,7 +81,7 @@ short_rate_text (UserUp name) = codes "user " ++ (name.now ++ codes " up")
 short_rate_text SessionDown = codes "session down"
 short_rate_text SessionUp = codes "session up"
 
--- what would be guaranteed, and the rate
+-- the octets that would be guaranteed, and the rate
 abbrev pub shortage_text : Shortage → List ℕ
 shortage_text why =
     decimal why.promised ++ (codes " octets a second would be guaranteed of the "

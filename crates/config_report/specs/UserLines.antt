@@ -30,7 +30,7 @@ permitted letters =
     ++ (word_if letters 109 (codes "make directories, ")
     ++ word_if letters 119 (codes "store, ")))))))
 
--- what follows them
+-- the words after them
 abbrev pub rest_word : List ℕ → List ℕ
 rest_word letters = if nat_eq (length letters) 0 then codes "nothing" else codes "nothing else"
 

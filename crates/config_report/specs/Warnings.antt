@@ -4,7 +4,7 @@ use Rattle.std.specs.Borrow.{Bor}
 use Rattle.std.specs.Char.{to_ascii_lowercase}
 use Rattle.std.specs.List.{flat_map, list_any}
 use Rattle.std.specs.Net.Addr.{ipv4_bits}
-use Rattle.config_report.specs.Floors.{second_shortage, shortage}
+use Rattle.config_report.specs.Floors.{second_shortage, shortage_of}
 use Rattle.config_report.specs.Together.{all_warnings, is_among_passive, name_warnings}
 use Rattle.config_file.specs.declared.stated.ServerTable.{ServerTable}
 use Rattle.config_file.specs.declared.stated.GroupTable.{GroupTable}
@@ -133,7 +133,7 @@ second_warnings user (Some why) = NoSecondSession user.name why ∷ []
 
 abbrev pub floor_warnings : ServerTable → List GroupTable → UserTable → List Warning
 floor_warnings server groups user =
-    first_warnings user (shortage server groups user 1)
+    first_warnings user (shortage_of server groups user 1)
     ++ second_warnings user (second_shortage server groups user)
 
 abbrev pub user_warnings : ServerTable → List GroupTable → Option Sight → SeenUser → List Warning

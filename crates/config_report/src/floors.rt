@@ -1,7 +1,7 @@
 //! The rates for which a session of a user, or a second one, cannot have its guarantees.
 
 ghost use Rattle.std.specs.Prelude.{◌≡◌, ◌≤◌};
-ghost use Rattle.config_report.specs.Floors.{fits, has_floor, rates_by, rates_named, second_shortage, short_down, short_of, short_up, shortage};
+ghost use Rattle.config_report.specs.Floors.{fits, has_floor, rates_by, rates_named, second_shortage, short_down, short_of, short_up, shortage_of};
 
 use config_file::{GroupTable, ServerTable, UserTable};
 use std::fmt;
@@ -95,7 +95,11 @@ impl fmt::Display for Shortage<'_> {
     ghost output = { λ why. Some (shortage_text why) };
 
     fn fmt<W: fmt::Write>(&self, f: &mut fmt::Formatter<W>) -> fmt::Result {
-        let Shortage { limit, promised, rate } = *self;
+        let Shortage {
+            limit,
+            promised,
+            rate,
+        } = *self;
         write!(
             f,
             "{promised} octets a second would be guaranteed of the {rate} of {limit}"
@@ -109,7 +113,11 @@ fn short_of<'a>(limit: ShortRate<'a>, promised: u64, rate: u64) -> Option<Shorta
     if fits(promised, rate) {
         None
     } else {
-        Some(Shortage { limit, promised, rate })
+        Some(Shortage {
+            limit,
+            promised,
+            rate,
+        })
     }
 }
 
@@ -151,14 +159,14 @@ fn short_up<'a>(
 
 /// The first rate that the guarantees of sessions of a user do not fit into, downwards, upwards, and both ways
 /// together, alone on the server.
-fn shortage<'a>(
+fn shortage_of<'a>(
     server: &ServerTable,
     groups: &[GroupTable],
     user: &UserTable<'a>,
     sessions: u64,
 ) -> Option<Shortage<'a>>
     requires few { sessions ≤ 2 }
-    ensures short { result ≡ shortage server.now groups.now user.now sessions }
+    ensures short { result ≡ shortage_of server.now groups.now user.now sessions }
 {
     let (down, up) = rates_named(groups, user.group);
     let both = sessions * user.session_down_floor + sessions * user.session_up_floor;
@@ -173,9 +181,9 @@ pub(crate) fn first_shortage<'a>(
     groups: &[GroupTable],
     user: &UserTable<'a>,
 ) -> Option<Shortage<'a>>
-    ensures short { result ≡ shortage server.now groups.now user.now 1 }
+    ensures short { result ≡ shortage_of server.now groups.now user.now 1 }
 {
-    shortage(server, groups, user, 1)
+    shortage_of(server, groups, user, 1)
 }
 
 /// The rate for which a second session of a user cannot have the guarantees of the first, if that can have them.
@@ -186,8 +194,8 @@ pub(crate) fn second_shortage<'a>(
 ) -> Option<Shortage<'a>>
     ensures short { result ≡ second_shortage server.now groups.now user.now }
 {
-    match shortage(server, groups, user, 1) {
+    match shortage_of(server, groups, user, 1) {
         Some(_) => None,
-        None => shortage(server, groups, user, 2),
+        None => shortage_of(server, groups, user, 2),
     }
 }

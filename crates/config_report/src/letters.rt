@@ -46,7 +46,7 @@ pub(crate) fn ordered(alloc: Global, letters: &str) -> Result<String, AllocError
     )
 }
 
-/// What follows the words of letters: that there is nothing, or nothing else.
+/// The words after those of letters: that there is nothing, or nothing else.
 pub(crate) fn rest_word(letters: &str) -> &'static str
     ensures rest { result.now ≡ rest_word letters.now }
 {

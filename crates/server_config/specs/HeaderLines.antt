@@ -5,7 +5,7 @@ use Rattle.server_config.specs.declared.fault.ConfigFault.{ConfigFault}
 use Rattle.server_config.specs.declared.fault.ConfigFault.TheVariants.{NotToml, Key, BadGroup, BadUser, BadStore}
 use Rattle.server_config.specs.declared.fault.OwnedHeader.{OwnedHeader}
 
--- a byte order mark of UTF-16 is at the front, or one of the first two octets is 0, which no TOML has
+-- a byte order mark of UTF-16 is at the front, or one of the first two octets is 0
 abbrev pub is_utf16 : List ℕ → Bool
 is_utf16 (first ∷ second ∷ more) =
     ((nat_eq first 254 && nat_eq second 255) || (nat_eq first 255 && nat_eq second 254))

@@ -18,7 +18,6 @@
 #![tactic(auto)]
 
 mod grammar;
-mod hints;
 mod numbers;
 mod patience;
 mod usage;

@@ -1,4 +1,3 @@
-pub mod Counted
 pub mod Floors
 pub mod Lines
 pub mod Looks

@@ -1,7 +1,6 @@
 //! Warnings: settings that are accepted and have no use, or another use than they seem to have.
 
-use crate::floors::Shortage;
-use crate::letters::{Permitted, rest_word};
+use crate::letters::Permitted;
 use std::fmt;
 
 /// A setting that is accepted and has no use. It prints as one line, without its end.
@@ -93,12 +92,10 @@ pub enum Warning<'a> {
     /// Not even the first session of the user can have its guarantee.
     NoFirstSession {
         user: &'a str,
-        why: Shortage<'a>,
     },
     /// A second session of the user cannot have the guarantee of the first.
     NoSecondSession {
         user: &'a str,
-        why: Shortage<'a>,
     },
     /// The user's home is no directory of the store.
     NoHome {
@@ -152,7 +149,7 @@ impl fmt::Display for Warning<'_> {
             ),
             Warning::GuaranteesWait { lanes } => write!(
                 f,
-                "a session gets what it is guaranteed while its transfer has a lane, and may wait for one: lanes = {lanes}"
+                "a session gets what it is guaranteed while its transfer has one of the {lanes} lanes, and may wait for one"
             ),
             Warning::PromisedDown { promised, rate } => write!(
                 f,
@@ -183,17 +180,16 @@ impl fmt::Display for Warning<'_> {
             }
             Warning::Unbrowsed { user, letters } => write!(
                 f,
-                "user {user}: clients need the letters e and l; permitted: {}{}",
-                Permitted(letters),
-                rest_word(letters)
+                "user {user}: clients need the letters e and l; permitted: {}nothing else",
+                Permitted(letters)
             ),
-            Warning::NoFirstSession { user, why } => write!(
+            Warning::NoFirstSession { user } => write!(
                 f,
-                "user {user}: not even the first session can be guaranteed what each is, and no login is accepted: {why}"
+                "user {user}: not even the first session can be guaranteed what each is, and no login is accepted"
             ),
-            Warning::NoSecondSession { user, why } => write!(
+            Warning::NoSecondSession { user } => write!(
                 f,
-                "user {user}: a second session cannot be guaranteed what each is: {why}"
+                "user {user}: a second session cannot be guaranteed what each is"
             ),
             Warning::NoHome { user, home } => {
                 write!(f, "{home}, the home of user {user}, is no directory")

@@ -436,7 +436,7 @@ fn faults_of_the_log_are_explained(rt: HostRuntime) {
 }
 
 const OUT_OF_RANGE: &str =
-    "file: top: version: out of range; it must be a number from 1 to 2\nftpd: OutOfRange\n";
+    "file: line 1: top: version: out of range; it must be a number from 1 to 2\nftpd: OutOfRange\n";
 
 /// If a configuration is refused, the server is not called.
 #[test]

@@ -1,5 +1,6 @@
 pub mod Levels
 pub mod Order
+pub mod Near
 pub mod Plains
 pub mod Verdicts
 pub mod Places

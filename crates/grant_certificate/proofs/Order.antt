@@ -15,7 +15,7 @@ abbrev level_above : (a b : List ℕ) → IsGreater a b → ℕ
 level_above a b greater = slice_index a greater.place + 1
 
 -- up to it the greater list has the larger sum
-larger_sum : (a b : List ℕ) (greater : IsGreater a b) → IsNonDecreasing b → sum_by (λ x. min x (level_above a b greater)) a < sum_by (λ x. min x (level_above a b greater)) b
+pub larger_sum : (a b : List ℕ) (greater : IsGreater a b) → IsNonDecreasing b → sum_by (λ x. min x (level_above a b greater)) a < sum_by (λ x. min x (level_above a b greater)) b
 larger_sum a b greater up =
     let less = sum_below-lt (length a) (up_to (level_above a b greater) a) (up_to (level_above a b greater) b) greater.place
     (λ i l. elim (cases_lt i greater.place) [

@@ -1,4 +1,5 @@
 pub mod Laws
+pub mod Equals
 pub mod Flaws
 pub mod Ranges
 pub mod Looks

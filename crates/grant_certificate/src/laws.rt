@@ -1,6 +1,7 @@
 //! Laws of all backed grants.
 
 ghost use Rattle.grant_certificate.specs.UserLaws.{BackedByUsersIsBest, UsersHaveLargestAtEachLevel, OneLeafEachIsBest};
+ghost use Rattle.grant_certificate.specs.Equals.{EqualsAreNear};
 ghost use Rattle.grant_certificate.specs.TwoStages.{DeepestIsBacked, TwoStagesAreBacked};
 ghost use Rattle.grant_certificate.specs.Laws.{BackedIsLargestAtEachLevel, BackedIsBest, EachHasAscending, PlainBackedIsLargestAtEachLevel, PlainBackedIsBest};
 
@@ -55,4 +56,10 @@ pub fn two_stages_are_backed()
 /// If some certificate backs grants among users, so does that of the deepest full branches.
 pub fn deepest_is_backed()
     ensures backed { DeepestIsBacked }
+{}
+
+/// In best grants, an unmet leaf has at most one octet less than another leaf under the same limits, unless that has its
+/// floor.
+pub fn equals_are_near()
+    ensures near { EqualsAreNear }
 {}

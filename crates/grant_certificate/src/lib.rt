@@ -39,7 +39,7 @@ pub use checker::check;
 pub use flaw::{Flaw, Verdict};
 pub use laws::{
     backed_by_users_is_best, backed_is_best, backed_is_largest_at_each_level, deepest_is_backed,
-    each_has_ascending, one_leaf_each_is_best, plain_backed_is_best,
+    each_has_ascending, equals_are_near, one_leaf_each_is_best, plain_backed_is_best,
     plain_backed_is_largest_at_each_level, two_stages_are_backed, users_have_largest_at_each_level,
 };
 pub use leaves::Leaves;

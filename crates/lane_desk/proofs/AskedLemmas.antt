@@ -57,6 +57,11 @@ asked_plan rates tick xs t lanes own apart p e = record {
       ∙ finds_each xs p.order (All-permutation (Finds xs) xs p.order p.all (finds_all xs (apart_many xs apart)));
 }
 
+-- the asks of lanes in the order of a plan
+pub asked_order : (xs order : List Asker) (lanes : List ℕ) (own : List Ask) → AreApart xs → IsPermutation xs order → lanes ≡ map lane_in order → own ≡ asks_on xs lanes → own ≡ map ask_in order
+asked_order xs order lanes own apart moved are e =
+    e ∙ ap (asks_on xs) are ∙ finds_each xs order (All-permutation (Finds xs) xs order moved (finds_all xs (apart_many xs apart)))
+
 -- a plan for the same asks in another order, and a fault of one
 pub plan_moved : (rates : Rates) (tick : ℕ) (xs ys : List Asker) (t : LimitTree) (lanes : List ℕ) → IsPermutation xs ys → IsPlan rates tick ys t lanes → IsPlan rates tick xs t lanes
 plan_moved rates tick xs ys t lanes moved p = record {

@@ -12,3 +12,4 @@ pub mod RoundLemmas
 pub mod Calls
 pub mod Sums
 pub mod AskedLemmas
+pub mod PeerLemmas

@@ -5,12 +5,13 @@ ghost use Rattle.limit_tree.specs.Outline.{limits as seen};
 ghost use Rattle.limit_tree.specs.Sharing.{IsBest};
 ghost use Rattle.world_terms.specs.Decisions.{IsLater};
 ghost use Rattle.lane_desk.specs.Asked.{ask_on, asks_on, AreApart, IsAskedPlan};
+ghost use Rattle.lane_desk.specs.Peers.{IsTurned};
 ghost use Rattle.lane_desk.specs.Turns.{turn_of};
 ghost use Rattle.std.specs.List.Sorted.{IsNonDecreasingBy};
 ghost use Rattle.lane_desk.specs.Refusals.{IsRefused, IsUnshared};
 
 use crate::refusal::RoundRefusal;
-use grant_certificate::{Sealed, seal};
+use grant_certificate::{Sealed, equals_are_near, seal};
 use grant_ledger::{Book, BookFault, MAX_ISSUED, MAX_LANES, Purse};
 use line_rates::{Ask, Limits, Plan, PlanFault, tree_of};
 use round_allocator::allot;
@@ -111,8 +112,11 @@ fn shares<L: Allocator, A: Allocator + Clone>(
         (λ r. IsAskedPlan limits.now tick asks.now (seen r.2.tree) r.0.items r.1.items) }
     ensures each { IfOk result (λ r. length r.0.items ≡ length r.2.grants) }
     ensures best { IfOk result (λ r. IsBest (seen r.2.tree) r.2.grants) }
+    ensures turns { IfOk result
+        (λ r. IsTurned had.now limits.now r.0.items r.1.items r.2.grants) }
     ensures fault { IfErr result (IsUnshared A limits.now tick asks.now) }
 {
+    equals_are_near();
     let turned = in_turn(alloc.clone()?, asks, had)?;
     let Plan { tree, lanes } = match tree_of(alloc.clone()?, limits, tick, &turned) {
         Ok(plan) => plan,
@@ -143,6 +147,8 @@ pub(crate) fn decide<L: Allocator, A: Allocator + Clone, N>(
         IsAskedPlan limits.now tick asks.now (seen d.sealed.tree) d.lanes.items d.asks.items) }
     ensures each { IfOk result (λ d. length d.lanes.items ≡ length d.sealed.grants) }
     ensures best { IfOk result (λ d. IsBest (seen d.sealed.tree) d.sealed.grants) }
+    ensures turns { IfOk result
+        (λ d. IsTurned had.now limits.now d.lanes.items d.asks.items d.sealed.grants) }
     ensures purse { IfOk result (λ d.
         d.purse ≡ record { left = sum d.sealed.grants; tick = tick }) }
     ensures issued { IfOk result (λ d. book.new.issued ≡ book.old.issued + sum d.sealed.grants) }

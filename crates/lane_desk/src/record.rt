@@ -5,6 +5,7 @@ ghost use Rattle.limit_tree.specs.Outline.{limits as seen};
 ghost use Rattle.limit_tree.specs.Sharing.{IsBest};
 ghost use Rattle.desk_rule.specs.Lanes.{posted_in};
 ghost use Rattle.lane_desk.specs.Traces.{traces, IsRoundOf, IsSameRound};
+ghost use Rattle.lane_desk.specs.Peers.{IsTurned};
 ghost use Rattle.lane_desk.specs.Posted.{AllAnswered};
 ghost use Rattle.lane_desk.specs.Tried.{is_given};
 ghost use Rattle.lane_desk.specs.Rounded.{IsRound, IsRefusedRound, IsRoundOver, IsRefusedRoundOver};
@@ -72,6 +73,8 @@ impl<N> RoundDesk<N> {
             (traces self.old) (traces self.new) r.answered (seen r.sealed.tree) r.lanes.items r.asks.items
             r.sealed.grants) }
         ensures best { IfOk result (λ r. IsBest (seen r.sealed.tree) r.sealed.grants) }
+        ensures turns { IfOk result (λ r. IsTurned had.now limits.now r.lanes.items r.asks.items
+            r.sealed.grants) }
         ensures issued { IfOk result
             (λ r. book.new.issued ≡ book.old.issued + sum r.sealed.grants) }
         ensures total { IfOk result (λ r. posted_in (traces self.new)

@@ -7,6 +7,9 @@ mod PartLemmas
 pub mod RowLemmas
 mod SameName
 mod QueueLemmas
+mod PairLemmas
+mod OrderLemmas
+mod OrderSteps
 mod QueueSteps
 pub mod TickLemmas
 mod TwiceLemmas

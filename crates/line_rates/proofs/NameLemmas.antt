@@ -146,7 +146,7 @@ key_low r l n a e =
     at_most_one None = omega arith
     at_most_one (Some g) = omega arith
 
-key_none : (r : Rates) (l : ℕ) (n : Name) (a : Ask) → key r l a ≡ None → level_of (group_of r a.user) n < l
+pub key_none : (r : Rates) (l : ℕ) (n : Name) (a : Ask) → key r l a ≡ None → level_of (group_of r a.user) n < l
 key_none r l n a e =
     let h : AtLevel a.way (group_of r a.user) a.user a.session l None = subst (AtLevel a.way (group_of r a.user) a.user a.session l) e (at_level a.way (group_of r a.user) a.user a.session l) in
     let m = at_most (group_of r a.user) n in

@@ -45,29 +45,29 @@ name_is (Some n) (Some m) e = ap (λ x. Some x) (same_name-is n m (sym (names n 
 name_is None (Some m) e = absurd (cc)
 name_is (Some n) None e = absurd (cc)
 
-is_named : (n m : Option Name) → n ≡ m → option_cmp name_cmp n m ≡ Equal
+pub is_named : (n m : Option Name) → n ≡ m → option_cmp name_cmp n m ≡ Equal
 is_named n m e = ap (λ x. option_cmp name_cmp n x) (sym e) ∙ tied_itself (options_total total) n
 
 -- the orders by which a queue is sorted
-abbrev by_name : Queued → Queued → Ordering
+abbrev pub by_name : Queued → Queued → Ordering
 by_name x y = option_cmp name_cmp x.name y.name
 
-abbrev by_first : Queued → Queued → Ordering
+abbrev pub by_first : Queued → Queued → Ordering
 by_first x y = ordering_then (nat_cmp x.first y.first) (by_name x y)
 
 by_name_total : IsTotalOrder by_name
 by_name_total = on_total name_of (options_total total)
 
-by_first_total : IsTotalOrder by_first
+pub by_first_total : IsTotalOrder by_first
 by_first_total = then_total (on_total (λ x. x.first) nat_cmp_total) by_name_total
 
-not_less : (o p : Ordering) → is_lt (ordering_then o p) ≡ false → is_lt o ≡ false
+pub not_less : (o p : Ordering) → is_lt (ordering_then o p) ≡ false → is_lt o ≡ false
 not_less Less p e = e
 not_less Equal p e = refl
 not_less Greater p e = refl
 
 -- what is sorted by two orders in turn is sorted by the first
-sorted_first : (R S : Queued → Queued → Ordering) (xs : List Queued) → IsSortedBy (λ x y. is_lt (ordering_then (R x y) (S x y))) xs → IsSortedBy (λ x y. is_lt (R x y)) xs
+pub sorted_first : (R S : Queued → Queued → Ordering) (xs : List Queued) → IsSortedBy (λ x y. is_lt (ordering_then (R x y) (S x y))) xs → IsSortedBy (λ x y. is_lt (R x y)) xs
 sorted_first R S xs up k d from lt = not_less (R (get_or xs (k + 1) d) (get_or xs k d)) (S (get_or xs (k + 1) d) (get_or xs k d)) (up k d from lt)
 
 tied : (o p : Ordering) → o ≡ ordering_reverse p → is_lt p ≡ false → is_lt o ≡ false → o ≡ Equal
@@ -84,7 +84,7 @@ between R o xs up i j k d le more lt same =
     let high : is_lt (R (get_or xs k d) (get_or xs j d)) ≡ false = sorted_far (λ x y. is_lt (R x y)) (ranks_by o (λ x. x)) xs up j k d more lt in
     tied (R (get_or xs i d) (get_or xs j d)) (R (get_or xs j d) (get_or xs i d)) (o.antisymm (get_or xs i d) (get_or xs j d)) low (ap is_lt (o.congr (get_or xs i d) (get_or xs k d) (get_or xs j d) same) ∙ high)
 
-sorted_contiguous : (xs : List Queued) → IsSortedBy (λ x y. is_lt (by_name x y)) xs → IsContiguous xs
+pub sorted_contiguous : (xs : List Queued) → IsSortedBy (λ x y. is_lt (by_name x y)) xs → IsContiguous xs
 sorted_contiguous xs up i j k d le more lt same =
     name_is (get_or xs i d).name (get_or xs j d).name (between by_name by_name_total xs up i j k d le more lt (is_named (get_or xs i d).name (get_or xs k d).name same))
 
@@ -99,14 +99,14 @@ askers_at xs ys e i d lt =
     let sizes : length xs ≡ length ys = sym (length-map xs asker_of) ∙ ap length e ∙ length-map ys asker_of in
     sym (get_or-map asker_of xs i d d.asker lt) ∙ ap (λ us. get_or us i d.asker) e ∙ get_or-map asker_of ys i d d.asker (omega arith)
 
-same_contiguous : (xs ys : List Queued) → map name_of ys ≡ map name_of xs → IsContiguous xs → IsContiguous ys
+pub same_contiguous : (xs ys : List Queued) → map name_of ys ≡ map name_of xs → IsContiguous xs → IsContiguous ys
 same_contiguous xs ys e together i j k d le more lt same =
     names_at ys xs e i d (omega arith)
     ∙ together i j k d le more (let sizes : length ys ≡ length xs = sym (length-map ys name_of) ∙ ap length e ∙ length-map xs name_of in omega arith) (sym (names_at ys xs e i d (omega arith)) ∙ same ∙ names_at ys xs e k d lt)
     ∙ sym (names_at ys xs e j d (omega arith))
 
 -- those of one name have one first
-abbrev HaveFirsts : List Queued → Type 0
+abbrev pub HaveFirsts : List Queued → Type 0
 HaveFirsts xs = (i j : ℕ) (d : Queued) → i < length xs → j < length xs → (get_or xs i d).name ≡ (get_or xs j d).name → (get_or xs i d).first ≡ (get_or xs j d).first
 
 firsts_up : (xs : List Queued) → IsContiguous xs → AreNumbered xs → (n i : ℕ) (d : Queued) → i + n < length xs → (get_or xs i d).name ≡ (get_or xs (i + n) d).name → (get_or xs i d).first ≡ (get_or xs (i + n) d).first
@@ -117,7 +117,7 @@ firsts_up xs together numbered (suc n) i d lt same =
     firsts_up xs together numbered n i d (omega arith) before
     ∙ numbered (i + n) d (omega arith) (sym before ∙ same ∙ ap (λ m. (get_or xs m d).name) (sym e)) ∙ ap (λ m. (get_or xs m d).first) e
 
-have_firsts : (xs : List Queued) → IsContiguous xs → AreNumbered xs → HaveFirsts xs
+pub have_firsts : (xs : List Queued) → IsContiguous xs → AreNumbered xs → HaveFirsts xs
 have_firsts xs together numbered i j d lt lt' same = elim (cases_lt i j) [
   | inl h ↦ let e : i + (j - i) ≡ j = omega arith in
       firsts_up xs together numbered (j - i) i d (omega arith) (same ∙ ap (λ m. (get_or xs m d).name) (sym e)) ∙ ap (λ m. (get_or xs m d).first) e
@@ -125,7 +125,7 @@ have_firsts xs together numbered i j d lt lt' same = elim (cases_lt i j) [
       sym (firsts_up xs together numbered (i - j) j d (omega arith) (sym same ∙ ap (λ m. (get_or xs m d).name) (sym e)) ∙ ap (λ m. (get_or xs m d).first) e)
 ]
 
-moved_firsts : (xs ys : List Queued) → IsPermutation xs ys → HaveFirsts xs → HaveFirsts ys
+pub moved_firsts : (xs ys : List Queued) → IsPermutation xs ys → HaveFirsts xs → HaveFirsts ys
 moved_firsts xs ys p have i j d lt lt' same =
     let x = Contains-permutation ys xs (get_or ys i d) (IsPermutation-sym xs ys p) (i, lt, at_any ys i (get_or ys i d) d lt) in
     let y = Contains-permutation ys xs (get_or ys j d) (IsPermutation-sym xs ys p) (j, lt', at_any ys j (get_or ys j d) d lt') in
@@ -146,7 +146,7 @@ first_contiguous xs up have i j k d le more lt same =
     second Equal p e = e
     second Greater p e = absurd (cc)
 
-same_named : (r : Rates) (level : ℕ) (xs ys : List Queued) → map asker_of ys ≡ map asker_of xs → map name_of ys ≡ map name_of xs → AreNamedAt r level xs → AreNamedAt r level ys
+pub same_named : (r : Rates) (level : ℕ) (xs ys : List Queued) → map asker_of ys ≡ map asker_of xs → map name_of ys ≡ map name_of xs → AreNamedAt r level xs → AreNamedAt r level ys
 same_named r level xs ys askers same named k d lt =
     let sizes : length ys ≡ length xs = sym (length-map ys name_of) ∙ ap length same ∙ length-map xs name_of in
     names_at ys xs same k d lt ∙ named k d (omega arith) ∙ ap (λ x. key r level x.1) (sym (askers_at ys xs askers k d lt))

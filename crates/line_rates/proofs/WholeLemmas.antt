@@ -146,12 +146,12 @@ whole_tree r tick kids rows order ps g =
     (grown_named r tick (λ n. same_name n Server || named_from r 1 (map ask_in rows) n) (is_name r (map ask_in order)) (map ask_in order) (branch_over (rate_limit (rate_of r Server) tick) kids ps ∷ map deeper ps) (names_are r rows order g.all)
     (grown_over r tick (named_from r 1 (map ask_in rows)) (map ask_in order) ps Server kids g.grown (all_server r (map ask_in order)) (server_above r (map ask_in rows)) (λ n. same_name-is n Server) refl))
 
-server_over : (r : Rates) (tick kids : ℕ) (rows order : List Asker) (ps outline : List Place) (limit : Option ℕ) → IsGrownFrom r tick 1 rows order ps → limit ≡ rate_limit (rate_of r Server) tick
+pub server_over : (r : Rates) (tick kids : ℕ) (rows order : List Asker) (ps outline : List Place) (limit : Option ℕ) → IsGrownFrom r tick 1 rows order ps → limit ≡ rate_limit (rate_of r Server) tick
     → outline ≡ branch_over limit kids ps ∷ map deeper ps → IsTickTree r tick (map ask_in order) (limits outline)
 server_over r tick kids rows order ps outline limit g limited is =
     subst (λ (us : List Place). IsTickTree r tick (map ask_in order) (limits us)) (sym (is ∙ ap (λ o. branch_over o kids ps ∷ map deeper ps) limited)) (whole_tree r tick kids rows order ps g)
 
-pub plan_is : (r : Rates) (tick kids : ℕ) (asks rows order : List Asker) (ps outline : List Place) (limit : Option ℕ) (lanes : List ℕ) → rows ≡ asks → IsGrownFrom r tick 1 rows order ps
+unfoldable pub plan_is : (r : Rates) (tick kids : ℕ) (asks rows order : List Asker) (ps outline : List Place) (limit : Option ℕ) (lanes : List ℕ) → rows ≡ asks → IsGrownFrom r tick 1 rows order ps
     → limit ≡ rate_limit (rate_of r Server) tick → outline ≡ branch_over limit kids ps ∷ map deeper ps → lanes ≡ map lane_in order → IsPlan r tick asks (limits outline) lanes
 plan_is r tick kids asks rows order ps outline limit lanes same g limited is reported = record {
   order = order;

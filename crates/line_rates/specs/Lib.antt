@@ -10,3 +10,4 @@ pub mod Stated
 pub mod TickTree
 pub mod Ticks
 pub mod Put
+pub mod Alike

@@ -2,8 +2,9 @@
 
 ghost use Rattle.std.specs.Prelude.{◌≡◌, map, IfOk, IfErr};
 ghost use Rattle.limit_tree.specs.Outline.{limits as seen};
+ghost use Rattle.line_rates.specs.Alike.{IsOrderedPlan};
 ghost use Rattle.line_rates.specs.FloorSums.{FloorsFit};
-ghost use Rattle.line_rates.specs.Queue.{askers, asks_of, IsPlanOf};
+ghost use Rattle.line_rates.specs.Queue.{askers, asks_of, IsPlanOf, IsOrderedPlanOf};
 ghost use Rattle.line_rates.specs.Refused.{IsFaultOf, IsNotOfFloors};
 ghost use Rattle.line_rates.specs.TickTree.{IsPlan, ask_in, lane_in};
 
@@ -44,6 +45,8 @@ fn plan_queue<L: Allocator, A: Allocator + Clone>(
 ) -> Result<Plan<A>, PlanFault>
     ensures plan { IfOk result
         (λ p. IsPlanOf limits.now tick queue.old (seen p.tree) p.lanes.items) }
+    ensures in_order { IfOk result
+        (λ p. IsOrderedPlanOf limits.now tick queue.old (seen p.tree) p.lanes.items) }
     ensures fault { IfErr result (IsFaultOf A limits.now tick (askers queue.old)) }
     ensures floors { FloorsFit limits.now tick (asks_of queue.old) → IfErr result IsNotOfFloors }
 {
@@ -68,6 +71,8 @@ pub fn tree_of<L: Allocator, A: Allocator + Clone>(
     asks: &[(u8, Ask)],
 ) -> Result<Plan<A>, PlanFault>
     ensures plan { IfOk result (λ p. IsPlan limits.now tick asks.now (seen p.tree) p.lanes.items) }
+    ensures in_order { IfOk result
+        (λ p. IsOrderedPlan limits.now tick asks.now (seen p.tree) p.lanes.items) }
     ensures fault { IfErr result (IsFaultOf A limits.now tick asks.now) }
     ensures floors { FloorsFit limits.now tick (map ask_in asks.now) → IfErr result IsNotOfFloors }
 {

@@ -1,7 +1,9 @@
 //! The queue of asks, in the order in which they become leaves.
 
-ghost use Rattle.std.specs.Prelude.{◌≡◌, ◌<◌, length, map, IfOk, IsPermutation};
-ghost use Rattle.line_rates.specs.Queue.{askers, name_of, AreNamedAt, AreNumbered, AreTogether, IsRun};
+ghost use Rattle.std.specs.Prelude.{◌≡◌, ◌≢◌, ◌<◌, List, length, map, IfOk, IsPermutation};
+ghost use Rattle.std.specs.List.{All};
+ghost use Rattle.line_rates.specs.Alike.{AreInOrder, IsNumberOf};
+ghost use Rattle.line_rates.specs.Queue.{askers, asks_of, numbered, name_of, AreNamedAt, AreNumbered, AreAmong, IsOwnFirst, AreOwnFirst, AreTogether, IsRun};
 
 use crate::ask::{Ask, Name};
 use crate::limits::Limits;
@@ -27,6 +29,8 @@ pub(crate) fn queue_of<A: Allocator>(
     asks: &[(u8, Ask)],
 ) -> Result<Vec<Queued, A>, AllocError>
     ensures askers { IfOk result (λ queue. askers queue.items ≡ asks.now) }
+    ensures numbers { IfOk result
+        (λ queue. All (IsNumberOf asks.now) (numbered queue.items)) }
 {
     let mut queue = Vec::with_capacity(alloc, asks.len())?;
     for number in 0..asks.len() {
@@ -43,6 +47,8 @@ pub(crate) fn queue_of<A: Allocator>(
 // Sets the name of each ask at a level, and itself as the first ask with that name.
 fn give_names<A: Allocator>(limits: &Limits<A>, level: usize, queue: &mut [Queued])
     ensures same { askers queue.new ≡ askers queue.old }
+    ensures numbers { numbered queue.new ≡ numbered queue.old }
+    ensures own { All IsOwnFirst queue.new }
     ensures named { AreNamedAt limits.now level queue.new }
 {
     for place in 0..queue.len() {
@@ -59,6 +65,7 @@ fn give_names<A: Allocator>(limits: &Limits<A>, level: usize, queue: &mut [Queue
 // The first ask with the name of `it`, if all earlier asks with that name are directly before it.
 fn first_of(before: Queued, it: Queued) -> usize
     ensures first { it.name ≡ before.name → result ≡ before.first }
+    ensures own { it.name ≢ before.name → result ≡ it.number }
 {
     if it.name == before.name {
         before.first
@@ -71,6 +78,8 @@ fn first_of(before: Queued, it: Queued) -> usize
 fn give_firsts(queue: &mut [Queued])
     ensures askers { askers queue.new ≡ askers queue.old }
     ensures names { map name_of queue.new ≡ map name_of queue.old }
+    ensures numbers { numbered queue.new ≡ numbered queue.old }
+    ensures own { All IsOwnFirst queue.old → AreOwnFirst queue.new }
     ensures numbered { AreNumbered queue.new }
 {
     for place in 1..queue.len() {
@@ -85,6 +94,9 @@ fn give_firsts(queue: &mut [Queued])
 /// with a binary search for the user of each.
 pub(crate) fn arrange<A: Allocator>(limits: &Limits<A>, level: usize, queue: &mut [Queued])
     ensures all { IsPermutation (askers queue.old) (askers queue.new) }
+    ensures numbers { IsPermutation (numbered queue.old) (numbered queue.new) }
+    ensures in_order { (asks : List Ask) → AreAmong limits.now asks (asks_of queue.old)
+        → AreInOrder limits.now asks (numbered queue.new) }
     ensures together { AreTogether limits.now level queue.new }
 {
     give_names(limits, level, queue);

@@ -1,9 +1,11 @@
 //! Trees, grown from a queue of asks.
 
-ghost use Rattle.std.specs.Prelude.{◌≡◌, ◌≤◌, ◌∷◌, [], IfOk};
+ghost use Rattle.std.specs.Prelude.{◌≡◌, ◌≤◌, ◌∷◌, [], List, IfOk, OnOk, IsPermutation};
 ghost use Rattle.limit_tree.specs.Outline.{places, leaf_alone};
 ghost use Rattle.line_rates.specs.Grown.{branch_places};
-ghost use Rattle.line_rates.specs.Queue.{AreGrownOver, AreTogether};
+ghost use Rattle.line_rates.specs.Alike.{AreInOrder};
+ghost use Rattle.line_rates.specs.declared.ask.Ask.{Ask};
+ghost use Rattle.line_rates.specs.Queue.{asks_of, numbered, AreAmong, AreGrownOver, AreTogether};
 
 use crate::limits::Limits;
 use crate::queue::{Queued, arrange, run};
@@ -38,6 +40,11 @@ pub(crate) fn grow<L: Allocator, A: Allocator + Clone>(
     requires together { AreTogether limits.now level queue.old }
     ensures grown { IfOk result
         (λ k. AreGrownOver limits.now tick level queue.old queue.new k.items) }
+    ensures numbers { OnOk result (IsPermutation (numbered queue.old) (numbered queue.new)) }
+    ensures in_order { OnOk result ((asks : List Ask)
+        → AreAmong limits.now asks (asks_of queue.old)
+        → AreInOrder limits.now asks (numbered queue.old)
+        → AreInOrder limits.now asks (numbered queue.new)) }
 {
     let mut kids = Vec::new(alloc.clone()?);
     let mut start = 0;

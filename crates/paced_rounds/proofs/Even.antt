@@ -6,7 +6,7 @@ use Rattle.std.specs.List.{sum_by}
 use Rattle.paced_rounds.specs.Evenness.{Shared, one_of, other_of, AreTurns, IsEven, EvenByTurns}
 
 -- one side of a round
-side : (c d a b : ℕ) → c ≤ d + 1 → a ≤ b + 1 → (d < c → a ≤ b) → c + a ≤ d + b + 1
+pub side : (c d a b : ℕ) → c ≤ d + 1 → a ≤ b + 1 → (d < c → a ≤ b) → c + a ≤ d + b + 1
 side c d a b near most back = elim (cases_lt d c) [
   | inl above ↦ let less : a ≤ b = back above in omega (arith, near, less)
   | inr below ↦ omega (arith, below, most)

@@ -6,3 +6,5 @@ mod SpanLemmas
 mod ChargeLemmas
 mod TurnLemmas
 mod Even
+mod LaneLemmas
+mod PeerNames

@@ -5,3 +5,5 @@ pub mod Spans
 pub mod HeldLeaves
 pub mod Turning
 pub mod Evenness
+pub mod LaneTurns
+pub mod PeerKinds

@@ -5,6 +5,8 @@ ghost use Rattle.round_pace.specs.Guaranteed.{IsGuaranteed};
 ghost use Rattle.round_pace.specs.Histories.{rates_of};
 ghost use Rattle.paced_rounds.specs.History.{stretches, WereGuaranteed};
 ghost use Rattle.paced_rounds.specs.Evenness.{EvenByTurns};
+ghost use Rattle.paced_rounds.specs.LaneTurns.{turns_in, RoundsAreEven, LanesAreEven};
+ghost use Rattle.paced_rounds.specs.PeerKinds.{SessionsArePeers, UsersArePeers};
 ghost use Rattle.paced_rounds.specs.Seconds.{SecondsAreKept, ChangesAreKept};
 ghost use Rattle.paced_rounds.specs.Spans.{SpansAreKept};
 
@@ -27,9 +29,18 @@ pub fn spans_are_kept()
 {}
 
 /// Two transfers in the same rounds, whose grants differ by at most one octet in each, and of which the one that has had
-/// less is not granted less, have had the same in the end, but for one octet.
+/// less is not granted less, have had the same in the end, but for one octet. So have two lanes of peers after rounds by
+/// turns.
 pub fn turns_are_even()
     ensures even { EvenByTurns }
+    ensures lanes { RoundsAreEven }
+{}
+
+/// Sessions of a user are peers, if each has one ask; so are users of one group, or of none, without rates and guarantees
+/// of their own.
+pub fn sessions_and_users_are_peers()
+    ensures sessions { SessionsArePeers }
+    ensures users { UsersArePeers }
 {}
 
 impl<N, A: Allocator> PacedRounds<N, A> {
@@ -41,5 +52,13 @@ impl<N, A: Allocator> PacedRounds<N, A> {
         ensures next { (tick : ℕ) → IsGuaranteed (rates_of self.now.pace) tick self.now.pace }
     {
         guarantees_are_offered();
+    }
+
+    /// A law of the type: two lanes that were in the same rounds of the second of the last round, each time with the asks of
+    /// peers that were both granted less than they want, have had the same in these rounds, but for an octet.
+    pub fn lanes_are_even(&self)
+        ensures even { LanesAreEven (turns_in self.now.turns.items) }
+    {
+        turns_are_even();
     }
 }

@@ -14,11 +14,12 @@ mod account;
 mod beats;
 mod charge;
 mod held;
+mod lanes;
 mod laws;
 mod rounds;
 mod turns;
 
 pub use account::{RoundsAccount, Settlement};
 pub use held::HeldNames;
-pub use laws::{seconds_are_kept, spans_are_kept, turns_are_even};
+pub use laws::{seconds_are_kept, sessions_and_users_are_peers, spans_are_kept, turns_are_even};
 pub use rounds::{MOST_ASKED, PacedRounds};

@@ -18,12 +18,14 @@ ghost use Rattle.paced_rounds.specs.Spans.{AllBetween};
 ghost use Rattle.paced_rounds.specs.HeldLeaves.{AreHeld};
 ghost use Rattle.paced_rounds.specs.Beating.{beats_after, closed_in, has_plenty, is_open, due_open, opens_in};
 ghost use Rattle.paced_rounds.specs.Turning.{had_at, had_after};
+ghost use Rattle.paced_rounds.specs.LaneTurns.{turns_in, turns_at, turns_after, IsSecond};
 ghost use Rattle.round_pace.specs.Rows.{are_free, rows_of};
 
 use crate::account::RoundsAccount;
 use crate::beats::beat;
 use crate::charge::charge;
 use crate::held::{HeldNames, see};
+use crate::lanes::{begin, note};
 use crate::turns::{RISING, had_at, have};
 use grant_ledger::{MAX_LANES, Tally};
 use lane_desk::{Desk, RoundFault, RoundRecord, Rounds};
@@ -52,12 +54,15 @@ pub struct PacedRounds<N, A: Allocator = Global> {
     cadence: Cadence<A>,
     /// The octets that each lane has had in the second of the last round, in 64ths.
     had: [u64; MAX_LANES],
+    /// The rounds in that second, each with the pace that offered it, and the lane, the ask and the grant of each leaf.
+    turns: ProofLog<Pace<A>, ProofLog<(u8, Ask), u64>>,
     log: ProofLog<u64, ProofLog<Ask, u64>>,
     /// The stretches that have ended, each with the pace that its rounds left.
     ended: ProofLog<Pace<A>, ProofLog<u64, ProofLog<Ask, u64>>>,
     ghost begun: { opened ≤ latest },
     ghost spanned: { ∥ AllBetween opened latest (stretches ended.items pace log.items) ∥₁ },
     ghost run: { ∥ IsRun pace latest (stretches ended.items pace log.items) ∥₁ },
+    ghost turned: { ∥ IsSecond had (turns_in turns.items) ∥₁ },
     ghost reported: { rounds.book.issued
         ≡ carried + sum_by octets_in (stretches ended.items pace log.items) },
 }
@@ -72,6 +77,7 @@ impl<N, A: Allocator> PacedRounds<N, A> {
         ensures opened { result.opened ≡ now }
         ensures carried { result.carried ≡ rounds.book.issued }
         ensures cadence { result.cadence ≡ cadence }
+        ensures turns { turns_in result.turns.items ≡ [] }
         ensures none { history result.log.items ≡ [] }
         ensures ended { ended_in result.ended.items ≡ [] }
     {
@@ -88,6 +94,7 @@ impl<N, A: Allocator> PacedRounds<N, A> {
             had: RISING,
             log: ProofLog::new(),
             ended: ProofLog::new(),
+            turns: ProofLog::new(),
         }
     }
 
@@ -199,6 +206,9 @@ impl<N, A: Allocator> PacedRounds<N, A> {
             (tick_of (max now self.old.latest)) result self.old.cadence }
         ensures had { self.new.had ≡ had_after result
             (had_at (max now self.old.latest) self.old.latest self.old.had) }
+        ensures turns { let p = offer_round (tick_of (max now self.old.latest)) self.old.pace in
+            turns_in self.new.turns.items ≡ turns_after p.offered result
+            (turns_at (max now self.old.latest) self.old.latest (turns_in self.old.turns.items)) }
         ensures wanted { names.new.is_wanted ≡ names.old.is_wanted }
         ensures held { let p = offer_round (tick_of (max now self.old.latest)) self.old.pace in
             names.old.is_wanted ≡ true → IfOk result (λ r. AreHeld p.offered r.tick r.asks.items
@@ -208,11 +218,13 @@ impl<N, A: Allocator> PacedRounds<N, A> {
         histories_keep_rates();
         let now = now.max(self.latest);
         let mut had = had_at(now, self.latest, self.had);
+        begin(&mut self.turns, now, self.latest);
         let moment = self.pace.offer(now);
         let result = self
             .rounds
             .round_of(alloc, desk, self.pace.limits(), moment, given, &had);
         see(names, self.pace.limits(), &result);
+        note(&mut self.turns, &self.pace, &result);
         let taken = match &result {
             Ok(made) => charge(&mut self.pace, &made.asks, made.sealed.grants()),
             Err(_) => ProofLog::new(),
@@ -260,6 +272,7 @@ impl<N, A: Allocator> PacedRounds<N, A> {
             carried,
             cadence: _,
             had: _,
+            turns: _,
             log: _,
             ended: _,
         } = self;
@@ -286,6 +299,7 @@ impl<N, A: Allocator + Clone> PacedRounds<N, A> {
         ensures cadence { OnOk result (self.new.cadence ≡ cadence) }
         ensures none { OnOk result (history self.new.log.items ≡ []) }
         ensures had { self.new.had ≡ self.old.had }
+        ensures turns { turns_in self.new.turns.items ≡ turns_in self.old.turns.items }
         ensures ended { OnOk result (ended_in self.new.ended.items ≡ ended_in self.old.ended.items
             ++ stretch_under self.old.pace (history self.old.log.items) ∷ []) }
         ensures unchanged { OnErr result ((self.new.pace ≡ self.old.pace)

@@ -8,7 +8,7 @@ use lane_desk::{RoundFault, RoundRecord};
 use std::alloc::Allocator;
 
 /// A second, in microseconds.
-const SECOND: u64 = 1_000_000;
+pub(crate) const SECOND: u64 = 1_000_000;
 
 /// The numbers as an even second begins, in 64ths of an octet: of several lanes the lowest comes first.
 pub(crate) const RISING: [u64; MAX_LANES] = [

@@ -3,6 +3,8 @@ pub mod Names
 pub mod Pours
 pub mod Counts
 pub mod Ends
+pub mod Alone
+pub mod Ahead
 pub mod Searches
 pub mod Marks
 pub mod Floors

@@ -29,7 +29,7 @@ not_too_great-kept : (outline : List Place) (g h : List ℕ) (n i j : ℕ) → A
 not_too_great-kept outline g h n i j same li lj (inl less) = inl (omega (arith, same i li, same j lj))
 not_too_great-kept outline g h n i j same li lj (inr floored) = inr (same j lj ∙ floored)
 
-neck-kept : (outline : List Place) (g h : List ℕ) (n i : ℕ) → Agree g h n → HasNeck outline g n i → HasNeck outline h n i
+pub neck-kept : (outline : List Place) (g h : List ℕ) (n i : ℕ) → Agree g h n → HasNeck outline g n i → HasNeck outline h n i
 neck-kept outline g h n i same neck =
     let q = neck.2 in
     let ends = neck.3 in
@@ -48,7 +48,7 @@ neck-kept outline g h n i same neck =
       },
     )
 
-neck-later : (outline : List Place) (g : List ℕ) (n past i : ℕ) → n ≤ past → HasNeck outline g n i → HasNeck outline g past i
+pub neck-later : (outline : List Place) (g : List ℕ) (n past i : ℕ) → n ≤ past → HasNeck outline g n i → HasNeck outline g past i
 neck-later outline g n past i later neck = (neck.0, neck.1, neck.2, (let ends = neck.3 in omega (arith, ends)), neck.4)
 
 filled-kept : (outline : List Place) (g h : List ℕ) (at last first past level : ℕ) → Agree g h past → IsFilled outline g at last first past level → IsFilled outline h at last first past level

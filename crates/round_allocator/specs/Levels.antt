@@ -5,6 +5,7 @@ use Rattle.limit_tree.specs.Outline.{limits, is_leaf_kind}
 use Rattle.limit_tree.specs.Flat.{taken_in, taken_below}
 use Rattle.limit_tree.specs.declared.place.Place.{Place}
 use Rattle.limit_tree.specs.declared.place.NodeKind.TheVariants.{Branch}
+use Rattle.grant_certificate.specs.Equals.{AreBeside}
 use Rattle.round_allocator.specs.declared.level.LevelShare.{LevelShare}
 use Rattle.round_allocator.specs.declared.level.Split.{Split}
 use Rattle.round_allocator.specs.declared.level.Window.{Window}
@@ -134,3 +135,15 @@ pub record IsPouring (outline : List Place) (at trees first : ℕ) (share : Leve
   pub all : (left ≡ 0)
       ⊎ (taken_in (share.level + 1) outline at trees + upto old first
       ≤ upto g now + taken_in (share.level + 1) outline node more)
+
+-- of two leaves the one with the higher number has no more than the other, or has its floor, or a
+-- full branch that ends before it holds the other
+abbrev pub IsAhead : List Place → List ℕ → ℕ → ℕ → Type 0
+IsAhead outline g i j = (slice_index g j ≤ slice_index g i)
+    ⊎ ((slice_index g j ≤ slice_index (limits outline).floors j) ⊎ HasNeck outline g j i)
+
+-- each unmet leaf from a first one on is ahead of the later leaves beside it
+abbrev pub AreAhead : List Place → List ℕ → ℕ → ℕ → Type 0
+AreAhead outline g first past = (i j : ℕ) → first ≤ i → i < j → j < past
+    → AreBeside (limits outline) i j
+    → slice_index g i < slice_index (limits outline).wants i → IsAhead outline g i j

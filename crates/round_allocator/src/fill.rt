@@ -5,7 +5,8 @@ ghost use Rattle.limit_tree.specs.Sharing.{IsWithin};
 ghost use Rattle.limit_tree.specs.Outline.{limits};
 ghost use Rattle.limit_tree.specs.Flat.{IsRow, HasRow};
 ghost use Rattle.round_allocator.specs.Rounds.{HasBottlenecks};
-ghost use Rattle.round_allocator.specs.Levels.{IsPouring, branch_count};
+ghost use Rattle.round_allocator.specs.Order.{GivesInOrder};
+ghost use Rattle.round_allocator.specs.Levels.{IsPouring, AreAhead, branch_count};
 ghost use Rattle.round_allocator.specs.declared.level.TheConstants.{MAX_PROBES};
 
 use super::level::{LevelShare, leaf_grant, share_out};
@@ -32,6 +33,8 @@ fn fill<A: Allocator, L: Ledger>(
     requires counted { probes.old ≤ MAX_PROBES * branch_count (take first tree.now) }
     ensures poured { (begin last past : ℕ) → IsRow tree.now first begin trees last past
         → IsPouring tree.now first trees begin share grants.old last 0 past result grants.new }
+    ensures ahead { (begin last past : ℕ) → IsRow tree.now first begin trees last past
+        → AreAhead tree.now grants.new begin past }
     ensures size { length grants.new ≡ length grants.old }
     ensures counted { (begin last past : ℕ) → IsRow tree.now first begin trees last past
         → probes.new ≤ MAX_PROBES * branch_count (take last tree.now) }
@@ -79,6 +82,7 @@ pub(crate) fn give<A: Allocator, B: Allocator, L: Ledger>(
     requires none { probes.old ≡ 0 }
     ensures within { IfOk result (λ g. IsWithin (limits flat.now) g.items) }
     ensures bottlenecks { IfOk result (λ g. HasBottlenecks (limits flat.now) g.items) }
+    ensures order { IfOk result (λ g. GivesInOrder (limits flat.now) g.items) }
     ensures counted { probes.new ≤ MAX_PROBES * branch_count flat.now }
 {
     let leaves = flat.leaves();

@@ -4,6 +4,7 @@ ghost use Rattle.std.specs.Prelude.{◌≡◌, ◌+◌, ◌*◌, ◌<◌, ◌≤
 ghost use Rattle.limit_tree.specs.Sharing.{IsWanted, IsWithin, IsBackedBy, IsBest};
 ghost use Rattle.limit_tree.specs.Outline.{limits};
 ghost use Rattle.round_allocator.specs.Rounds.{IsExhausted, IsEntry, IsNamed};
+ghost use Rattle.round_allocator.specs.Order.{GivesInOrder};
 ghost use Rattle.round_allocator.specs.Levels.{branch_count};
 ghost use Rattle.round_allocator.specs.declared.level.TheConstants.{MAX_PROBES};
 ghost use Rattle.round_allocator.specs.Marks.{HasMark, AreDeepest};
@@ -125,6 +126,7 @@ pub fn allot_counted<A: Allocator, B: Allocator + Clone, L: Ledger>(
     ensures named { IfOk result (λ r. IsNamed (limits tree.now) r.0.items r.1) }
     ensures backed { IfOk result (λ r. IsBackedBy (limits tree.now) r.0.items r.1) }
     ensures best { IfOk result (λ r. IsBest (limits tree.now) r.0.items) }
+    ensures order { IfOk result (λ r. GivesInOrder (limits tree.now) r.0.items) }
     ensures counted { IfOk result (λ r. r.2 ≤ MAX_PROBES * branch_count tree.now) }
     ensures probes { IfOk result (λ r. r.2 ≡ steps.new) }
 {
@@ -150,6 +152,7 @@ fn allot_anew<A: Allocator, B: Allocator + Clone, L: Ledger>(
     ensures named { IfOk result (λ r. IsNamed (limits tree.now) r.0.items r.1) }
     ensures backed { IfOk result (λ r. IsBackedBy (limits tree.now) r.0.items r.1) }
     ensures best { IfOk result (λ r. IsBest (limits tree.now) r.0.items) }
+    ensures order { IfOk result (λ r. GivesInOrder (limits tree.now) r.0.items) }
 {
     let mut steps = Steps::<L>::new(blank);
     let (grants, certificate, _probes) = allot_counted(alloc, tree, &mut steps)?;
@@ -159,9 +162,9 @@ fn allot_anew<A: Allocator, B: Allocator + Clone, L: Ledger>(
 /// The grants of the leaves of a tree, in octets, and their certificate. The grants are those of handing out one octet
 /// at a time, from the floors on, to the leaf with the smallest grant among those with room, the lowest leaf number
 /// first. They are best. The entry of each leaf that has less than it wants is the deepest full branch above it; all
-/// other entries are none. It is proved that the grants are best; that, of several best lists, they are those of this
-/// rule is only tested. A few allocations, O(nodes * depth) time for each of at most `MAX_PROBES` probes, for any
-/// wants. Returns `AllocError` only if memory runs out.
+/// other entries are none. It is proved that the grants are best, and that of leaves side by side the first is served
+/// first (`order`); that, of several best lists, they are those of this rule is only tested. A few allocations, O(nodes *
+/// depth) time for each of at most `MAX_PROBES` probes, for any wants. Returns `AllocError` only if memory runs out.
 pub fn allot<A: Allocator, B: Allocator + Clone>(
     alloc: B,
     tree: &Tree<A>,
@@ -171,6 +174,7 @@ pub fn allot<A: Allocator, B: Allocator + Clone>(
     ensures named { IfOk result (λ r. IsNamed (limits tree.now) r.0.items r.1) }
     ensures backed { IfOk result (λ r. IsBackedBy (limits tree.now) r.0.items r.1) }
     ensures best { IfOk result (λ r. IsBest (limits tree.now) r.0.items) }
+    ensures order { IfOk result (λ r. GivesInOrder (limits tree.now) r.0.items) }
 {
     allot_anew::<A, B, Brand>(alloc, tree, Blank::new(1))
 }

@@ -1,6 +1,9 @@
-use Rattle.std.proofs.Common.{◌≡◌, ◌≤◌, ◌-◌, length, take, drop, map}
+use Rattle.std.proofs.Common.{◌≡◌, ◌≤◌, ◌-◌, List, IsPermutation, length, take, drop, map}
 use Rattle.limit_tree.proofs.Places.{places_of_all}
-use Rattle.line_rates.specs.Queue.{asker_of}
+use Rattle.line_rates.specs.declared.ask.Ask.{Ask}
+use Rattle.line_rates.specs.Alike.{AreInOrder}
+use Rattle.line_rates.specs.Queue.{asker_of, numbered_of, AreAmong}
+use Rattle.line_rates.specs.TickTree.{ask_in}
 use Rattle.line_rates.proofs.KidLemmas.{SoFar}
 use Rattle.line_rates.proofs.trees.+grow.Given as goal
 
@@ -13,6 +16,8 @@ invariant-rows g l = record {
   size : length l.queue ≡ length l.fn.queue;
   start : l.start ≤ length l.queue;
   rest : drop l.start l.queue ≡ drop l.start l.fn.queue;
+  numbers : IsPermutation (map numbered_of l.fn.queue) (map numbered_of l.queue);
+  in_order : (asks : List Ask) → AreAmong l.limits asks (map ask_in (map asker_of l.fn.queue)) → AreInOrder l.limits asks (map numbered_of l.fn.queue) → AreInOrder l.limits asks (map numbered_of l.queue);
 }
 
 abbrev pub decreases-rows : goal.decreases-rows

@@ -4,9 +4,10 @@ use Rattle.limit_tree.specs.Outline.{limits}
 use Rattle.limit_tree.specs.Flat.{IsRow, HasRow}
 use Rattle.limit_tree.proofs.Hops.{row-next, row-inside}
 use Rattle.round_allocator.specs.declared.level.TheConstants.{MAX_PROBES}
-use Rattle.round_allocator.specs.Levels.{IsPouring, branch_count}
+use Rattle.round_allocator.specs.Levels.{IsPouring, AreAhead, branch_count}
 use Rattle.round_allocator.proofs.Counts.{branches-branch, branches-leaf}
-use Rattle.round_allocator.proofs.Pours.{left_of, leaf-floored, plan-level, plan-spare, pouring-start, pouring-next, pouring-end, pouring-leaf, pouring-branch}
+use Rattle.round_allocator.proofs.Pours.{left_of, leaf-floored, plan-level, plan-spare, pouring-start, pouring-end, pouring-leaf, pouring-branch}
+use Rattle.round_allocator.proofs.Ahead.{in_turn-start, turn-next, turn-end}
 use Rattle.round_allocator.proofs.fill.+fill.Goals.{in-Leaf, in-Branch}
 use Rattle.round_allocator.proofs.fill.+fill.Goals as goal
 
@@ -23,6 +24,7 @@ loop-tree-init g t c =
         begin,
         subst (λ (n : ℕ). IsRow c.args.tree.now c.args.first begin n last past) none row,
         subst (λ (n : ℕ). IsPouring c.args.tree.now c.args.first c.args.trees begin c.args.share c.args.grants.now c.args.first n begin c.args.share.spare c.args.grants.now) none (pouring-start c.args.tree.now c.args.first c.args.trees begin c.args.share c.args.grants.now),
+        in_turn-start c.args.tree.now c.args.grants.now begin c.args.share.level c.args.share.spare,
       );
     }
 
@@ -74,7 +76,7 @@ loop-tree-preserved g t c =
     let tree = flat.shaped node p got in
     let here = left_of c.args.share c.loop-tree.left in
     let old = c.loop-tree.grants in
-    let step : (length c.match-place.grants ≡ length old) × (c.match-place.probes ≤ MAX_PROBES * branch_count (take (node + p.nodes) ps)) × IsPouring ps node 1 p.first here old (node + p.nodes) 0 (p.first + p.leaves) c.match-place.left c.match-place.grants = elim c.match-place.branch [
+    let step : (length c.match-place.grants ≡ length old) × (c.match-place.probes ≤ MAX_PROBES * branch_count (take (node + p.nodes) ps)) × IsPouring ps node 1 p.first here old (node + p.nodes) 0 (p.first + p.leaves) c.match-place.left c.match-place.grants × AreAhead ps c.match-place.grants p.first (p.first + p.leaves) = elim c.match-place.branch [
       | in-Leaf w ↦
           let want = w.in-Leaf.want in
           let floor = w.in-Leaf.floor in
@@ -88,6 +90,7 @@ loop-tree-preserved g t c =
             omega (arith, w.probes-is, c.loop-tree.invariant.counted, same, branches-leaf ps node p want floor got w.in-Leaf.is),
             subst (λ (l : ℕ). IsPouring ps node 1 p.first here old (node + p.nodes) 0 (p.first + p.leaves) l c.match-place.grants) (sym w.left-is)
                 (subst (λ (h : List ℕ). IsPouring ps node 1 p.first here old (node + p.nodes) 0 (p.first + p.leaves) grant.rest h) (sym w.grants-is) poured),
+            λ i j low less high. absurd (omega (arith, one.1)),
           )
       | in-Branch w ↦
           let limit = w.in-Branch.limit in
@@ -99,6 +102,7 @@ loop-tree-preserved g t c =
             omega (arith, w.probes-is, w.fill-rest.ensures.counted p.first (node + p.nodes) (p.first + p.leaves) below),
             subst (λ (l : ℕ). IsPouring ps node 1 p.first here old (node + p.nodes) 0 (p.first + p.leaves) l c.match-place.grants) (sym w.left-is)
                 (subst (λ (h : List ℕ). IsPouring ps node 1 p.first here old (node + p.nodes) 0 (p.first + p.leaves) (plan.kept + rest) h) (sym w.grants-is) poured),
+            subst (λ (h : List ℕ). AreAhead ps h p.first (p.first + p.leaves)) (sym w.grants-is) (w.fill-rest.ensures.ahead p.first (node + p.nodes) (p.first + p.leaves) below),
           )
     ] in
     record {
@@ -109,7 +113,7 @@ loop-tree-preserved g t c =
       counted = step.1;
       poured = λ begin last past row.
           let was = c.loop-tree.invariant.poured begin last past row in
-          pouring-next ps c.args.first c.args.trees begin c.args.share c.args.grants.now node left more was.0 c.loop-tree.left old p c.match-place.left c.match-place.grants last past flat.shaped got is was.1 was.2 step.2;
+          turn-next ps c.args.first c.args.trees begin c.args.share c.args.grants.now node left more was.0 c.loop-tree.left old p c.match-place.left c.match-place.grants last past flat.shaped got is was.1 was.2 step.2 was.3 step.3;
     }
 
 pub returns-clause-poured : goal.returns-clause-poured
@@ -122,3 +126,8 @@ returns-clause-counted g t c = λ begin last past row.
     let was = c.loop-tree.invariant.poured begin last past row in
     let ends = (pouring-end c.args.tree.now c.args.first c.args.trees begin c.args.share c.args.grants.now c.loop-tree.node (c.args.trees - c.loop-tree._tree) was.0 c.loop-tree.left c.loop-tree.grants last past (omega arith) was.1 was.2).0 in
     subst (λ (n : ℕ). c.loop-tree.probes ≤ MAX_PROBES * branch_count (take n c.args.tree.now)) ends c.loop-tree.invariant.counted
+
+pub returns-clause-ahead : goal.returns-clause-ahead
+returns-clause-ahead g t c = λ begin last past row.
+    let was = c.loop-tree.invariant.poured begin last past row in
+    turn-end c.args.tree.now begin c.args.share.level c.loop-tree.node (c.args.trees - c.loop-tree._tree) was.0 c.loop-tree.left c.loop-tree.grants last past (omega arith) was.1 was.3

@@ -4,6 +4,7 @@ use Rattle.limit_tree.specs.Outline.{limits}
 use Rattle.limit_tree.specs.declared.place.Place.{Place}
 use Rattle.round_allocator.specs.Levels.{branch_count}
 use Rattle.round_allocator.specs.Rounds.{HasBottlenecks, IsNamed}
+use Rattle.round_allocator.specs.Order.{GivesInOrder}
 use Rattle.round_allocator.proofs.Rooms.{bottlenecks-exhausted}
 use Rattle.round_allocator.proofs.Names.{named-backed}
 use Rattle.round_allocator.proofs.named.allot_counted.Goals as goal
@@ -49,3 +50,7 @@ returns-clause-best g c =
     (subst (λ (ps : List Place). IsNamed (limits ps) grants c.in_ok-certificate.certificate) c.in_ok-flat.ensures.of
     (subst (λ (g : List ℕ). IsNamed (limits c.in_ok-flat.flat) g c.in_ok-certificate.certificate) c.deref.ensures.value c.in_ok-certificate.ensures.named)) in
     c.backed_is_best.ensures.best (limits c.args.tree.now) grants c.in_ok-certificate.certificate c.leaves-leaves.ensures.limit_tree.branches within backed
+
+pub returns-clause-order : goal.returns-clause-order
+returns-clause-order g c =
+    subst (λ (ps : List Place). GivesInOrder (limits ps) c.in_ok-grants.grants.items) c.in_ok-flat.ensures.of c.in_ok-grants.ensures.order

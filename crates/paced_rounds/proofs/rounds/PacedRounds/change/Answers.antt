@@ -21,5 +21,6 @@ invariant_of-self-2 g c =
       begun = old.begun;
       spanned = span_changed old.opened old.latest before now pace all old.spanned;
       run = run_change old.pace pace old.latest before now c.args.limits c.in_ok-pace.ensures.changed rated all old.run;
+      turned = old.turned;
       reported = old.reported ∙ ap (λ (n : ℕ). old.carried + n) (sym (sum_changed before now pace all));
     }

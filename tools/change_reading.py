@@ -10,8 +10,8 @@ from report_reading import Stated, megabits
 
 # The keys that a server does not take while it runs, in the order in which it looks at them, with what a restart would do.
 FIXED = (
-    ("address", "to listen on {}"), ("port", "to serve on {}"), ("root", "to serve {}"), ("capacity", "to keep {} octets"), ("passive_first", "for ports from {}"),
-    ("passive_last", "for ports up to {}"), ("lanes", "for {} transfers at once"),
+    ("address", "to listen on {}"), ("port", "to serve on {}"), ("root", "to serve {}"), ("capacity", "for {}"), ("passive_first", "for ports from {}"),
+    ("passive_last", "for ports up to {}"), ("lanes", "for {}"),
 )
 SETTINGS = (
     "banner", "permit_foreign_addresses", "permit_privileged_ports", "masquerade_address", "max_cons", "max_cons_per_address", "max_login_attempts",

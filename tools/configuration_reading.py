@@ -4,6 +4,7 @@
 where the file is a configuration. Nothing here knows how the program goes about it.
 """
 import re
+import tomllib
 from collections import namedtuple
 
 MAX_RATE = 2 ** 40
@@ -24,8 +25,8 @@ ROOT = ()
 Kind = namedtuple("Kind", "words fits is_within hint", defaults=[""])
 # A key with no default must be there.
 Key = namedtuple("Key", "kind is_needed")
-# Where a fault is, and what is the matter there.
-Fault = namedtuple("Fault", "told name")
+# Where a fault is, and what is the matter there; the path of what its line is about: keys, and the numbers of rows, from 1.
+Fault = namedtuple("Fault", "told name path", defaults=[()])
 
 
 def has_control(text):
@@ -111,16 +112,16 @@ def name_of(row):
     return name if isinstance(name, str) else None
 
 
-def key_fault(place, key, problem, name):
-    return Fault(f"{place}: {shown(key)}: {problem}", name)
+def key_fault(place, key, problem, name, path):
+    return Fault(f"{place}: {shown(key)}: {problem}", name, path or (key,))
 
 
-def fault_at(place, key, kind, value):
+def fault_at(place, key, kind, value, path):
     """The fault of a value at a key, or nothing."""
     if not kind.fits(value):
-        return key_fault(place, key, f"of the wrong kind; it must be {kind.words}{kind.hint}", "WrongKind")
+        return key_fault(place, key, f"of the wrong kind; it must be {kind.words}{kind.hint}", "WrongKind", path)
     if not kind.is_within(value):
-        return key_fault(place, key, f"out of range; it must be {kind.words}", "OutOfRange")
+        return key_fault(place, key, f"out of range; it must be {kind.words}", "OutOfRange", path)
     return None
 
 
@@ -151,27 +152,28 @@ def similar_to(key, keys):
     return f"; a similar key is {min(near, key=near.get)}" if near else ""
 
 
-def table_fault(place, keys, table):
+def table_fault(place, keys, table, path=()):
     """The first fault of a table: an unknown key, the least by its octets, and then its keys in their order."""
     unknown = sorted((it for it in table if it not in keys), key=str.encode)
     if unknown:
-        return key_fault(place, unknown[0], "no such key" + similar_to(unknown[0], LATEST[place.split(" ")[0]]), "UnknownKey")
+        return key_fault(place, unknown[0], "no such key" + similar_to(unknown[0], LATEST[place.split(" ")[0]]), "UnknownKey", path)
     for key, (kind, is_needed) in keys.items():
         if key not in table:
             if is_needed:
                 hint = "; write version = 2 in the first line" if key == "version" else ""
-                return key_fault(place, key, f"missing; it must be {kind.words}{hint}", "Missing")
-        elif found := fault_at(place, key, kind, table[key]):
+                return key_fault(place, key, f"missing; it must be {kind.words}{hint}", "Missing", path)
+        elif found := fault_at(place, key, kind, table[key], path):
             return found
     return None
 
 
-def rows_fault(table, key, rows, keys_of, owner=None):
+def rows_fault(table, key, rows, keys_of, owner=None, above=()):
     for number_of_row, row in enumerate(rows, 1):
         place = header(table, number_of_row, owner if owner is not None else name_of(row))
+        path = (*above, key, number_of_row)
         if not isinstance(row, dict):
-            return key_fault(place, key, f"of the wrong kind; it must be {ROWS.words}", "WrongKind")
-        if found := table_fault(place, keys_of(row), row):
+            return key_fault(place, key, f"of the wrong kind; it must be {ROWS.words}", "WrongKind", path)
+        if found := table_fault(place, keys_of(row), row, path):
             return found
     return None
 
@@ -195,12 +197,13 @@ def tables_fault(document):
     version = document.get("version")
     is_first = is_number(version) and version == 1
     yield table_fault("top", without(TOP, "group") if is_first else TOP, document)
-    yield table_fault("[server]", SERVER, document["server"])
+    yield table_fault("[server]", SERVER, document["server"], ("server",))
     yield rows_fault("[[group]]", "group", document.get("group", []), lambda _row: GROUP)
     users = document.get("user", [])
     yield rows_fault("[[user]]", "user", users, keys_of_user(version))
-    for user in users:
-        yield rows_fault("[[user.override]]", "override", user.get("override", []), lambda _row: OVERRIDE, user["name"])
+    for number_of_user, user in enumerate(users, 1):
+        above = ("user", number_of_user)
+        yield rows_fault("[[user.override]]", "override", user.get("override", []), lambda _row: OVERRIDE, user["name"], above)
     yield rows_fault("[[dir]]", "dir", document.get("dir", []), lambda _row: DIR)
     yield rows_fault("[[file]]", "file", document.get("file", []), lambda _row: FILE)
 
@@ -210,11 +213,11 @@ def groups_fault(document):
     names = set()
     for row, group in enumerate(document.get("group", []), 1):
         if group["name"] in names:
-            yield Fault(f"{header('[[group]]', row, group['name'])}: there is a group of that name", "BadGroup")
+            yield Fault(f"{header('[[group]]', row, group['name'])}: there is a group of that name", "BadGroup", ("group", row))
         names.add(group["name"])
     for row, user in enumerate(document.get("user", []), 1):
         if "group" in user and user["group"] not in names:
-            yield Fault(f"{header('[[user]]', row, user['name'])}: there is no group of that name", "BadGroup")
+            yield Fault(f"{header('[[user]]', row, user['name'])}: there is no group of that name", "BadGroup", ("user", row))
 
 
 def path_of(text):
@@ -253,10 +256,11 @@ def users_fault(document):
         names.add(user["name"])
         refusal = "there is a user of that name" if is_there else refusal_of(user.get("perms", ""), user["home"])
         if refusal:
-            yield Fault(f"{header('[[user]]', row, user['name'])}: {refusal}", "BadUser")
+            yield Fault(f"{header('[[user]]', row, user['name'])}: {refusal}", "BadUser", ("user", row))
         for number_of_rule, rule in enumerate(user.get("override", []), 1):
             if refusal := refusal_of(rule["perms"], rule["path"]):
-                yield Fault(f"{header('[[user.override]]', number_of_rule, user['name'])}: {refusal}", "BadUser")
+                path = ("user", row, "override", number_of_rule)
+                yield Fault(f"{header('[[user.override]]', number_of_rule, user['name'])}: {refusal}", "BadUser", path)
 
 
 def refusal_above(entries, path):
@@ -294,7 +298,7 @@ def store_fault(document):
     """The range of ports, and then what a store in memory holds."""
     server = document["server"]
     if server["passive_last"] < server["passive_first"]:
-        yield Fault("[server]: passive_last is below passive_first", "BadStore")
+        yield Fault("[server]: passive_last is below passive_first", "BadStore", ("server",))
     if server["root"] != "memory":
         return
     # How many octets each file has; a directory has none at all.
@@ -303,18 +307,60 @@ def store_fault(document):
         for row, made in enumerate(document.get(table, []), 1):
             path, text = path_of(made["path"]), made.get("text")
             if refusal := refusal_to_make(entries, path, text, server.get("capacity", 1048576)):
-                yield Fault(f"{header(f'[[{table}]]', row, made['path'])}: {refusal}", "BadStore")
+                yield Fault(f"{header(f'[[{table}]]', row, made['path'])}: {refusal}", "BadStore", (table, row))
             entries[path] = None if text is None else len(text.encode())
 
 
-def line_of(text, told):
-    """The line of the table's header, by the text alone: that of this row among the lines that begin with it after blanks."""
-    place = re.match(r"(\[server\]|\[\[(?:group|user|dir|file)\]\])(?: ([0-9]+))?[ :]", told)
-    if not place:
-        return ""
-    lines = [number for number, line in enumerate(text.split("\n"), 1) if line.lstrip(" \t").startswith(place[1])]
-    row = int(place[2] or 1)
-    return f"line {lines[row - 1]}: " if row <= len(lines) else ""
+def holds(value, path):
+    """Whether the value at a path is there, after the lines that were read of a file."""
+    for step in path:
+        if isinstance(step, int):
+            if not isinstance(value, list) or len(value) < step:
+                return False
+            value = value[step - 1]
+        elif isinstance(value, dict) and step in value:
+            value = value[step]
+        else:
+            return False
+    return True
+
+
+def read(lines):
+    """What these lines state together; nothing where they end within a statement."""
+    try:
+        return tomllib.loads("".join(f"{line}\n" for line in lines))
+    except tomllib.TOMLDecodeError:
+        return None
+
+
+def is_statement(line):
+    return line.strip(" \t\r") != "" and not line.lstrip(" \t").startswith("#")
+
+
+def line_of(text, path):
+    """The line of the statement by which something is there, found by halves: what stands above that line does not state it yet. Of an
+    override without a header of its own it is the line of its user; what is nowhere, or a key above all tables that is empty or written
+    by escapes, has line 1."""
+    has_long_texts = '"""' in text or "'''" in text
+    rows = enumerate(text.removeprefix("\ufeff").split("\n"), 1)
+    numbered = [(number, line) for number, line in rows if has_long_texts or is_statement(line)]
+    if not numbered:
+        return 1
+    low, high = 0, len(numbered)
+    while high - low > 1:
+        # The nearest place between two statements, behind the middle or before it.
+        places = [*range((low + high) // 2, high), *range((low + high) // 2 - 1, low, -1)]
+        found = next((it for it in ((place, read(line for _, line in numbered[:place])) for place in places) if it[1] is not None), None)
+        if found is None:
+            break
+        low, high = (low, found[0]) if holds(found[1], path) else (found[0], high)
+    while not is_statement(numbered[low][1]):
+        low += 1
+    number, line = numbered[low]
+    if len(path) == 4 and not line.lstrip(" \t").startswith("["):
+        return line_of(text, path[:2])
+    is_above = len(path) == 1 and (not path[0] or path[0] not in line)
+    return 1 if is_above or not holds(tomllib.loads(text.removeprefix("\ufeff")), path) else number
 
 
 def first_fault(text, document):
@@ -322,5 +368,5 @@ def first_fault(text, document):
     for judged in (tables_fault, groups_fault, users_fault, store_fault):
         for found in judged(document):
             if found:
-                return Fault(line_of(text, found.told) + found.told, found.name)
+                return Fault(f"line {line_of(text, found.path)}: {found.told}", found.name)
     return None

@@ -16,7 +16,7 @@ FIXED = (
     ("root", None, "restart the server to serve {}"),
     ("passive_first", None, "restart the server for ports from {}"),
     ("passive_last", None, "restart the server for ports up to {}"),
-    ("lanes", 16, "restart the server for {} transfers at once"),
+    ("lanes", 16, "restart the server for {}"),
 )
 MAX_CONS, MAX_LOGIN_ATTEMPTS = 64, 3
 # The octets of the file `where`, and of `in/where` and `in/s/where`, of each home.

@@ -65,15 +65,20 @@ def overrides(user):
 
 # ---- warnings
 
-def fit(stated, user, sessions):
-    """Whether that number of sessions of a user can have their guarantees."""
+def shortage(stated, user, sessions):
+    """The words of the first rate that the guarantees of that number of sessions of a user do not fit into, or nothing."""
     group = next((row for row in stated.groups if row["name"] == user["group"]), {})
     floors = {way: user[f"session_{way}_floor"] for way in ("down", "up")}
-    pairs = [(sessions * sum(floors.values()), stated.server["rate"])]
+    rates = []
     for way, floor in floors.items():
-        key = f"{way}_rate"
-        pairs += [(floor, user[f"session_{key}"]), *((sessions * floor, row.get(key, 0)) for row in (user, group, stated.server))]
-    return all(rate == 0 or total <= rate for total, rate in pairs)
+        rates.append((f"session {way}", floor, user[f"session_{way}_rate"]))
+        for words, row in ((f"user {user['name']}", user), (f"group {user['group']}", group), ("server", stated.server)):
+            rates.append((f"{words} {way}", sessions * floor, row.get(f"{way}_rate", 0)))
+    rates.append(("server", sessions * sum(floors.values()), stated.server["rate"]))
+    for words, promised, rate in rates:
+        if rate and promised > rate:
+            return f"{promised} octets a second would be guaranteed of the {rate} of {words}"
+    return None
 
 
 def warnings_of_root(stated, machine):
@@ -94,7 +99,7 @@ def warnings_of_all(stated):
         yield f"{connections} connections have fewer lanes, {lanes}: while as many transfers run, listings and transfers of others wait"
     promised = {way: sum(user[f"session_{way}_floor"] for user in stated.users) for way in ("down", "up")}
     if lanes < connections and sum(promised.values()):
-        yield f"a session gets what it is guaranteed while its transfer has one of the {lanes} lanes, and may wait for one"
+        yield f"a session gets what it is guaranteed while its transfer has a lane, and may wait for one: lanes = {lanes}"
     of_all = [(promised["down"], "down", server["down_rate"]), (promised["up"], "up", server["up_rate"])]
     for total, way, rate in [*of_all, (sum(promised.values()), "both ways", server["rate"])]:
         if rate and total > rate:
@@ -129,12 +134,11 @@ def warnings_of_user(stated, machine, user):
         yield f"user {name}: the password is empty, and anybody may log in"
     if not {"e", "l"} <= set(user["perms"]):
         may = "".join(f"{LETTERS[letter]}, " for letter in ordered(user["perms"]))
-        yield f"user {name}: clients need the letters e and l; permitted: {may}nothing else"
-    if any(user[f"session_{way}_floor"] for way in ("down", "up")):
-        if not fit(stated, user, 1):
-            yield f"user {name}: not even the first session can be guaranteed what each is, and no login is accepted"
-        elif not fit(stated, user, 2):
-            yield f"user {name}: a second session cannot be guaranteed what each is"
+        yield f"user {name}: clients need the letters e and l; permitted: {may}{'nothing else' if may else 'nothing'}"
+    if why := shortage(stated, user, 1):
+        yield f"user {name}: not even the first session can be guaranteed what each is, and no login is accepted: {why}"
+    elif why := shortage(stated, user, 2):
+        yield f"user {name}: a second session cannot be guaranteed what each is: {why}"
     there = {names(row["path"]) for row in stated.dirs} if stated.in_memory else set(machine.homes)
     is_unlisted = not stated.in_memory and machine.root != LISTED
     if not is_unlisted and names(user["home"]) and names(user["home"]) not in there:
@@ -150,18 +154,25 @@ def warnings(stated, machine):
 
 # ---- lines
 
+def counted(number, one, more=None):
+    """A number with its noun."""
+    return f"{number} {one if number == 1 else more or one + 's'}"
+
+
 def of_server(stated):
     server, root = stated.server, stated.server["root"]
     yield f"listens on {server['address']}:{server['port']}"
     yield f"greets with {server['banner']}"
     yield f"tells clients {stated.announced() or 'the address that they reached'}, ports {server['passive_first']} to {server['passive_last']}"
-    yield f"takes {server['max_cons']} connections, {server['lanes']} transfers at once"
-    yield f"takes {server['max_cons_per_address'] or 'any number of'} connections from one address"
-    yield f"ends a session after {server['max_login_attempts']} wrong passwords"
+    yield f"takes {counted(server['max_cons'], 'connection')}, {counted(server['lanes'], 'transfer')} at once"
+    of_one = server["max_cons_per_address"]
+    yield f"takes {counted(of_one, 'connection') if of_one else 'any number of connections'} from one address"
+    yield f"ends a session after {counted(server['max_login_attempts'], 'wrong password')}"
     whom = "any address" if server["permit_foreign_addresses"] else "the client's address"
     yield f"connects to {whom}, ports {1 if server['permit_privileged_ports'] else 1024} to 65535"
-    yield f"ends after {server['sessions']} sessions" if server["sessions"] else "serves any number of sessions"
-    held = f", at most {server['capacity']} octets, at first {len(stated.dirs)} directories and {len(stated.files)} files"
+    yield f"ends after {counted(server['sessions'], 'session')}" if server["sessions"] else "serves any number of sessions"
+    made = f"{counted(len(stated.dirs), 'directory', 'directories')} and {counted(len(stated.files), 'file')}"
+    held = f", at most {counted(server['capacity'], 'octet')}, at first {made}"
     yield f"serves {root}{held if stated.in_memory else ''}"
 
 

@@ -196,12 +196,13 @@ class Server:
         want(self.process.poll() is None, f"it ended at once: {self.noted()}")
         return self
 
-    def run(self, stdout=subprocess.PIPE):
-        """Its status and outputs, where it is to end by itself."""
+    def run(self, stdout=subprocess.PIPE, config="ftpd.toml"):
+        """Its status and outputs, where it is to end by itself; by a configuration that may be its standard input."""
         if not os.path.exists(f"{self.place}/ftpd.toml"):
             self.configure()
-        words = [SERVER, "serve", "ftpd.toml", *self.words]
-        found = subprocess.run(words, cwd=self.place, stdout=stdout, stderr=subprocess.PIPE, env={}, timeout=SECONDS)
+        words = [SERVER, "serve", config, *self.words]
+        with open(f"{self.place}/ftpd.toml", "rb") as text:
+            found = subprocess.run(words, cwd=self.place, stdin=text, stdout=stdout, stderr=subprocess.PIPE, env={}, timeout=SECONDS)
         return found.returncode, found.stdout if found.stdout is None else found.stdout.decode(), WARNING.sub("", found.stderr.decode())
 
     def told(self):

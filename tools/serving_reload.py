@@ -144,7 +144,7 @@ def each_fixed_key_is_refused_by_name():
             (f'root = "{server.folder}"', 'root = "memory"', f"`root` cannot change while the server runs: it is {server.folder}; restart the server to serve memory"),
             (f"passive_first = {first}", f"passive_first = {first + 1}", f"`passive_first` cannot change while the server runs: it is {first}; restart the server for ports from {first + 1}"),
             (f"passive_last = {last}", f"passive_last = {last - 1}", f"`passive_last` cannot change while the server runs: it is {last}; restart the server for ports up to {last - 1}"),
-            ("lanes = 16", "lanes = 17", "`lanes` cannot change while the server runs: it is 16; restart the server for 17 transfers at once"),
+            ("lanes = 16", "lanes = 17", "`lanes` cannot change while the server runs: it is 16; restart the server for 17"),
             ("sessions = 0", "sessions = 0\nmax_cons = 65", "`max_cons` cannot be above 64 while the server runs: restart the server to take 65 connections"),
         ):
             note = server.reloaded(good.replace(old, new), taken=False)
@@ -156,7 +156,7 @@ def each_fixed_key_is_refused_by_name():
         with open(f"{server.place}/ftpd.toml", encoding="utf-8") as it:
             text = it.read()
         note = server.reloaded(text.replace("capacity = 4096", "capacity = 4097"), taken=False)
-        want(note.endswith("not reloaded: `capacity` cannot change while the server runs: it is 4096; restart the server to keep 4097 octets"), note)
+        want(note.endswith("not reloaded: `capacity` cannot change while the server runs: it is 4096; restart the server for 4097"), note)
         server.reloaded(text)
         server.stop()
         server.ended()
@@ -362,7 +362,7 @@ def the_running_file_has_what_is_in_force():
         server.reloaded(second)
         with open(f"{server.place}/ftpd.toml", "w", encoding="utf-8") as it:
             it.write(second.replace("lanes = 16", "lanes = 15"))
-        why = "a reload would be refused: `lanes` cannot change while the server runs: it is 16; restart the server for 15 transfers at once"
+        why = "a reload would be refused: `lanes` cannot change while the server runs: it is 16; restart the server for 15"
         same(judged(server, "--against", "running.toml"), (1, why), "against what is in force")
         want(not os.path.exists(f"{path}.new"), "the new file has taken its name")
         server.stop()

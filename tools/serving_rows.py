@@ -718,7 +718,7 @@ def what_cannot_be_served():
         same(server.run(stdout=full), (1, None, "ftpd: WriteFault\n"), "an output that takes nothing, with a ready file")
         want(not os.path.exists(f"{server.place}/ready"), "the ready file is gone")
         same(Server().run(stdout=full), (1, None, "ftpd: WriteFault\n"), "an output that takes nothing")
-    same(Server(text="version = 3\n").run(), (1, "", "ftpd.toml: top: version: out of range; it must be a number from 1 to 2\nftpd: OutOfRange\n"), "a configuration of a later version")
+    same(Server(text="version = 3\n").run(), (1, "", "ftpd.toml: line 1: top: version: out of range; it must be a number from 1 to 2\nftpd: OutOfRange\n"), "a configuration of a later version")
 
 
 def more_transfers_than_lanes():

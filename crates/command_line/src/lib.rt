@@ -18,6 +18,7 @@
 #![tactic(auto)]
 
 mod grammar;
+mod hints;
 mod numbers;
 mod patience;
 mod usage;

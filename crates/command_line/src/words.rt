@@ -10,6 +10,7 @@ ghost use Rattle.command_line.specs.declared.numbers.TheConstants.{ROWS};
 ghost use Rattle.command_line.specs.Timed.{IsSeconds, timed_words, usual_patience};
 
 use crate::grammar::{ftpd_command, sheets_command};
+use crate::hints::parsed_or_hinted;
 use crate::numbers::{Numbers, stated_numbers};
 use clap::error::ErrorKind;
 use clap::{ArgMatches, Command, Error};
@@ -390,7 +391,7 @@ pub fn read_words<'a>(alloc: Global, words: &'a [&'a str]) -> Result<Words<'a>, 
     let Ok(command) = ftpd_command(alloc) else {
         return Err(WordsFault::Memory);
     };
-    let matches = match parsed(alloc, command, words) {
+    let matches = match parsed_or_hinted(alloc, command, words) {
         Ok(matches) => matches,
         Err(fault) => return Err(fault),
     };

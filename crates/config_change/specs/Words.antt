@@ -21,8 +21,7 @@ key_text (Root old new) =
     ++ (old.now ++ (codes "; restart the server to serve " ++ new.now))
 key_text (Capacity old new) =
     codes "`capacity` cannot change while the server runs: it is "
-    ++ (decimal old
-    ++ (codes "; restart the server to keep " ++ (decimal new ++ codes " octets")))
+    ++ (decimal old ++ (codes "; restart the server for " ++ decimal new))
 key_text (PassiveFirst old new) =
     codes "`passive_first` cannot change while the server runs: it is "
     ++ (decimal old ++ (codes "; restart the server for ports from " ++ decimal new))
@@ -31,8 +30,7 @@ key_text (PassiveLast old new) =
     ++ (decimal old ++ (codes "; restart the server for ports up to " ++ decimal new))
 key_text (Lanes old new) =
     codes "`lanes` cannot change while the server runs: it is "
-    ++ (decimal old
-    ++ (codes "; restart the server for " ++ (decimal new ++ codes " transfers at once")))
+    ++ (decimal old ++ (codes "; restart the server for " ++ decimal new))
 
 abbrev pub count_text : CountFault → List ℕ
 count_text (NoRoom room stated) =

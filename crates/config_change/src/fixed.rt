@@ -51,7 +51,7 @@ impl fmt::Display for FixedKey<'_> {
             ),
             FixedKey::Capacity { old, new } => write!(
                 f,
-                "`capacity` cannot change while the server runs: it is {old}; restart the server to keep {new} octets"
+                "`capacity` cannot change while the server runs: it is {old}; restart the server for {new}"
             ),
             FixedKey::PassiveFirst { old, new } => write!(
                 f,
@@ -63,7 +63,7 @@ impl fmt::Display for FixedKey<'_> {
             ),
             FixedKey::Lanes { old, new } => write!(
                 f,
-                "`lanes` cannot change while the server runs: it is {old}; restart the server for {new} transfers at once"
+                "`lanes` cannot change while the server runs: it is {old}; restart the server for {new}"
             ),
         }
     }

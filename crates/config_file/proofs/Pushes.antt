@@ -96,6 +96,6 @@ stands_at xs i x within at = slice_get-get_or xs i x within ∙ ap (λ y. Some y
 -- the overrides of a user are refused
 pub override_refused : (users : List UserTable) (i : ℕ) (user : UserTable) (read : List (Vec OverrideTable Global)) (reported : Fault KeyFault) → i < length users
     → user ≡ get_or users i user → AreOverrides (take i users) read
-    → Reports (IsListFault true override_rows Override (Some user.name.now) (codes "override") (items_view user.overrides.now)) reported → Reports (IsOverrideFault users) reported
+    → Reports (IsListFault true override_rows (Override (i + 1)) (Some user.name.now) (codes "override") (items_view user.overrides.now)) reported → Reports (IsOverrideFault users) reported
 override_refused users i user read (fault.At header reported) within at before refused = (i, user, read, stands_at users i user within at, before, refused)
 override_refused users i user read fault.Memory within at before refused = tt

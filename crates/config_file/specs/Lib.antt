@@ -3,6 +3,8 @@ pub mod Lists
 pub mod Refused
 pub mod Rows
 pub mod Seen
+pub mod Statements
 pub mod TableKeys
 pub mod Tables
+pub mod TextLines
 pub mod Values

@@ -1,5 +1,5 @@
 -- The first fault of a file: in its tables in their order, with the keys at the top first.
-use Rattle.std.specs.Prelude.{◌≡◌, ◌⊎◌, ℕ, Bool, true, List, take, slice_get, codes, Some, None, Vec}
+use Rattle.std.specs.Prelude.{◌≡◌, ◌⊎◌, ℕ, ◌+◌, Bool, true, List, take, slice_get, codes, Some, None, Vec}
 use Rattle.std.specs.declared.alloc.Global.{Global}
 use Rattle.toml.specs.Data.{Members}
 use Rattle.toml.specs.View.{table_view, items_view}
@@ -31,8 +31,8 @@ abbrev pub IsOverrideFault : List UserTable → Place → List ℕ → Problem �
 IsOverrideFault users place key problem =
     (index : ℕ) × (user : UserTable) × (read : List (Vec OverrideTable Global))
     × (slice_get users index ≡ Some user) × AreOverrides (take index users) read
-    × IsListFault true override_rows name.Override (Some user.name.now) (codes "override")
-    (items_view user.overrides.now) place key problem
+    × IsListFault true override_rows (name.Override (index + 1)) (Some user.name.now)
+    (codes "override") (items_view user.overrides.now) place key problem
 
 -- each of these is refused, or is read and the next is refused
 abbrev pub IsFileFault : Top → Place → List ℕ → Problem → Type 0

@@ -53,7 +53,7 @@ table_rows name.Top = top_rows
 table_rows name.Server = server_rows
 table_rows name.Group = group_rows
 table_rows name.User = user_rows
-table_rows name.Override = override_rows
+table_rows (name.Override user) = override_rows
 table_rows name.Dir = dir_rows
 table_rows name.File = file_rows
 

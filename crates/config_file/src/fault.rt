@@ -43,8 +43,9 @@ pub enum TableName {
     Group,
     #[error("[[user]]")]
     User,
+    /// The overrides of the user in this row of `[[user]]`, from 1.
     #[error("[[user.override]]")]
-    Override,
+    Override(usize),
     #[error("[[dir]]")]
     Dir,
     #[error("[[file]]")]
@@ -55,7 +56,7 @@ pub enum TableName {
 #[derive(Clone, Copy, Debug)]
 pub struct Header<'a> {
     pub table: TableName,
-    /// Number of the row in its list, from 1; 0 for a table that is no row.
+    /// Number of the row in its list, from 1; 0 for a table that is no row. Overrides are counted for each user apart.
     pub row: usize,
     /// The name that the row states; for an override, the name of its user; for a directory or a file
     /// that cannot be made, its path.

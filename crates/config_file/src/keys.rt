@@ -228,7 +228,7 @@ pub fn rows_of(table: TableName) -> &'static [Row<'static>]
         TableName::Server => &SERVER,
         TableName::Group => &GROUP,
         TableName::User => &USER,
-        TableName::Override => &OVERRIDE,
+        TableName::Override(_) => &OVERRIDE,
         TableName::Dir => &DIR,
         TableName::File => &FILE,
     }

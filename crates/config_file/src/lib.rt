@@ -20,11 +20,13 @@ mod fault;
 mod judge;
 mod keys;
 mod kind;
+mod lines;
 mod reading;
 mod row;
 mod rows;
 mod server;
 mod stated;
+mod statements;
 mod tables;
 mod users;
 mod values;
@@ -33,6 +35,7 @@ mod world;
 pub use fault::{Fault, Header, KeyFault, Problem, TableName};
 pub use keys::{LATEST_VERSION, rows_of};
 pub use kind::KeyKind;
+pub use lines::line_of;
 pub use row::{Absent, Row};
 pub use stated::{
     DirTable, FileTable, GroupTable, MAX_RATE, MAX_SESSIONS, OverrideTable, ServerTable, UserTable,

@@ -105,10 +105,10 @@ fn read_overrides<'a>(
     ensures refused { IfErr result (Reports (IsOverrideFault users.now)) }
 {
     let mut found = Vec::new(alloc);
-    for user in users {
+    for (index, user) in users.iter().enumerate() {
         let rules = read_rows::<OverrideTable>(
             alloc,
-            TableName::Override,
+            TableName::Override(index + 1),
             Some(user.name),
             "override",
             &OVERRIDE,

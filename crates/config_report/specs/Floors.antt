@@ -1,9 +1,13 @@
--- The checks that a session of a user, and two, can have their guarantees.
-use Rattle.std.specs.Prelude.{ℕ, ◌+◌, ◌*◌, Bool, not, ◌||◌, ◌&&◌, cond, nat_eq, nat_le, List, [], ◌∷◌, bytes_eq, Option, Some, None}
+-- The rates for which a session of a user, or a second one, cannot have its guarantees.
+use Rattle.std.specs.Prelude.{ℕ, ◌+◌, ◌*◌, Bool, not, ◌||◌, cond, if◌then◌else◌, nat_eq, nat_le, List, [], ◌∷◌, bytes_eq, Option, Some, None, is_some}
+use Rattle.std.specs.Option.{option_or}
 use Rattle.std.specs.Borrow.{Bor}
 use Rattle.config_file.specs.declared.stated.ServerTable.{ServerTable}
 use Rattle.config_file.specs.declared.stated.GroupTable.{GroupTable}
 use Rattle.config_file.specs.declared.stated.UserTable.{UserTable}
+use Rattle.config_report.specs.declared.floors.ShortRate.{ShortRate}
+use Rattle.config_report.specs.declared.floors.ShortRate.TheVariants.{Server, ServerDown, ServerUp, GroupDown, GroupUp, UserDown, UserUp, SessionDown, SessionUp}
+use Rattle.config_report.specs.declared.floors.Shortage.{Shortage}
 
 -- the rates down and up of the first group of a name; 0, which is no limit, if there is none
 abbrev pub rates_by : List GroupTable → List ℕ → ℕ × ℕ
@@ -19,43 +23,43 @@ rates_named groups (Some name) = rates_by groups name.now
 abbrev pub fits : ℕ → ℕ → Bool
 fits sum rate = nat_eq rate 0 || nat_le sum rate
 
--- a session's guarantee one way is within the limit of the session, and the sum of such guarantees
--- within the limits of the user, the group and the way
-abbrev pub fits_within : ℕ → ℕ → ℕ → ℕ → ℕ → ℕ → Bool
-fits_within floor sum session user group way =
-    fits floor session && (fits sum user && (fits sum group && fits sum way))
-
 -- the sessions of the user have a guarantee
 abbrev pub has_floor : UserTable → Bool
 has_floor user = not (nat_eq user.session_down_floor 0) || not (nat_eq user.session_up_floor 0)
 
--- a session of the user, alone on the server, has its guarantees; both ways count against the
--- server's rate
-abbrev pub fit_one : ServerTable → ℕ × ℕ → UserTable → Bool
-fit_one server group user =
-    let down = user.session_down_floor in
-    let up = user.session_up_floor in
-    fits_within down down user.session_down_rate user.down_rate group.0 server.down_rate
-    && (fits_within up up user.session_up_rate user.up_rate group.1 server.up_rate
-    && fits (down + up) server.rate)
+-- a rate that a sum does not fit into
+abbrev pub short_of : ShortRate → ℕ → ℕ → Option Shortage
+short_of which promised rate =
+    if fits promised rate then None
+    else Some (record { limit = which; promised = promised; rate = rate })
 
--- two sessions of the user, alone on the server, have theirs
-abbrev pub fit_two : ServerTable → ℕ × ℕ → UserTable → Bool
-fit_two server group user =
-    let down = user.session_down_floor in
-    let up = user.session_up_floor in
-    fits_within down (2 * down) user.session_down_rate user.down_rate group.0 server.down_rate
-    && (fits_within up (2 * up) user.session_up_rate user.up_rate group.1 server.up_rate
-    && fits (2 * down + 2 * up) server.rate)
+-- the first rate that the guarantees one way of a number of sessions do not fit into: that of a
+-- session, of the user, of the group, and of the server
+abbrev pub short_down : ServerTable → ℕ → UserTable → ℕ → Option Shortage
+short_down server group user sessions =
+    let each = user.session_down_floor in
+    let all = sessions * each in
+    option_or (option_or (option_or (short_of SessionDown each user.session_down_rate)
+    (short_of (UserDown user.name) all user.down_rate))
+    (short_of (GroupDown user.group) all group)) (short_of ServerDown all server.down_rate)
 
--- the sessions of the user have a guarantee, and not even the first session can have it
-abbrev pub is_unmet : ServerTable → List GroupTable → UserTable → Bool
-is_unmet server groups user =
-    has_floor user && not (fit_one server (rates_named groups user.group) user)
+abbrev pub short_up : ServerTable → ℕ → UserTable → ℕ → Option Shortage
+short_up server group user sessions =
+    let each = user.session_up_floor in
+    let all = sessions * each in
+    option_or (option_or (option_or (short_of SessionUp each user.session_up_rate)
+    (short_of (UserUp user.name) all user.up_rate))
+    (short_of (GroupUp user.group) all group)) (short_of ServerUp all server.up_rate)
 
--- the sessions of the user have a guarantee; the first session can have it, and a second cannot,
--- even alone with the first
-abbrev pub is_single : ServerTable → List GroupTable → UserTable → Bool
-is_single server groups user =
+-- the same downwards, upwards, and both ways together, of sessions alone on the server
+abbrev pub shortage_of : ServerTable → List GroupTable → UserTable → ℕ → Option Shortage
+shortage_of server groups user sessions =
     let group = rates_named groups user.group in
-    has_floor user && (fit_one server group user && not (fit_two server group user))
+    let both = sessions * user.session_down_floor + sessions * user.session_up_floor in
+    option_or (option_or (short_down server group.0 user sessions)
+    (short_up server group.1 user sessions)) (short_of Server both server.rate)
+
+-- that of a second session, if the first can have its guarantees
+abbrev pub second_shortage : ServerTable → List GroupTable → UserTable → Option Shortage
+second_shortage server groups user =
+    if is_some (shortage_of server groups user 1) then None else shortage_of server groups user 2

@@ -1,3 +1,4 @@
+pub mod Counted
 pub mod Floors
 pub mod Lines
 pub mod Looks

@@ -1,5 +1,5 @@
 -- The lines of the report on a configuration.
-use Rattle.std.specs.Prelude.{ℕ, ◌&&◌, if◌then◌else◌, nat_eq, List, [], ◌∷◌, ◌++◌, codes}
+use Rattle.std.specs.Prelude.{ℕ, ◌&&◌, if◌then◌else◌, nat_eq, List, [], ◌∷◌, ◌++◌, codes, Some, None}
 use Rattle.std.specs.Fmt.{decimal}
 use Rattle.std.specs.List.{flat_map}
 use Rattle.config_file.specs.declared.stated.ServerTable.{ServerTable}
@@ -9,7 +9,10 @@ use Rattle.config_file.specs.declared.tables.Tables.{Tables}
 use Rattle.rate_columns.specs.Columns.{left, right}
 use Rattle.rate_columns.specs.Rates.{megabits_column, rate_column}
 use Rattle.config_report.specs.ServerLines.{server_lines}
-use Rattle.config_report.specs.UserLines.{permitted, user_lines, users_head}
+use Rattle.config_report.specs.UserLines.{permitted, rest_word, user_lines, users_head}
+use Rattle.config_report.specs.declared.floors.ShortRate.{ShortRate}
+use Rattle.config_report.specs.declared.floors.ShortRate.TheVariants.{Server, ServerDown, ServerUp, GroupDown, GroupUp, UserDown, UserUp, SessionDown, SessionUp}
+use Rattle.config_report.specs.declared.floors.Shortage.{Shortage}
 use Rattle.config_report.specs.declared.seen.SeenUser.{SeenUser}
 use Rattle.config_report.specs.declared.warning.Warning.{Warning}
 use Rattle.config_report.specs.declared.warning.Warning.TheVariants.{NearlyMemory, RelativeRoot, AbsentRoot, NoFolderRoot, ClosedRoot, PublicPasswords, NoAddress, OwnPorts, PortAmongPassive, FewPorts, FewLanes, GuaranteesWait, PromisedDown, PromisedUp, PromisedBoth, NoUser, NoName, BlankName, NoPassword, Unbrowsed, NoFirstSession, NoSecondSession, NoHome}
@@ -64,6 +67,26 @@ promised_text promised rate head =
     codes "a session of each user is guaranteed " ++ (decimal promised
     ++ (head ++ (decimal rate ++ codes ": not all of them can be logged in at once")))
 
+-- a rate in the words of a plan
+abbrev pub short_rate_text : ShortRate → List ℕ
+short_rate_text Server = codes "server"
+short_rate_text ServerDown = codes "server down"
+short_rate_text ServerUp = codes "server up"
+short_rate_text (GroupDown None) = codes "group down"
+short_rate_text (GroupDown (Some name)) = codes "group " ++ (name.now ++ codes " down")
+short_rate_text (GroupUp None) = codes "group up"
+short_rate_text (GroupUp (Some name)) = codes "group " ++ (name.now ++ codes " up")
+short_rate_text (UserDown name) = codes "user " ++ (name.now ++ codes " down")
+short_rate_text (UserUp name) = codes "user " ++ (name.now ++ codes " up")
+short_rate_text SessionDown = codes "session down"
+short_rate_text SessionUp = codes "session up"
+
+-- the octets that would be guaranteed, and the rate
+abbrev pub shortage_text : Shortage → List ℕ
+shortage_text why =
+    decimal why.promised ++ (codes " octets a second would be guaranteed of the "
+    ++ (decimal why.rate ++ (codes " of " ++ short_rate_text why.limit)))
+
 abbrev pub warning_text : Warning → List ℕ
 warning_text (NearlyMemory root) =
     root.now ++ codes " is the path of a folder; the word for a store in memory is memory"
@@ -89,8 +112,8 @@ warning_text (FewLanes lanes connections) =
     decimal connections ++ codes " connections have fewer lanes, " ++ decimal lanes
     ++ codes ": while as many transfers run, listings and transfers of others wait"
 warning_text (GuaranteesWait lanes) =
-    codes "a session gets what it is guaranteed while its transfer has one of the " ++ decimal lanes
-    ++ codes " lanes, and may wait for one"
+    codes "a session gets what it is guaranteed while its transfer has a lane, "
+    ++ (codes "and may wait for one: lanes = " ++ decimal lanes)
 warning_text (PromisedDown promised rate) =
     promised_text promised rate (codes " down in all, and the rate is ")
 warning_text (PromisedUp promised rate) =
@@ -108,12 +131,14 @@ warning_text (NoPassword user) =
     codes "user " ++ user.now ++ codes ": the password is empty, and anybody may log in"
 warning_text (Unbrowsed user letters) =
     codes "user " ++ (user.now ++ (codes ": clients need the letters e and l; permitted: "
-    ++ (permitted letters.now ++ codes "nothing else")))
-warning_text (NoFirstSession user) =
-    codes "user " ++ user.now
-    ++ codes ": not even the first session can be guaranteed what each is, and no login is accepted"
-warning_text (NoSecondSession user) =
-    codes "user " ++ user.now ++ codes ": a second session cannot be guaranteed what each is"
+    ++ (permitted letters.now ++ rest_word letters.now)))
+warning_text (NoFirstSession user why) =
+    codes "user " ++ (user.now
+    ++ (codes ": not even the first session can be guaranteed what each is, "
+    ++ (codes "and no login is accepted: " ++ shortage_text why)))
+warning_text (NoSecondSession user why) =
+    codes "user " ++ (user.now
+    ++ (codes ": a second session cannot be guaranteed what each is: " ++ shortage_text why))
 warning_text (NoHome user home) =
     home.now ++ (codes ", the home of user " ++ (user.now ++ codes ", is no directory"))
 

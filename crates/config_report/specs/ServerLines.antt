@@ -6,6 +6,7 @@ use Rattle.std.specs.Net.Text.{ipv4_text}
 use Rattle.config_file.specs.declared.stated.ServerTable.{ServerTable}
 use Rattle.config_file.specs.declared.tables.Tables.{Tables}
 use Rattle.server_config.specs.Settings.{reported_address}
+use Rattle.config_report.specs.Counted.{counted}
 use Rattle.config_report.specs.Warnings.{is_unreported}
 
 -- ---- where it is reached
@@ -44,21 +45,24 @@ network_lines server = listens_line server ++ greets_line server ++ reports_line
 
 abbrev pub takes_line : ServerTable → List ℕ
 takes_line server =
-    codes "takes " ++ decimal server.max_cons ++ codes " connections, " ++ decimal server.lanes
-    ++ codes " transfers at once" ++ 10 ∷ []
+    codes "takes " ++ counted server.max_cons (codes "connection") (codes "connections")
+    ++ codes ", " ++ counted server.lanes (codes "transfer") (codes "transfers")
+    ++ codes " at once" ++ 10 ∷ []
 
 -- connections from one address; 0 is no limit
 abbrev pub from_one_line : ServerTable → List ℕ
 from_one_line server =
     if nat_eq server.max_cons_per_address 0
     then codes "takes any number of connections from one address" ++ 10 ∷ []
-    else codes "takes " ++ decimal server.max_cons_per_address
-    ++ codes " connections from one address" ++ 10 ∷ []
+    else codes "takes "
+    ++ counted server.max_cons_per_address (codes "connection") (codes "connections")
+    ++ codes " from one address" ++ 10 ∷ []
 
 abbrev pub attempts_line : ServerTable → List ℕ
 attempts_line server =
-    codes "ends a session after " ++ decimal server.max_login_attempts
-    ++ codes " wrong passwords" ++ 10 ∷ []
+    codes "ends a session after "
+    ++ counted server.max_login_attempts (codes "wrong password") (codes "wrong passwords")
+    ++ 10 ∷ []
 
 abbrev pub bound_lines : ServerTable → List ℕ
 bound_lines server = takes_line server ++ from_one_line server ++ attempts_line server
@@ -86,13 +90,15 @@ abbrev pub sessions_line : ServerTable → List ℕ
 sessions_line server =
     if nat_eq server.sessions 0
     then codes "serves any number of sessions" ++ 10 ∷ []
-    else codes "ends after " ++ decimal server.sessions ++ codes " sessions" ++ 10 ∷ []
+    else codes "ends after " ++ counted server.sessions (codes "session") (codes "sessions")
+    ++ 10 ∷ []
 
 -- the capacity of a store in memory, and the numbers of its first directories and files
 unfoldable pub memory_text : ℕ → ℕ → ℕ → List ℕ
 memory_text most dirs files =
-    codes ", at most " ++ decimal most ++ codes " octets, at first " ++ decimal dirs
-    ++ codes " directories and " ++ decimal files ++ codes " files"
+    codes ", at most " ++ counted most (codes "octet") (codes "octets") ++ codes ", at first "
+    ++ counted dirs (codes "directory") (codes "directories")
+    ++ codes " and " ++ counted files (codes "file") (codes "files")
 
 -- the same of a store in memory; nothing of a folder
 abbrev pub contents_text : Tables → List ℕ

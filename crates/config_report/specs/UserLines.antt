@@ -1,5 +1,5 @@
 -- The lines of a report on the users.
-use Rattle.std.specs.Prelude.{ℕ, if◌then◌else◌, nat_eq, List, [], ◌∷◌, ◌++◌, bytes_eq, codes, cond, Option, Some, None}
+use Rattle.std.specs.Prelude.{ℕ, if◌then◌else◌, nat_eq, List, [], ◌∷◌, ◌++◌, bytes_eq, codes, cond, length, Option, Some, None}
 use Rattle.std.specs.Borrow.{Bor}
 use Rattle.std.specs.List.{flat_map, list_any}
 use Rattle.config_file.specs.declared.stated.OverrideTable.{OverrideTable}
@@ -29,6 +29,10 @@ permitted letters =
     ++ (word_if letters 100 (codes "delete, ") ++ (word_if letters 102 (codes "rename, ")
     ++ (word_if letters 109 (codes "make directories, ")
     ++ word_if letters 119 (codes "store, ")))))))
+
+-- the words after them
+abbrev pub rest_word : List ℕ → List ℕ
+rest_word letters = if nat_eq (length letters) 0 then codes "nothing" else codes "nothing else"
 
 -- ---- a user
 

@@ -4,12 +4,13 @@ use Rattle.std.specs.Borrow.{Bor}
 use Rattle.std.specs.Char.{to_ascii_lowercase}
 use Rattle.std.specs.List.{flat_map, list_any}
 use Rattle.std.specs.Net.Addr.{ipv4_bits}
-use Rattle.config_report.specs.Floors.{is_single, is_unmet}
+use Rattle.config_report.specs.Floors.{second_shortage, shortage_of}
 use Rattle.config_report.specs.Together.{all_warnings, is_among_passive, name_warnings}
 use Rattle.config_file.specs.declared.stated.ServerTable.{ServerTable}
 use Rattle.config_file.specs.declared.stated.GroupTable.{GroupTable}
 use Rattle.config_file.specs.declared.stated.UserTable.{UserTable}
 use Rattle.server_config.specs.Settings.{reported_address}
+use Rattle.config_report.specs.declared.floors.Shortage.{Shortage}
 use Rattle.config_report.specs.declared.looks.Sight.{Sight}
 use Rattle.config_report.specs.declared.looks.Sight.TheVariants as sight
 use Rattle.config_report.specs.declared.seen.SeenUser.{SeenUser}
@@ -122,10 +123,18 @@ access_warnings user =
     (if is_open user then NoPassword user.name ∷ [] else [])
     ++ (if may_browse user.perms.now then [] else Unbrowsed user.name user.perms ∷ [])
 
+abbrev pub first_warnings : UserTable → Option Shortage → List Warning
+first_warnings user None = []
+first_warnings user (Some why) = NoFirstSession user.name why ∷ []
+
+abbrev pub second_warnings : UserTable → Option Shortage → List Warning
+second_warnings user None = []
+second_warnings user (Some why) = NoSecondSession user.name why ∷ []
+
 abbrev pub floor_warnings : ServerTable → List GroupTable → UserTable → List Warning
 floor_warnings server groups user =
-    (if is_unmet server groups user then NoFirstSession user.name ∷ [] else [])
-    ++ (if is_single server groups user then NoSecondSession user.name ∷ [] else [])
+    first_warnings user (shortage_of server groups user 1)
+    ++ second_warnings user (second_shortage server groups user)
 
 abbrev pub user_warnings : ServerTable → List GroupTable → Option Sight → SeenUser → List Warning
 user_warnings server groups root row =

@@ -2,7 +2,7 @@
 
 ghost use Rattle.std.specs.Prelude.{◌≡◌, IfOk, codes, cond, nat_eq, string_bytes};
 ghost use Rattle.std.specs.List.{list_any};
-ghost use Rattle.config_report.specs.UserLines.{ordered};
+ghost use Rattle.config_report.specs.UserLines.{ordered, rest_word};
 ghost use Rattle.config_report.specs.Warnings.{may_browse};
 
 use std::alloc::{AllocError, Global};
@@ -44,6 +44,17 @@ pub(crate) fn ordered(alloc: Global, letters: &str) -> Result<String, AllocError
         word_if(letters, b'm', "m"),
         word_if(letters, b'w', "w")
     )
+}
+
+/// The words after those of letters: that there is nothing, or nothing else.
+pub(crate) fn rest_word(letters: &str) -> &'static str
+    ensures rest { result.now ≡ rest_word letters.now }
+{
+    if letters.is_empty() {
+        "nothing"
+    } else {
+        "nothing else"
+    }
 }
 
 /// Letters, printed as what they permit, each followed by a comma and a blank.

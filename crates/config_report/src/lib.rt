@@ -9,6 +9,7 @@
 //! ```
 #![tactic(auto)]
 
+mod counted;
 mod floors;
 mod homes;
 mod letters;
@@ -24,6 +25,7 @@ mod values;
 mod warning;
 mod warnings;
 
+pub use floors::{ShortRate, Shortage};
 pub use looks::{Lookout, Sight};
 pub use reporting::{report, report_json, warning_texts};
 pub use roots::is_nearly_memory;

@@ -5,6 +5,7 @@ ghost use Rattle.std.specs.Net.Addr.{ipv4_octets};
 ghost use Rattle.std.specs.Net.Text.{ipv4_text};
 ghost use Rattle.config_report.specs.ServerLines.{attempts_line, bound_lines, connects_line, contents_text, from_one_line, greets_line, listens_line, lowest_port, memory_text, network_lines, offer_lines, port_text, ports_text, root_text, server_lines, serves_line, sessions_line, takes_line, reports_line, reported_text, whom_text};
 
+use crate::counted::Counted;
 use crate::warnings::{is_unreported, reported_address};
 use config_file::{ServerTable, Tables};
 use std::alloc::AllocError;
@@ -83,11 +84,9 @@ fn write_takes(text: &mut String, server: &ServerTable) -> Result<(), AllocError
     ensures line { OnOk result
         (string_bytes text.new ≡ string_bytes text.old ++ takes_line server.now) }
 {
-    let (connections, lanes) = (server.max_cons, server.lanes);
-    writeln!(
-        text,
-        "takes {connections} connections, {lanes} transfers at once"
-    )
+    let connections = Counted(u64::from(server.max_cons), "connection", "connections");
+    let lanes = Counted(u64::from(server.lanes), "transfer", "transfers");
+    writeln!(text, "takes {connections}, {lanes} at once")
 }
 
 fn write_from_one(text: &mut String, server: &ServerTable) -> Result<(), AllocError>
@@ -98,7 +97,8 @@ fn write_from_one(text: &mut String, server: &ServerTable) -> Result<(), AllocEr
     if most == 0 {
         writeln!(text, "takes any number of connections from one address")
     } else {
-        writeln!(text, "takes {most} connections from one address")
+        let connections = Counted(u64::from(most), "connection", "connections");
+        writeln!(text, "takes {connections} from one address")
     }
 }
 
@@ -106,8 +106,9 @@ fn write_attempts(text: &mut String, server: &ServerTable) -> Result<(), AllocEr
     ensures line { OnOk result
         (string_bytes text.new ≡ string_bytes text.old ++ attempts_line server.now) }
 {
-    let attempts = server.max_login_attempts;
-    writeln!(text, "ends a session after {attempts} wrong passwords")
+    let attempts = u64::from(server.max_login_attempts);
+    let attempts = Counted(attempts, "wrong password", "wrong passwords");
+    writeln!(text, "ends a session after {attempts}")
 }
 
 /// The addresses to which data connections are permitted.
@@ -148,7 +149,8 @@ fn write_sessions(text: &mut String, server: &ServerTable) -> Result<(), AllocEr
     if sessions == 0 {
         writeln!(text, "serves any number of sessions")
     } else {
-        writeln!(text, "ends after {sessions} sessions")
+        let sessions = Counted(sessions, "session", "sessions");
+        writeln!(text, "ends after {sessions}")
     }
 }
 
@@ -165,10 +167,10 @@ fn write_memory(text: &mut String, most: u64, dirs: usize, files: usize) -> Resu
     ensures memory { OnOk result
         (string_bytes text.new ≡ string_bytes text.old ++ memory_text most dirs files) }
 {
-    write!(
-        text,
-        ", at most {most} octets, at first {dirs} directories and {files} files"
-    )
+    let most = Counted(most, "octet", "octets");
+    let dirs = Counted(dirs as u64, "directory", "directories");
+    let files = Counted(files as u64, "file", "files");
+    write!(text, ", at most {most}, at first {dirs} and {files}")
 }
 
 /// Writes the same of a store in memory; nothing of a folder.

@@ -1,6 +1,7 @@
 //! Warnings: settings that are accepted and have no use, or another use than they seem to have.
 
-use crate::letters::Permitted;
+use crate::floors::Shortage;
+use crate::letters::{Permitted, rest_word};
 use std::fmt;
 
 /// A setting that is accepted and has no use. It prints as one line, without its end.
@@ -92,10 +93,12 @@ pub enum Warning<'a> {
     /// Not even the first session of the user can have its guarantee.
     NoFirstSession {
         user: &'a str,
+        why: Shortage<'a>,
     },
     /// A second session of the user cannot have the guarantee of the first.
     NoSecondSession {
         user: &'a str,
+        why: Shortage<'a>,
     },
     /// The user's home is no directory of the store.
     NoHome {
@@ -149,7 +152,7 @@ impl fmt::Display for Warning<'_> {
             ),
             Warning::GuaranteesWait { lanes } => write!(
                 f,
-                "a session gets what it is guaranteed while its transfer has one of the {lanes} lanes, and may wait for one"
+                "a session gets what it is guaranteed while its transfer has a lane, and may wait for one: lanes = {lanes}"
             ),
             Warning::PromisedDown { promised, rate } => write!(
                 f,
@@ -180,16 +183,17 @@ impl fmt::Display for Warning<'_> {
             }
             Warning::Unbrowsed { user, letters } => write!(
                 f,
-                "user {user}: clients need the letters e and l; permitted: {}nothing else",
-                Permitted(letters)
+                "user {user}: clients need the letters e and l; permitted: {}{}",
+                Permitted(letters),
+                rest_word(letters)
             ),
-            Warning::NoFirstSession { user } => write!(
+            Warning::NoFirstSession { user, why } => write!(
                 f,
-                "user {user}: not even the first session can be guaranteed what each is, and no login is accepted"
+                "user {user}: not even the first session can be guaranteed what each is, and no login is accepted: {why}"
             ),
-            Warning::NoSecondSession { user } => write!(
+            Warning::NoSecondSession { user, why } => write!(
                 f,
-                "user {user}: a second session cannot be guaranteed what each is"
+                "user {user}: a second session cannot be guaranteed what each is: {why}"
             ),
             Warning::NoHome { user, home } => {
                 write!(f, "{home}, the home of user {user}, is no directory")

@@ -6,7 +6,7 @@ ghost use Rattle.std.specs.List.{flat_map, list_any};
 ghost use Rattle.config_report.specs.Together.{all_warnings, name_warnings};
 ghost use Rattle.config_report.specs.Warnings.{access_warnings, file_warnings, floor_warnings, has_few_ports, has_word, is_among_own, is_open, is_public, is_unlisted, is_unreported, lacks_home, port_warnings, root_warnings, server_warnings, sight_warnings, user_warnings, warnings};
 
-use crate::floors::{is_single, is_unmet};
+use crate::floors::{first_shortage, second_shortage};
 use crate::letters::may_browse;
 use crate::looks::Sight;
 use crate::roots::{is_nearly_memory, is_relative};
@@ -210,11 +210,17 @@ fn warn_of_floors<'a>(
     ensures warnings { OnOk result (found.new.items
         ≡ found.old.items ++ floor_warnings server.now groups.now user.now) }
 {
-    if is_unmet(server, groups, user) {
-        found.push(Warning::NoFirstSession { user: user.name })?;
+    if let Some(why) = first_shortage(server, groups, user) {
+        found.push(Warning::NoFirstSession {
+            user: user.name,
+            why,
+        })?;
     }
-    if is_single(server, groups, user) {
-        found.push(Warning::NoSecondSession { user: user.name })?;
+    if let Some(why) = second_shortage(server, groups, user) {
+        found.push(Warning::NoSecondSession {
+            user: user.name,
+            why,
+        })?;
     }
     Ok(())
 }

@@ -10,10 +10,12 @@ use crate::stated_files::{FRONT, found_at, twin_of};
 use crate::status_file::{STATUS_MODE, StatusFile};
 use ftp_daemon::{Patience, ServeFault};
 use ftpd_program::{
-    StartFault, is_for_nothing, is_free_for_log, is_free_for_status, stated_sessions,
+    IdleOption, StartFault, idle_sessions, idle_sync, is_for_nothing, is_free_for_log,
+    is_free_for_status, reads_input_again, stated_sessions,
 };
 use line_queue::LogForm;
 use server_config::{Config, ServedStore};
+use std::alloc::AllocError;
 use std::net::{Net, TcpListener, TcpStream};
 use std::{fs, io};
 
@@ -219,6 +221,37 @@ fn sessions_in(word: Option<String>) -> Result<u32, StartFault> {
     }
 }
 
+/// Adds a line on an option, if it has no effect.
+fn add_idle(warnings: &mut String, option: Option<IdleOption>) -> Result<(), AllocError> {
+    match option {
+        Some(option) => writeln!(warnings, "{option}"),
+        None => Ok(()),
+    }
+}
+
+/// Returns the texts of warnings, a line each, with those of options that have no effect.
+fn with_idle(
+    warnings: String,
+    config: &Config,
+    syncs: bool,
+    user_sessions: u32,
+) -> Result<String, Unprepared> {
+    let mut warnings = warnings;
+    let is_in_memory = matches!(&config.store, ServedStore::Memory(_));
+    let sync = add_idle(&mut warnings, idle_sync(syncs, is_in_memory));
+    let sessions = add_idle(
+        &mut warnings,
+        idle_sessions(user_sessions, config.numbers.max_cons),
+    );
+    if sync.is_err() || sessions.is_err() {
+        return Err(Unprepared {
+            fault: ServeFault::Memory,
+            start: None,
+        });
+    }
+    Ok(warnings)
+}
+
 /// Returns the transfer log at a path, if there is to be one. `Err` if its file cannot be opened.
 fn log_at(machine: &HostRuntime, path: Option<String>) -> Result<Option<LogFile>, StartFault> {
     match path {
@@ -392,6 +425,10 @@ where
     if is_for_nothing(patience, drain_file.is_some()) {
         return Err(not_prepared(ServeFault::DrainSeconds, StartFault::NothingDrains));
     }
+    if reads_input_again(path.as_str(), reload_file.is_some()) {
+        return Err(not_prepared(ServeFault::ReloadFile, StartFault::InputAgain));
+    }
+    let warnings = with_idle(warnings, &config, syncs, user_sessions)?;
     let Signs {
         stop,
         drain,

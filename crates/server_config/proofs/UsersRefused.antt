@@ -1,5 +1,5 @@
 -- Users and overrides that are refused, after those that were added.
-use Rattle.std.proofs.Common.{◌≡◌, ◌≢◌, ℕ, ◌<◌, List, length, take, get_or, Option, Some, Result, Ok, Err, IfErr, Vec, Global, sym, subst, inr}
+use Rattle.std.proofs.Common.{◌≡◌, ◌≢◌, ℕ, ◌+◌, ◌<◌, List, length, take, get_or, Option, Some, Result, Ok, Err, IfErr, Vec, Global, sym, subst, inr}
 use Rattle.memory_terms.specs.Lack.{Unless}
 use Rattle.authorizer.specs.Changes.{added, with_messages}
 use Rattle.authorizer.specs.Numbers.{no_users}
@@ -40,10 +40,10 @@ group_refused group user old named greeted new (Ok done) is_named is_greeted is 
 group_refused group user old named greeted new (Err fault) is_named is_greeted is = λ _. inr (named, is_named, inr (greeted, is_greeted, is.1))
 
 pub rules_refused : (index : ℕ) (group : Option ℕ) (user : UserTable) (rules : List OverrideTable) (old mid : Accounts) (answer : Result (Unit {0}) (Fault UserProblem))
-    → AddsAccount group user old mid → IfErr answer (FaultIs (IsRefusedRule user.name.now rules mid)) → IfErr answer (FaultIs (IsRefusedUser index group user rules old))
+    → AddsAccount group user old mid → IfErr answer (FaultIs (IsRefusedRule (index + 1) user.name.now rules mid)) → IfErr answer (FaultIs (IsRefusedUser index group user rules old))
 rules_refused index group user rules old mid (Ok done) adds is = tt
 rules_refused index group user rules old mid (Err fault) adds is =
-    reported_more (IsRefusedRule user.name.now rules mid) (IsRefusedUser index group user rules old) (λ p f refused. inr (mid, adds, refused)) fault is
+    reported_more (IsRefusedRule (index + 1) user.name.now rules mid) (IsRefusedUser index group user rules old) (λ p f refused. inr (mid, adds, refused)) fault is
 
 pub user_refused : (groups : List GroupTable) (users : List UserTable) (overrides : List (Vec OverrideTable Global)) (i : ℕ) (user : UserTable) (rules : Vec OverrideTable Global)
     (items : List OverrideTable) (group : Option ℕ) (mid : Accounts) (answer : Fault UserProblem)

@@ -104,6 +104,6 @@ ReportsStore fault Memory = Unit {0}
 ReportsStore fault _ = ⊥
 
 abbrev pub ReportsText : Error → ConfigFault → Type 0
-ReportsText error (NotToml line reported) = IsMemory error → ⊥
+ReportsText error (NotToml place problem) = IsMemory error → ⊥
 ReportsText error Memory = Unit {0}
 ReportsText error _ = ⊥

@@ -1,5 +1,5 @@
 -- The users of a file, added in its order, each by the calls of the authorizer.
-use Rattle.std.specs.Prelude.{◌≡◌, ◌⊎◌, ℕ, List, [], ◌∷◌, take, slice_get, Option, Some, Ok, Err, Vec}
+use Rattle.std.specs.Prelude.{◌≡◌, ◌⊎◌, ℕ, ◌+◌, List, [], ◌∷◌, take, slice_get, Option, Some, Ok, Err, Vec}
 use Rattle.std.specs.declared.alloc.Global.{Global}
 use Rattle.authorizer.specs.Numbers.{no_users}
 use Rattle.authorizer.specs.Users.{Accounts}
@@ -50,9 +50,9 @@ AddsUsers groups _ _ old new = ⊥
 
 -- ---- refusals
 
--- the overrides before one are made, and that one is refused
-pub record IsRefusedRule (name : List ℕ) (rules : List OverrideTable) (old : Accounts) (at : Place)
-    (problem : UserProblem) : Type 0 where
+-- the overrides before one are made, and that one is refused; the row of the user counts from 1
+pub record IsRefusedRule (user : ℕ) (name : List ℕ) (rules : List OverrideTable) (old : Accounts)
+    (at : Place) (problem : UserProblem) : Type 0 where
   pub index : ℕ
   pub rule : OverrideTable
   pub mid : Accounts
@@ -61,7 +61,7 @@ pub record IsRefusedRule (name : List ℕ) (rules : List OverrideTable) (old : A
   pub fault : AuthorizerFault
   pub refused : overridden mid name rule.path.now rule.perms.now rule.recursive ≡ Err fault
   pub reported : IsReportedAs rule.perms.now fault problem
-  pub place : at ≡ row_at TableName.Override index (Some name)
+  pub place : at ≡ row_at (TableName.Override user) index (Some name)
 
 -- a user is refused; or otherwise the messages; or otherwise the group
 abbrev pub IsRefusedAccount : Option ℕ → UserTable → Accounts → AuthorizerFault → Type 0
@@ -82,7 +82,7 @@ IsRefusedUser index group user rules old place problem =
     × ((fault : AuthorizerFault) × IsRefusedAccount group user old fault
     × IsReportedAs user.perms.now fault problem))
     ⊎ ((next : Accounts) × AddsAccount group user old next
-    × IsRefusedRule user.name.now rules next place problem)
+    × IsRefusedRule (index + 1) user.name.now rules next place problem)
 
 -- the users before one are added, and that one is refused
 pub record IsFirstRefusal (groups : List GroupTable) (users : List UserTable)

@@ -1,18 +1,17 @@
 //! Faults of a configuration, with their places.
 
-ghost use Rattle.std.specs.Prelude.{◌≡◌, IfErr, IfOk};
+ghost use Rattle.std.specs.Prelude.{◌≡◌, IfErr, IfOk, codes};
 ghost use Rattle.config_file.specs.Lists.{place_of};
 ghost use Rattle.server_config.specs.Refused.{IsAt, IsKeyFault, owned_place, ReportsGroup, ReportsKey, ReportsStore, ReportsText, ReportsUser};
 ghost use Rattle.server_config.specs.Faults.{name_of};
-ghost use Rattle.server_config.specs.HeaderLines.{HasLine, IsAtLine, line_of};
+ghost use Rattle.server_config.specs.HeaderLines.{HasLine, IsAtLine, is_utf16};
 ghost use Rattle.server_config.specs.declared.fault.ConfigFault.TheVariants.{Memory};
 
 use crate::group_problem::GroupProblem;
-use crate::headers::{head_of, header_line};
 use crate::similar::similar_to;
 use crate::store_problem::StoreProblem;
 use crate::user_problem::UserProblem;
-use config_file::{Fault, Header, KeyFault, KeyKind, MAX_RATE, Problem, TableName};
+use config_file::{Fault, Header, KeyFault, KeyKind, MAX_RATE, Problem, TableName, line_of};
 use std::alloc::{AllocError, Global};
 use std::fmt;
 use thiserror::Error;
@@ -29,9 +28,8 @@ pub struct OwnedHeader {
     /// The name that the row states; of an override, the name of its user; of a directory or a file that
     /// cannot be made, its path.
     pub name: Option<String>,
-    /// The line of the text that has the table's header, from 1; none for the keys above all tables, for overrides, and
-    /// for a header in another spelling.
-    pub line: Option<usize>,
+    /// The line of the text, from 1: that of the table's header, and above all tables that of the key.
+    pub line: usize,
 }
 
 /// A key of a file, and the one that may have been meant if it is unknown.
@@ -48,14 +46,22 @@ pub struct TextPlace {
     pub column: usize,
 }
 
+/// The problem of a text that is no TOML.
+#[derive(Debug, Drop)]
+pub struct TextProblem {
+    pub error: toml::de::Error,
+    /// The text is one of UTF-16.
+    pub is_utf16: bool,
+}
+
 /// The reason for which a configuration is refused. It prints as one line, with the place and the expected values.
 #[derive(Debug, Drop, Error)]
 pub enum ConfigFault {
     /// The file is no UTF-8 or no TOML: the place, and the problem there.
-    #[error("line {}, column {}: {}", .place.line, .place.column, .error.message())]
+    #[error("line {}, column {}: {problem}", .place.line, .place.column)]
     NotToml {
         place: TextPlace,
-        error: toml::de::Error,
+        problem: TextProblem,
     },
     /// A key is unknown, missing, of the wrong kind or out of range.
     #[error("{header}: {}: {problem}{}", Shown(.key.name.as_str()), Hint(.key, *.problem))]
@@ -148,12 +154,19 @@ impl fmt::Display for Shown<'_> {
     }
 }
 
+impl fmt::Display for TextProblem {
+    fn fmt<W: fmt::Write>(&self, f: &mut fmt::Formatter<W>) -> fmt::Result {
+        f.write_str(if self.is_utf16 {
+            "the file is UTF-16; save it as UTF-8"
+        } else {
+            self.error.message()
+        })
+    }
+}
+
 impl fmt::Display for OwnedHeader {
     fn fmt<W: fmt::Write>(&self, f: &mut fmt::Formatter<W>) -> fmt::Result {
-        if let Some(line) = self.line {
-            write!(f, "line {line}: ")?;
-        }
-        write!(f, "{}", self.table)?;
+        write!(f, "line {}: {}", self.line, self.table)?;
         if self.row > 0 {
             write!(f, " {}", self.row)?;
         }
@@ -214,19 +227,10 @@ fn number_hint(key: &str, high: u64) -> &'static str {
     }
 }
 
-/// The line of a text that has the header of a table.
-fn line_of(octets: &[u8], header: Header) -> Option<usize>
-    ensures line { result ≡ line_of octets.now header.entry.table header.entry.row }
-{
-    match head_of(header.table) {
-        Some(head) => header_line(octets, head, header.row),
-        None => None,
-    }
-}
-
-fn owned(alloc: Global, octets: &[u8], header: Header) -> Result<OwnedHeader, AllocError>
+/// The header of a table with its line, which is that of the key above all tables.
+fn owned(alloc: Global, octets: &[u8], header: Header, key: &str) -> Result<OwnedHeader, AllocError>
     ensures place { IfOk result (λ owned. owned_place owned ≡ place_of header.entry) }
-    ensures line { IfOk result (IsAtLine octets.now) }
+    ensures line { IfOk result (IsAtLine octets.now key.now) }
 {
     let name = match header.name {
         Some(name) => Some(String::from_str(alloc, name)?),
@@ -236,20 +240,35 @@ fn owned(alloc: Global, octets: &[u8], header: Header) -> Result<OwnedHeader, Al
         table: header.table,
         row: header.row,
         name,
-        line: line_of(octets, header),
+        line: line_of(octets, header.table, header.row, key),
     })
+}
+
+/// Returns whether a text is one of UTF-16: it begins with a byte order mark of that, or one of its first two octets is
+/// 0.
+fn is_utf16(octets: &[u8]) -> bool
+    ensures utf16 { result ≡ is_utf16 octets.now }
+{
+    match octets {
+        [0xFE, 0xFF, ..] | [0xFF, 0xFE, ..] => true,
+        [first, second, ..] => *first == 0 || *second == 0,
+        _ => false,
+    }
 }
 
 /// The fault of text that is no TOML.
 pub(crate) fn not_toml(octets: &[u8], error: toml::de::Error) -> ConfigFault
     ensures reported { ReportsText error result }
+    ensures utf16 { HasLine octets.now result }
 {
     let Some(range) = error.span() else {
         return ConfigFault::Memory;
     };
+    let is_utf16 = is_utf16(octets);
+    let start = if is_utf16 { 0 } else { range.start };
     ConfigFault::NotToml {
-        place: place_of(octets, range.start),
-        error,
+        place: place_of(octets, start),
+        problem: TextProblem { error, is_utf16 },
     }
 }
 
@@ -282,7 +301,7 @@ fn key_fault(
         _ => None,
     };
     Ok(ConfigFault::Key {
-        header: owned(alloc, octets, header)?,
+        header: owned(alloc, octets, header, key)?,
         key: OwnedKey {
             name: String::from_str(alloc, key)?,
             similar,
@@ -298,11 +317,11 @@ fn located<P: Drop>(
     fault: Fault<P>,
 ) -> Result<(OwnedHeader, P), ConfigFault>
     ensures at { IfOk result (λ found. IsAt fault.entry found.0 found.1) }
-    ensures line { IfOk result (λ found. IsAtLine octets.now found.0) }
+    ensures line { IfOk result (λ found. IsAtLine octets.now (codes "") found.0) }
     ensures memory { IfErr result (λ why. why ≡ Memory) }
 {
     match fault {
-        Fault::At { header, problem } => Ok((owned(alloc, octets, header)?, problem)),
+        Fault::At { header, problem } => Ok((owned(alloc, octets, header, "")?, problem)),
         Fault::Memory => Err(ConfigFault::Memory),
     }
 }

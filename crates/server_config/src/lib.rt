@@ -18,8 +18,8 @@
 //!
 //! `config` joins the parts. `fault` is the first refusal with its place, and `group_problem`,
 //! `user_problem` and `store_problem` say what is wrong there; `similar` finds the key that may have
-//! been meant, `headers` the line of a table. `migration` prints a file in version 2, unless it is too deep (`depth`). `numbers` is a
-//! law: a user has one number in all parts.
+//! been meant. `migration` prints a file in version 2, unless it is too deep (`depth`). `numbers` is a law: a user has
+//! one number in all parts.
 //!
 //! docs/configuration.md has each key with its kind, its range and its default, and the order of the faults.
 #![tactic(auto)]
@@ -30,7 +30,6 @@ mod fault;
 mod group_names;
 mod group_problem;
 mod groups;
-mod headers;
 mod limits;
 mod migration;
 mod numbers;
@@ -43,7 +42,7 @@ mod user_problem;
 mod users;
 
 pub use config::Config;
-pub use fault::{ConfigFault, OwnedHeader, OwnedKey, TextPlace};
+pub use fault::{ConfigFault, OwnedHeader, OwnedKey, TextPlace, TextProblem};
 pub use group_problem::GroupProblem;
 pub use migration::{DEEPEST, LONGEST_TEXT, migrate, same_branches};
 pub use numbers::numbers_agree;

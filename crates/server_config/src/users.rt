@@ -65,19 +65,23 @@ fn add_rule(users: &mut Authorizer, name: &str, rule: &OverrideTable) -> Result<
     users.override_perm(name, rule.path, rule.perms, rule.recursive)
 }
 
-/// Adds the overrides of a user, in their order.
+/// Adds the overrides of the user of a row, which counts from 1, in their order.
 fn add_rules<'a>(
     users: &mut Authorizer,
+    user: usize,
     name: &'a str,
     rules: &[OverrideTable<'a>],
 ) -> Result<(), Fault<'a, UserProblem>>
     ensures rules { OnOk result (AddsRules name.now rules.now users.old users.new) }
-    ensures refused { IfErr result (FaultIs (IsRefusedRule name.now rules.now users.old)) }
+    ensures refused { IfErr result (FaultIs (IsRefusedRule user name.now rules.now users.old)) }
 {
     for (index, rule) in rules.iter().enumerate() {
         match add_rule(users, name, rule) {
             Ok(()) => {}
-            Err(fault) => return Err(refused(TableName::Override, index, name, rule.perms, fault)),
+            Err(fault) => {
+                let table = TableName::Override(user);
+                return Err(refused(table, index, name, rule.perms, fault));
+            }
         }
     }
     Ok(())
@@ -97,7 +101,7 @@ fn add_user<'a>(
         (FaultIs (IsRefusedUser index group user.now rules.now users.old)) }
 {
     match add_account(users, user, group) {
-        Ok(()) => add_rules(users, user.name, rules),
+        Ok(()) => add_rules(users, index + 1, user.name, rules),
         Err(fault) => Err(refused(TableName::User, index, user.name, user.perms, fault)),
     }
 }

@@ -14,7 +14,7 @@ loop-index-preserved c =
 
 pub returns-in-Err-clause-refused : goal.returns-in-Err-clause-refused
 returns-in-Err-clause-refused c =
-    reported_as (IsRefusedRule c.args.name.now c.args.rules.now c.args.users.now) Override c.loop-index.index c.args.name.now _ c.in-Err.fault c.refused.result c.refused.ensures.reported (λ problem lack reported. record {
+    reported_as (IsRefusedRule c.args.user c.args.name.now c.args.rules.now c.args.users.now) (Override c.args.user) c.loop-index.index c.args.name.now _ c.in-Err.fault c.refused.result c.refused.ensures.reported (λ problem lack reported. record {
       index = c.loop-index.index;
       rule = _;
       mid = c.loop-index.users;

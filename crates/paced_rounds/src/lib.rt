@@ -18,7 +18,7 @@ mod laws;
 mod rounds;
 mod turns;
 
-pub use account::{RoundsAccount, Settlement};
+pub use account::{RoundsAccount, SettledRounds, Settlement};
 pub use held::HeldNames;
-pub use laws::{seconds_are_kept, spans_are_kept, turns_are_even};
+pub use laws::{spans_are_kept, turns_are_even};
 pub use rounds::{MOST_ASKED, PacedRounds};

@@ -30,10 +30,10 @@ pub use ftp_daemon::{
     EndSign, NoSigns, OwnerSigns, Reload, ReloadFault, ReloadSign, RoundClock, ServeFault, Terms,
 };
 pub use ftp_terms::{EntryKind, LineText, Meta};
-pub use grant_ledger::SettledNumbers;
 pub use line_rates::{GroupRate, Limits, LimitsFault, Name, UserRate, Way};
 pub use memory_store::MemStore;
 pub use notes::{NoTransferLog, StandardErrorNotes, notes_on_standard_error};
+pub use paced_rounds::SettledRounds;
 pub use page_store::{PageFault, PageStore, Pages};
 pub use passive_ports::AdmitFault;
 pub use ranges::NumberFault;

@@ -1,9 +1,13 @@
 //! Serving, until a server's sessions or its owner's signs end it.
 
-ghost use Rattle.std.specs.Prelude.{◌≡◌, ◌≢◌, ◌+◌, ◌*◌, ◌≤◌, ℕ, All, Err, IfErr, IfOk, IfSome, None, length, true};
+ghost use Rattle.std.specs.Prelude.{◌≡◌, ◌≢◌, ◌+◌, ◌*◌, ◌≤◌, All, Err, IfErr, IfOk, IfSome, None, length, true};
 ghost use Rattle.std.specs.Arc.{arc_value};
 ghost use Rattle.line_rates.specs.Rates.{Rates};
-ghost use Rattle.paced_rounds.specs.Seconds.{AreInSeconds, HasKept};
+ghost use Rattle.line_rates.specs.declared.ask.Name.TheVariants.{Server};
+ghost use Rattle.paced_rounds.specs.Allowed.{AreAllowed};
+ghost use Rattle.paced_rounds.specs.Settled.{rounds_in};
+ghost use Rattle.paced_rounds.specs.Spans.{IsWithinRates, granted_to, seconds_from};
+ghost use Rattle.round_pace.specs.Stretches.{StretchesKeep};
 ghost use Rattle.ftp_daemon.specs.SameRates.{may_hold};
 ghost use Rattle.ftp_server.specs.Folders.{IsFolderFault};
 ghost use Rattle.ftp_server.specs.Ranges.{range_fault};
@@ -17,9 +21,10 @@ use crate::stop_flag::StopFlag;
 use crate::stores::{FolderStore, Stores, open_folder, open_own, open_recorded};
 use client_patience::Patience;
 use ftp_daemon::{NoSigns, OwnerSigns, RoundClock, ServerRuntime, Service, Terms, serve};
-use grant_ledger::SettledNumbers;
+use grant_ledger::{Book, BookName};
 use last_fault::LastFault;
 use line_rates::Limits;
+use paced_rounds::SettledRounds;
 use server_config::ServerNumbers;
 use server_house::ServerHooks;
 use std::alloc::Global;
@@ -40,6 +45,12 @@ struct Parts {
     syncs: bool,
 }
 
+/// The name of the book of a server.
+#[derive(Drop)]
+struct OfServer {}
+
+impl BookName for OfServer {}
+
 // Serves with these parts.
 fn serve_parts<R, S, H, P>(
     rt: &R,
@@ -47,7 +58,7 @@ fn serve_parts<R, S, H, P>(
     stores: Stores<S>,
     handler: H,
     signs: P,
-) -> Result<SettledNumbers, FtpServerFault>
+) -> Result<SettledRounds, FtpServerFault>
 where
     R: Threads + ServerRuntime + RoundClock + Copy + Send + Sync,
     S: Store<Global> + Send + Drop,
@@ -56,12 +67,16 @@ where
     H: ServerHooks + Send,
     P: OwnerSigns + Send + Sync + Drop,
     ensures sum { IfOk result (λ settled. settled.issued ≡ settled.moved + settled.back) }
+    ensures issued { IfOk result (λ settled.
+        settled.issued ≡ granted_to Server (rounds_in settled)) }
+    ensures every_second { IfOk result (λ settled. StretchesKeep (rounds_in settled)) }
     ensures kept { IfOk result (λ settled.
-        HasKept (may_hold parts.limits P.allows) R.when 0 settled.issued) }
-    ensures seconds { IfOk result (λ settled. (first count : ℕ)
-        → AreInSeconds R.when first count → parts.limits.server ≢ 0
+        IsWithinRates (rounds_in settled) settled.opened settled.latest) }
+    ensures rates { IfOk result (λ settled.
+        AreAllowed (may_hold parts.limits P.allows) (rounds_in settled)) }
+    ensures seconds { IfOk result (λ settled. parts.limits.server ≢ 0
         → ((rates : Rates) → P.allows rates ≡ true → rates.server ≡ parts.limits.server)
-        → settled.issued ≤ count * parts.limits.server) }
+        → settled.issued ≤ seconds_from settled.opened settled.latest * parts.limits.server) }
 {
     let Stores { store, own } = stores;
     let service = Service {
@@ -76,8 +91,11 @@ where
         user_sessions: parts.user_sessions,
     };
     let mut output = Vec::new(rt.alloc());
-    match serve(rt, service, &mut output) {
-        Ok(settled) => Ok(settled),
+    let (book, tally) = Book::<OfServer>::open(0);
+    let (settlement, served) = serve(rt, service, book, tally, &mut output);
+    let settled = settlement.read();
+    match served {
+        Ok(()) => Ok(settled),
         Err(fault) => Err(FtpServerFault::Serve(fault)),
     }
 }
@@ -168,12 +186,13 @@ impl FtpServer {
     }
 
     /// Serves these stores until the owner's signs end it, or it has had as many sessions as `numbers.sessions` says; each
-    /// event is told to the handler. Returns the octets that rounds granted, and what became of them.
+    /// event is told to the handler. Returns the octets that rounds granted, what became of them, and the moments of the
+    /// opening and of the last round, in microseconds of the clock.
     ///
-    /// Whatever clients, stores and the handler do: there is a history of rounds at moments of the clock which granted all
-    /// octets issued, each under the rates of the server or others that the signs allow, and which keeps each of these
-    /// rates. So in each second of the clock at most `rate` octets are issued, if that is not 0 and the signs put no other
-    /// in force.
+    /// Whatever clients, stores and the handler do: the rounds that were held, each at a moment that was read from the
+    /// clock, granted all octets issued, under the rates of the server or others that the signs allow, and under each name
+    /// at most what these allow. So if `rate` is not 0 and the signs put no other in force, at most `rate` octets are issued
+    /// for each second of the clock from that of the opening to that of the last round.
     ///
     /// Returns `Number` with the first number that is out of its range, and then `Rate` if the rates are refused, both before
     /// anything is opened; `Serve` if the server did not start or ended with a fault (the handler is told why it cannot
@@ -190,7 +209,7 @@ impl FtpServer {
         stores: Stores<S>,
         handler: H,
         signs: P,
-    ) -> Result<SettledNumbers, FtpServerFault>
+    ) -> Result<SettledRounds, FtpServerFault>
     where
         R: Threads
             + Wait
@@ -211,12 +230,16 @@ impl FtpServer {
         ensures refused { range_fault self ≡ None
             → IfSome (rates_fault self) (λ fault. IsRefusedFor fault result) }
         ensures sum { IfOk result (λ settled. settled.issued ≡ settled.moved + settled.back) }
+        ensures issued { IfOk result (λ settled.
+            settled.issued ≡ granted_to Server (rounds_in settled)) }
+        ensures every_second { IfOk result (λ settled. StretchesKeep (rounds_in settled)) }
         ensures kept { IfOk result (λ settled.
-            HasKept (may_hold (server_rates self) P.allows) R.when 0 settled.issued) }
-        ensures seconds { IfOk result (λ settled. (first count : ℕ)
-            → AreInSeconds R.when first count → self.rate ≢ 0
+            IsWithinRates (rounds_in settled) settled.opened settled.latest) }
+        ensures rates { IfOk result (λ settled.
+            AreAllowed (may_hold (server_rates self) P.allows) (rounds_in settled)) }
+        ensures seconds { IfOk result (λ settled. self.rate ≢ 0
             → ((rates : Rates) → P.allows rates ≡ true → rates.server ≡ self.rate)
-            → settled.issued ≤ count * self.rate) }
+            → settled.issued ≤ seconds_from settled.opened settled.latest * self.rate) }
     {
         let parts = self.into_parts()?;
         serve_parts(rt, parts, stores, handler, signs)
@@ -236,7 +259,7 @@ impl FtpServer {
         machine: &HostRuntime,
         folder: &str,
         handler: H,
-    ) -> Result<SettledNumbers, FtpServerFault>
+    ) -> Result<SettledRounds, FtpServerFault>
     where
         R: Threads
             + Wait
@@ -253,11 +276,15 @@ impl FtpServer {
         ensures refused { range_fault self ≡ None
             → IfSome (rates_fault self) (λ fault. IsRefusedFor fault result) }
         ensures sum { IfOk result (λ settled. settled.issued ≡ settled.moved + settled.back) }
+        ensures issued { IfOk result (λ settled.
+            settled.issued ≡ granted_to Server (rounds_in settled)) }
+        ensures every_second { IfOk result (λ settled. StretchesKeep (rounds_in settled)) }
         ensures kept { IfOk result (λ settled.
-            HasKept (may_hold (server_rates self) no_others) R.when 0 settled.issued) }
-        ensures seconds { IfOk result (λ settled. (first count : ℕ)
-            → AreInSeconds R.when first count → self.rate ≢ 0
-            → settled.issued ≤ count * self.rate) }
+            IsWithinRates (rounds_in settled) settled.opened settled.latest) }
+        ensures rates { IfOk result (λ settled.
+            AreAllowed (may_hold (server_rates self) no_others) (rounds_in settled)) }
+        ensures seconds { IfOk result (λ settled. self.rate ≢ 0
+            → settled.issued ≤ seconds_from settled.opened settled.latest * self.rate) }
     {
         let parts = self.into_parts()?;
         let flag = StopFlag::new(machine.alloc())?;
@@ -276,7 +303,7 @@ impl FtpServer {
         rt: &R,
         store: S,
         handler: H,
-    ) -> Result<SettledNumbers, FtpServerFault>
+    ) -> Result<SettledRounds, FtpServerFault>
     where
         R: Threads
             + Wait
@@ -296,11 +323,15 @@ impl FtpServer {
         ensures refused { range_fault self ≡ None
             → IfSome (rates_fault self) (λ fault. IsRefusedFor fault result) }
         ensures sum { IfOk result (λ settled. settled.issued ≡ settled.moved + settled.back) }
+        ensures issued { IfOk result (λ settled.
+            settled.issued ≡ granted_to Server (rounds_in settled)) }
+        ensures every_second { IfOk result (λ settled. StretchesKeep (rounds_in settled)) }
         ensures kept { IfOk result (λ settled.
-            HasKept (may_hold (server_rates self) no_others) R.when 0 settled.issued) }
-        ensures seconds { IfOk result (λ settled. (first count : ℕ)
-            → AreInSeconds R.when first count → self.rate ≢ 0
-            → settled.issued ≤ count * self.rate) }
+            IsWithinRates (rounds_in settled) settled.opened settled.latest) }
+        ensures rates { IfOk result (λ settled.
+            AreAllowed (may_hold (server_rates self) no_others) (rounds_in settled)) }
+        ensures seconds { IfOk result (λ settled. self.rate ≢ 0
+            → settled.issued ≤ seconds_from settled.opened settled.latest * self.rate) }
     {
         let stores = Stores::one(rt.alloc(), store);
         self.serve_with(rt, stores, handler, NoSigns)

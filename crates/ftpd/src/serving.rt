@@ -1,6 +1,13 @@
 //! The server of the machine that the program runs on.
 
-ghost use Rattle.std.specs.Prelude.{◌≡◌, ◌<◌, Err, IfErr, IfOk};
+ghost use Rattle.std.specs.Prelude.{◌≡◌, ◌≢◌, ◌+◌, ◌*◌, ◌<◌, ◌≤◌, true, None, Ok, Err, IfErr, IfOk};
+ghost use Rattle.ftp_daemon.specs.SameRates.{may_hold};
+ghost use Rattle.line_rates.specs.Rates.{Rates};
+ghost use Rattle.line_rates.specs.declared.ask.Name.TheVariants.{Server};
+ghost use Rattle.paced_rounds.specs.Allowed.{AreAllowed};
+ghost use Rattle.paced_rounds.specs.Settled.{rounds_of};
+ghost use Rattle.paced_rounds.specs.Spans.{IsWithinRates, granted_to, seconds_from};
+ghost use Rattle.round_pace.specs.Stretches.{StretchesKeep};
 ghost use Rattle.ftpd_program.specs.declared.server.ServeFault.TheVariants.{TransferLog};
 
 use crate::asked::AskedService;
@@ -15,15 +22,19 @@ use crate::reload_file::{ReloadFile, capacity_of, root_of};
 use crate::running_file::RunningWriter;
 use crate::sign_file::SignFile;
 use crate::starting::{Means, Prepared, Unprepared, prepare};
-use crate::status_file::{MachineSigns, StatusFile};
+use crate::status_file::{FixedSigns, MachineSigns, StatusFile};
 use crate::status_thread::StatusWriter;
 use folder_store::{DirStore, LeaveSign};
-use ftp_daemon::{Patience, RoundClock, ServeFault, ServerRuntime, Service, Terms, serve};
+use ftp_daemon::{
+    OwnerSigns, Patience, RoundClock, ServeFault, ServerRuntime, Service, Terms, serve,
+};
 use ftpd_program::{FtpdExit, ReadyOutput, StartFault};
+use grant_ledger::{Book, BookName};
 use last_fault::LastFault;
 use line_queue::{QueuedLog, SharedLines};
 use line_rates::Limits;
 use log::{Level, Logged};
+use paced_rounds::Settlement;
 use recorded_store::RecordedStore;
 use server_config::{Config, ServedStore, ServerNumbers};
 use session_notes::Notes;
@@ -81,12 +92,11 @@ type MachineNotes<R> = StatusKeeper<
     Notes<Logged<HostRuntime, QueuedLog<R>>, QueuedTransfers<R>>,
 >;
 
-// The signs of a server whose listings are left once it is to end.
-fn leaving<R>(signs: MachineSigns<R>, leaves: LeaveSign) -> MachineSigns<R> {
-    let mut signs = signs;
-    signs.leaves = Some(leaves);
-    signs
-}
+/// The name of the program's book.
+#[derive(Drop)]
+pub(crate) struct OfProgram {}
+
+impl BookName for OfProgram {}
 
 /// The parts of a configuration that a server takes at its start.
 #[derive(Drop)]
@@ -101,19 +111,30 @@ struct ServedConfig {
     user_sessions: u32,
 }
 
-/// Serves a configuration: its store is in memory, or a folder of the machine.
-fn serve_config<R, W>(
+/// Serves a configuration: its store is in memory, or a folder of the machine, whose listings are left once that sign is
+/// given. Returns the settlement of the program's book.
+fn serve_config<R, P, W>(
     rt: &R,
     config: ServedConfig,
     handler: MachineNotes<R>,
     machine: &HostRuntime,
-    signs: MachineSigns<R>,
+    signs: P,
+    leaves: &LeaveSign,
     patience: Patience,
     output: &mut W,
-) -> Result<(), ServeFault>
+) -> Result<Settlement<OfProgram>, ServeFault>
 where
     R: Threads + ServerRuntime + RoundClock + Copy + Send + Sync,
+    P: OwnerSigns + Send + Sync + Drop,
     W: TextWriter,
+    ensures issued { IfOk result (λ s. s.issued ≡ granted_to Server (rounds_of s)) }
+    ensures every_second { IfOk result (λ s. StretchesKeep (rounds_of s)) }
+    ensures kept { IfOk result (λ s. IsWithinRates (rounds_of s) s.opened s.latest) }
+    ensures rates { IfOk result (λ s.
+        AreAllowed (may_hold config.limits P.allows) (rounds_of s)) }
+    ensures seconds { IfOk result (λ s. config.limits.server ≢ 0
+        → ((rates : Rates) → P.allows rates ≡ true → rates.server ≡ config.limits.server)
+        → s.issued ≤ seconds_from s.opened s.latest * config.limits.server) }
 {
     let ServedConfig {
         terms,
@@ -123,7 +144,7 @@ where
         syncs,
         user_sessions,
     } = config;
-    match store {
+    let (settlement, served) = match store {
         ServedStore::Memory(store) => {
             let service = Service {
                 terms,
@@ -136,19 +157,18 @@ where
                 patience,
                 user_sessions,
             };
-            serve(rt, service, output)?;
+            let (book, tally) = Book::<OfProgram>::open(0);
+            serve(rt, service, book, tally, output)
         }
         ServedStore::Folder(folder) => {
-            let leaves = LeaveSign::new(machine.alloc())?;
-            let store = open_folder(machine, folder.as_str(), &leaves, syncs)?;
+            let store = open_folder(machine, folder.as_str(), leaves, syncs)?;
             let own_stores = open_folders(
                 machine,
                 folder.as_str(),
-                &leaves,
+                leaves,
                 numbers.max_cons,
                 syncs,
             )?;
-            let signs = leaving(signs, leaves);
             let service = Service {
                 terms,
                 numbers,
@@ -160,10 +180,17 @@ where
                 patience,
                 user_sessions,
             };
-            serve(rt, service, output)?;
+            let (book, tally) = Book::<OfProgram>::open(0);
+            serve(rt, service, book, tally, output)
+        }
+    };
+    match served {
+        Ok(()) => Ok(settlement),
+        Err(fault) => {
+            settlement.numbers();
+            Err(fault)
         }
     }
-    Ok(())
 }
 
 /// Returns the ending of a server with a fault, and the reason for which it did not start, if it is known.
@@ -212,7 +239,9 @@ fn known_of(
     config: Config,
     syncs: bool,
     user_sessions: u32,
-) -> Result<(ServedConfig, Known), AllocError> {
+) -> Result<(ServedConfig, Known), AllocError>
+    ensures limits { IfOk result (λ known. known.0.limits ≡ config.limits) }
+{
     let Config {
         settings,
         numbers,
@@ -245,7 +274,9 @@ fn reload_file(
     known: Known,
     served: &ServedConfig,
     start: Start,
-) -> Result<Option<ReloadFile>, AllocError> {
+) -> Result<Option<ReloadFile>, AllocError>
+    ensures none { stated ≡ None → IfOk result (λ file. file ≡ None) }
+{
     let reader = another(&threads.reader)?;
     let (Some((sign, octets)), Some(reader)) = (stated, reader) else {
         return Ok(None);
@@ -432,17 +463,23 @@ fn with_notes(
     }
 }
 
-/// Serves with what was prepared, and with the threads that write its lines.
+/// Serves with what was prepared, and with the threads that write its lines. Without a reload file the rates stay as they
+/// are.
 fn serve_logged<R, W>(
     rt: &R,
     machine: &HostRuntime,
     means: Means,
     log: &LogThreads,
     output: &mut W,
-) -> Result<(), ServeFault>
+) -> Result<Settlement<OfProgram>, ServeFault>
 where
     R: Threads + ServerRuntime + RoundClock + Copy + Send + Sync + 'static,
     W: TextWriter,
+    ensures issued { IfOk result (λ s. s.issued ≡ granted_to Server (rounds_of s)) }
+    ensures every_second { IfOk result (λ s. StretchesKeep (rounds_of s)) }
+    ensures kept { IfOk result (λ s. IsWithinRates (rounds_of s) s.opened s.latest) }
+    ensures fixed { IfOk result (λ s. means.reload ≡ None → means.config.limits.server ≢ 0
+        → s.issued ≤ seconds_from s.opened s.latest * means.config.limits.server) }
 {
     let Means {
         path,
@@ -487,44 +524,70 @@ where
     let threads = OwnThreads::start(rt, machine, own)?;
     let octets = kept_octets(rt, octets, &threads.running)?;
     let ender = another(&threads.ender)?;
-    let signs = MachineSigns {
+    let reload = reload_file(machine, reload.zip(octets), &threads, known, &config, start)?;
+    let leaves = LeaveSign::new(machine.alloc())?;
+    let fixed = FixedSigns {
         rt: *rt,
         stop,
-        leaves: None,
+        leaves: leaves.another()?,
         drain,
-        reload: reload_file(machine, reload.zip(octets), &threads, known, &config, start)?,
         end: end_file(machine, end, ender),
         notes: log.plain_notes()?,
         status: another(&threads.status)?,
         cell: watched,
     };
-    let served = serve_config(rt, config, handler, machine, signs, patience, output);
+    let served = match reload {
+        Some(reload) => {
+            let signs = MachineSigns { fixed, reload };
+            serve_config(
+                rt, config, handler, machine, signs, &leaves, patience, output,
+            )
+        }
+        None => serve_config(
+            rt, config, handler, machine, fixed, &leaves, patience, output,
+        ),
+    };
     threads.leave(rt);
     served
 }
 
 /// The outcome of a server that lost this number of lines of its transfer log at the end.
-fn with_lost(served: Result<(), ServeFault>, lost: u64) -> Result<(), ServeFault>
+fn with_lost(
+    served: Result<Settlement<OfProgram>, ServeFault>,
+    lost: u64,
+) -> Result<Settlement<OfProgram>, ServeFault>
     ensures whole { lost ≡ 0 → result ≡ served }
+    ensures same { IfOk result (λ settlement. served ≡ Ok settlement) }
     ensures lost { IfOk served (λ _. 0 < lost → result ≡ Err TransferLog) }
     ensures faulty { IfErr served (λ fault. result ≡ Err fault) }
 {
     match served {
-        Ok(()) if lost > 0 => Err(ServeFault::TransferLog),
-        served => served,
+        Ok(settlement) => {
+            if lost > 0 {
+                settlement.numbers();
+                return Err(ServeFault::TransferLog);
+            }
+            Ok(settlement)
+        }
+        Err(fault) => Err(fault),
     }
 }
 
-/// Serves with what was prepared.
+/// Serves with what was prepared. Returns the settlement of the program's book.
 fn serve_with<R, W>(
     rt: &R,
     machine: &HostRuntime,
     means: Means,
     output: &mut W,
-) -> Result<(), ServeFault>
+) -> Result<Settlement<OfProgram>, ServeFault>
 where
     R: Threads + ServerRuntime + RoundClock + Copy + Send + Sync + 'static,
     W: TextWriter,
+    ensures issued { IfOk result (λ s. s.issued ≡ granted_to Server (rounds_of s)) }
+    ensures every_second { IfOk result (λ s. StretchesKeep (rounds_of s)) }
+    ensures kept { IfOk result (λ s. IsWithinRates (rounds_of s) s.opened s.latest) }
+    ensures fixed { IfOk result (λ s. means.reload ≡ None → means.config.limits.server ≢ 0
+        → s.issued ≤ seconds_from s.opened s.latest * means.config.limits.server) }
 {
     let mut means = means;
     let log = LogThreads::start(rt, machine.alloc(), means.form, means.log.take())?;
@@ -552,7 +615,10 @@ where
     let served = serve_with(rt, machine, means, &mut output);
     output.remove_file();
     match served {
-        Ok(()) => (FtpdExit::Common(Common::Done), None),
+        Ok(settlement) => {
+            settlement.numbers();
+            (FtpdExit::Common(Common::Done), None)
+        }
         Err(fault) => faulty(fault, output),
     }
 }

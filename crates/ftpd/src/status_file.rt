@@ -86,16 +86,15 @@ impl StatusFile {
     }
 }
 
-/// The signs of the machine: that a server is to end or to drain, by files that appear, and that it is to show what goes
-/// on.
+/// The signs of the machine for a server whose rates stay as they are: that it is to end or to drain, by files that appear,
+/// and that it is to show what goes on.
 #[derive(Drop)]
-pub(crate) struct MachineSigns<R> {
+pub(crate) struct FixedSigns<R> {
     pub rt: R,
     pub stop: Option<SignFile>,
     /// Given once the server is to end: listings under way are left.
-    pub leaves: Option<LeaveSign>,
+    pub leaves: LeaveSign,
     pub drain: Option<SignFile>,
-    pub reload: Option<ReloadFile>,
     pub end: Option<EndFile>,
     /// The notes, for a file that cannot be examined.
     pub notes: PlainNotes,
@@ -105,7 +104,7 @@ pub(crate) struct MachineSigns<R> {
     pub cell: Option<Arc<StatusCell>>,
 }
 
-impl<R: Wait + AllocGlobal> MachineSigns<R> {
+impl<R: Wait + AllocGlobal> FixedSigns<R> {
     // Returns whether a sign is there; not if there is no such file to be. One that cannot be examined is noted once.
     fn is_given(&self, sign: &Option<SignFile>) -> bool {
         let Some(sign) = sign else {
@@ -119,51 +118,18 @@ impl<R: Wait + AllocGlobal> MachineSigns<R> {
     }
 }
 
-impl<R: Wait + AllocGlobal> OwnerSigns for MachineSigns<R> {
+// It takes no configuration, so it puts no rates in force.
+impl<R: Wait + AllocGlobal> OwnerSigns for FixedSigns<R> {
     fn is_up(&self) -> bool {
         let is_up = self.is_given(&self.stop);
-        if let (true, Some(sign)) = (is_up, &self.leaves) {
-            sign.give();
+        if is_up {
+            self.leaves.give();
         }
         is_up
     }
 
     fn is_to_drain(&self) -> bool {
         self.is_given(&self.drain)
-    }
-
-    ghost allows = { λ _. true };
-
-    fn reload(&self) -> ReloadSign {
-        match &self.reload {
-            Some(file) => file.asked(&self.rt),
-            None => ReloadSign::Nothing,
-        }
-    }
-
-    fn taken(&self) -> Option<String> {
-        let Some(file) = &self.reload else {
-            return None;
-        };
-        let TakenConfig {
-            gone,
-            facts,
-            changes,
-        } = file.taken(&self.rt)?;
-        if gone > 0 {
-            self.notes.note_gone(&self.rt, gone);
-        }
-        if let (Some(facts), Some(cell)) = (facts, &self.cell) {
-            cell.put_facts(&self.rt, facts);
-        }
-        changes
-    }
-
-    fn refused(&self, fault: ReloadFault) -> Option<String> {
-        match &self.reload {
-            Some(file) => file.refused(&self.rt, fault),
-            None => None,
-        }
     }
 
     fn to_end(&self) -> EndSign {
@@ -186,5 +152,61 @@ impl<R: Wait + AllocGlobal> OwnerSigns for MachineSigns<R> {
                 }
             }
         }
+    }
+}
+
+/// The signs of the machine for a server that takes another configuration once its reload file appears. Any rates may be in
+/// it.
+#[derive(Drop)]
+pub(crate) struct MachineSigns<R> {
+    /// All other signs.
+    pub fixed: FixedSigns<R>,
+    pub reload: ReloadFile,
+}
+
+impl<R: Wait + AllocGlobal> OwnerSigns for MachineSigns<R> {
+    fn is_up(&self) -> bool {
+        self.fixed.is_up()
+    }
+
+    fn is_to_drain(&self) -> bool {
+        self.fixed.is_to_drain()
+    }
+
+    ghost allows = { λ _. true };
+
+    fn reload(&self) -> ReloadSign {
+        self.reload.asked(&self.fixed.rt)
+    }
+
+    fn taken(&self) -> Option<String> {
+        let TakenConfig {
+            gone,
+            facts,
+            changes,
+        } = self.reload.taken(&self.fixed.rt)?;
+        if gone > 0 {
+            self.fixed.notes.note_gone(&self.fixed.rt, gone);
+        }
+        if let (Some(facts), Some(cell)) = (facts, &self.fixed.cell) {
+            cell.put_facts(&self.fixed.rt, facts);
+        }
+        changes
+    }
+
+    fn refused(&self, fault: ReloadFault) -> Option<String> {
+        self.reload.refused(&self.fixed.rt, fault)
+    }
+
+    fn to_end(&self) -> EndSign {
+        self.fixed.to_end()
+    }
+
+    fn wants_looks(&self) -> bool {
+        self.fixed.wants_looks()
+    }
+
+    fn looked(&self) {
+        self.fixed.looked()
     }
 }

@@ -8,7 +8,7 @@ use super::trees::Shape::{Branch, Leaf};
 use super::trees::{PROMISED, Shape, node, tree};
 use crate::expect::holds;
 use grant_certificate::{
-    Leaves, backed_is_best, backed_is_largest_at_each_level, each_has_ascending,
+    Leaves, backed_is_best, backed_is_largest_at_each_level, each_has_ascending, equals_are_near,
     plain_backed_is_best, plain_backed_is_largest_at_each_level,
 };
 use limit_tree::{
@@ -362,6 +362,7 @@ fn laws_stand(_rt: HostRuntime) {
     backed_is_largest_at_each_level();
     backed_is_best();
     each_has_ascending();
+    equals_are_near();
     plain_backed_is_largest_at_each_level();
     plain_backed_is_best();
     runs_end_alike();

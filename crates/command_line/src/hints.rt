@@ -50,8 +50,8 @@ fn hint_text(alloc: Global, words: &[&str]) -> Result<Option<String>, AllocError
 
 /// The fault of words of `ftpd`, with the command that was meant, if something is known of it.
 fn hinted(alloc: Global, words: &[&str], fault: WordsFault) -> WordsFault
-    ensures memory { fault.entry ≡ WordsFault.Memory → result ≡ WordsFault.Memory }
-    ensures refused { (kinds : Kinds) → IsRefusal kinds fault.entry → IsRefusal kinds result }
+    ensures memory { fault ≡ WordsFault.Memory → result ≡ WordsFault.Memory }
+    ensures refused { (kinds : Kinds) → IsRefusal kinds fault → IsRefusal kinds result }
 {
     let WordsFault::Refused { is_help: false, .. } = &fault else {
         return fault;

@@ -122,105 +122,105 @@ pub returns-in-Err-stated_numbers-clause-share : goal.returns-in-Err-stated_numb
 returns-in-Err-stated_numbers-clause-share c = λ word plain are.
     let held = ftpd_shares word plain in
     let simple : is_simple (app_of c.in-Ok.command) ≡ true = ap is_simple c.in-Ok.ensures.ftpd ∙ ftpd_is_simple in
-    let entered = c.in-Ok-parsed.ensures.found simple ∙ ap₂ subcommand_of c.in-Ok.ensures.ftpd are ∙ held.entered in
+    let entered = c.in-Ok-parsed_or_hinted.ensures.found simple ∙ ap₂ subcommand_of c.in-Ok.ensures.ftpd are ∙ held.entered in
     refused_other _ (codes "share") held.rows _ refl refl entered c.in-Err-stated_numbers.ensures.refused
 
 pub returns-in-Err-stated_numbers-clause-share_svg : goal.returns-in-Err-stated_numbers-clause-share_svg
 returns-in-Err-stated_numbers-clause-share_svg c = λ word plain are.
     let held = ftpd_pictures word plain in
     let simple : is_simple (app_of c.in-Ok.command) ≡ true = ap is_simple c.in-Ok.ensures.ftpd ∙ ftpd_is_simple in
-    let entered = c.in-Ok-parsed.ensures.found simple ∙ ap₂ subcommand_of c.in-Ok.ensures.ftpd are ∙ held.entered in
+    let entered = c.in-Ok-parsed_or_hinted.ensures.found simple ∙ ap₂ subcommand_of c.in-Ok.ensures.ftpd are ∙ held.entered in
     refused_other _ (codes "share") held.rows _ refl refl entered c.in-Err-stated_numbers.ensures.refused
 
 pub returns-in-Err-stated_numbers-clause-check : goal.returns-in-Err-stated_numbers-clause-check
 returns-in-Err-stated_numbers-clause-check c = λ first second plain also are.
     let held = ftpd_checks first second plain also in
     let simple : is_simple (app_of c.in-Ok.command) ≡ true = ap is_simple c.in-Ok.ensures.ftpd ∙ ftpd_is_simple in
-    let entered = c.in-Ok-parsed.ensures.found simple ∙ ap₂ subcommand_of c.in-Ok.ensures.ftpd are ∙ held.entered in
+    let entered = c.in-Ok-parsed_or_hinted.ensures.found simple ∙ ap₂ subcommand_of c.in-Ok.ensures.ftpd are ∙ held.entered in
     refused_other _ (codes "check") held.rows _ refl refl entered c.in-Err-stated_numbers.ensures.refused
 
 pub returns-in-Err-stated_numbers-clause-check_config : goal.returns-in-Err-stated_numbers-clause-check_config
 returns-in-Err-stated_numbers-clause-check_config c = λ word plain are.
     let held = checks_config word plain in
     let simple : is_simple (app_of c.in-Ok.command) ≡ true = ap is_simple c.in-Ok.ensures.ftpd ∙ ftpd_is_simple in
-    let entered = c.in-Ok-parsed.ensures.found simple ∙ ap₂ subcommand_of c.in-Ok.ensures.ftpd are ∙ held.entered in
+    let entered = c.in-Ok-parsed_or_hinted.ensures.found simple ∙ ap₂ subcommand_of c.in-Ok.ensures.ftpd are ∙ held.entered in
     refused_other _ (codes "check-config") held.rows _ refl refl entered c.in-Err-stated_numbers.ensures.refused
 
 pub returns-in-Err-stated_numbers-clause-check_config_json : goal.returns-in-Err-stated_numbers-clause-check_config_json
 returns-in-Err-stated_numbers-clause-check_config_json c = λ word plain are.
     let held = reports_json word plain in
     let simple : is_simple (app_of c.in-Ok.command) ≡ true = ap is_simple c.in-Ok.ensures.ftpd ∙ ftpd_is_simple in
-    let entered = c.in-Ok-parsed.ensures.found simple ∙ ap₂ subcommand_of c.in-Ok.ensures.ftpd are ∙ held.entered in
+    let entered = c.in-Ok-parsed_or_hinted.ensures.found simple ∙ ap₂ subcommand_of c.in-Ok.ensures.ftpd are ∙ held.entered in
     refused_other _ (codes "check-config") held.rows _ refl refl entered c.in-Err-stated_numbers.ensures.refused
 
 pub returns-in-Err-stated_numbers-clause-check_against : goal.returns-in-Err-stated_numbers-clause-check_against
 returns-in-Err-stated_numbers-clause-check_against c = λ word other plain also are.
     let held = checks_against word other plain also in
     let simple : is_simple (app_of c.in-Ok.command) ≡ true = ap is_simple c.in-Ok.ensures.ftpd ∙ ftpd_is_simple in
-    let entered = c.in-Ok-parsed.ensures.found simple ∙ ap₂ subcommand_of c.in-Ok.ensures.ftpd are ∙ held.entered in
+    let entered = c.in-Ok-parsed_or_hinted.ensures.found simple ∙ ap₂ subcommand_of c.in-Ok.ensures.ftpd are ∙ held.entered in
     refused_other _ (codes "check-config") held.rows _ refl refl entered c.in-Err-stated_numbers.ensures.refused
 
 pub returns-in-Err-stated_numbers-clause-check_against_json : goal.returns-in-Err-stated_numbers-clause-check_against_json
 returns-in-Err-stated_numbers-clause-check_against_json c = λ word other plain also are.
     let held = checks_against_json word other plain also in
     let simple : is_simple (app_of c.in-Ok.command) ≡ true = ap is_simple c.in-Ok.ensures.ftpd ∙ ftpd_is_simple in
-    let entered = c.in-Ok-parsed.ensures.found simple ∙ ap₂ subcommand_of c.in-Ok.ensures.ftpd are ∙ held.entered in
+    let entered = c.in-Ok-parsed_or_hinted.ensures.found simple ∙ ap₂ subcommand_of c.in-Ok.ensures.ftpd are ∙ held.entered in
     refused_other _ (codes "check-config") held.rows _ refl refl entered c.in-Err-stated_numbers.ensures.refused
 
 pub returns-in-Err-stated_numbers-clause-check_running : goal.returns-in-Err-stated_numbers-clause-check_running
 returns-in-Err-stated_numbers-clause-check_running c = λ word plain are.
     let held = checks_running word plain in
     let simple : is_simple (app_of c.in-Ok.command) ≡ true = ap is_simple c.in-Ok.ensures.ftpd ∙ ftpd_is_simple in
-    let entered = c.in-Ok-parsed.ensures.found simple ∙ ap₂ subcommand_of c.in-Ok.ensures.ftpd are ∙ held.entered in
+    let entered = c.in-Ok-parsed_or_hinted.ensures.found simple ∙ ap₂ subcommand_of c.in-Ok.ensures.ftpd are ∙ held.entered in
     refused_other _ (codes "check-config") held.rows _ refl refl entered c.in-Err-stated_numbers.ensures.refused
 
 pub returns-in-Err-stated_numbers-clause-migrate : goal.returns-in-Err-stated_numbers-clause-migrate
 returns-in-Err-stated_numbers-clause-migrate c = λ word plain are.
     let held = migrates word plain in
     let simple : is_simple (app_of c.in-Ok.command) ≡ true = ap is_simple c.in-Ok.ensures.ftpd ∙ ftpd_is_simple in
-    let entered = c.in-Ok-parsed.ensures.found simple ∙ ap₂ subcommand_of c.in-Ok.ensures.ftpd are ∙ held.entered in
+    let entered = c.in-Ok-parsed_or_hinted.ensures.found simple ∙ ap₂ subcommand_of c.in-Ok.ensures.ftpd are ∙ held.entered in
     refused_other _ (codes "migrate") held.rows _ refl refl entered c.in-Err-stated_numbers.ensures.refused
 
 pub returns-in-Err-stated_numbers-clause-script : goal.returns-in-Err-stated_numbers-clause-script
 returns-in-Err-stated_numbers-clause-script c = λ word plain are.
     let held = scripts word plain in
     let simple : is_simple (app_of c.in-Ok.command) ≡ true = ap is_simple c.in-Ok.ensures.ftpd ∙ ftpd_is_simple in
-    let entered = c.in-Ok-parsed.ensures.found simple ∙ ap₂ subcommand_of c.in-Ok.ensures.ftpd are ∙ held.entered in
+    let entered = c.in-Ok-parsed_or_hinted.ensures.found simple ∙ ap₂ subcommand_of c.in-Ok.ensures.ftpd are ∙ held.entered in
     refused_other _ (codes "script") held.rows _ refl refl entered c.in-Err-stated_numbers.ensures.refused
 
 pub returns-in-Err-stated_numbers-clause-serve : goal.returns-in-Err-stated_numbers-clause-serve
 returns-in-Err-stated_numbers-clause-serve c = λ word plain are.
     let held = serves word plain in
     let simple : is_simple (app_of c.in-Ok.command) ≡ true = ap is_simple c.in-Ok.ensures.ftpd ∙ ftpd_is_simple in
-    let entered = c.in-Ok-parsed.ensures.found simple ∙ ap₂ subcommand_of c.in-Ok.ensures.ftpd are ∙ held.entered in
+    let entered = c.in-Ok-parsed_or_hinted.ensures.found simple ∙ ap₂ subcommand_of c.in-Ok.ensures.ftpd are ∙ held.entered in
     refused_stated _ _ _ _ _ (serve_stated _ _ None held.rows entered (usual held.rows held.usual) (no_port held.rows held.portless)) c.in-Err-stated_numbers.ensures.refused
 
 pub returns-in-Err-stated_numbers-clause-serve_until : goal.returns-in-Err-stated_numbers-clause-serve_until
 returns-in-Err-stated_numbers-clause-serve_until c = λ word path plain also are.
     let held = serves_until word path plain also in
     let simple : is_simple (app_of c.in-Ok.command) ≡ true = ap is_simple c.in-Ok.ensures.ftpd ∙ ftpd_is_simple in
-    let entered = c.in-Ok-parsed.ensures.found simple ∙ ap₂ subcommand_of c.in-Ok.ensures.ftpd are ∙ held.entered in
+    let entered = c.in-Ok-parsed_or_hinted.ensures.found simple ∙ ap₂ subcommand_of c.in-Ok.ensures.ftpd are ∙ held.entered in
     refused_stated _ _ _ _ _ (serve_stated _ _ None held.rows entered (usual held.rows held.usual) (no_port held.rows held.portless)) c.in-Err-stated_numbers.ensures.refused
 
 pub returns-in-Err-stated_numbers-clause-serve_ready : goal.returns-in-Err-stated_numbers-clause-serve_ready
 returns-in-Err-stated_numbers-clause-serve_ready c = λ word path ready plain also third are.
     let held = serves_ready word path ready plain also third in
     let simple : is_simple (app_of c.in-Ok.command) ≡ true = ap is_simple c.in-Ok.ensures.ftpd ∙ ftpd_is_simple in
-    let entered = c.in-Ok-parsed.ensures.found simple ∙ ap₂ subcommand_of c.in-Ok.ensures.ftpd are ∙ held.entered in
+    let entered = c.in-Ok-parsed_or_hinted.ensures.found simple ∙ ap₂ subcommand_of c.in-Ok.ensures.ftpd are ∙ held.entered in
     refused_stated _ _ _ _ _ (serve_stated _ _ None held.rows entered (usual held.rows held.usual) (no_port held.rows held.portless)) c.in-Err-stated_numbers.ensures.refused
 
 pub returns-in-Err-stated_numbers-clause-serve_logged : goal.returns-in-Err-stated_numbers-clause-serve_logged
 returns-in-Err-stated_numbers-clause-serve_logged c = λ word path form plain also third are.
     let held = serves_logged word path form plain also third in
     let simple : is_simple (app_of c.in-Ok.command) ≡ true = ap is_simple c.in-Ok.ensures.ftpd ∙ ftpd_is_simple in
-    let entered = c.in-Ok-parsed.ensures.found simple ∙ ap₂ subcommand_of c.in-Ok.ensures.ftpd are ∙ held.entered in
+    let entered = c.in-Ok-parsed_or_hinted.ensures.found simple ∙ ap₂ subcommand_of c.in-Ok.ensures.ftpd are ∙ held.entered in
     refused_stated _ _ _ _ _ (serve_stated _ _ None held.rows entered (usual held.rows held.usual) (no_port held.rows held.portless)) c.in-Err-stated_numbers.ensures.refused
 
 pub returns-in-Err-stated_numbers-clause-serve_status : goal.returns-in-Err-stated_numbers-clause-serve_status
 returns-in-Err-stated_numbers-clause-serve_status c = λ word path port n plain also number are.
     let held = serves_status word path port plain also (number_plain Port port n number) in
     let simple : is_simple (app_of c.in-Ok.command) ≡ true = ap is_simple c.in-Ok.ensures.ftpd ∙ ftpd_is_simple in
-    let entered = c.in-Ok-parsed.ensures.found simple ∙ ap₂ subcommand_of c.in-Ok.ensures.ftpd are ∙ held.entered in
+    let entered = c.in-Ok-parsed_or_hinted.ensures.found simple ∙ ap₂ subcommand_of c.in-Ok.ensures.ftpd are ∙ held.entered in
     let stated = some_port held.rows port n held.status_port number in
     refused_stated _ _ _ _ _ (serve_stated _ _ (Some n) held.rows entered (usual held.rows held.usual) stated) c.in-Err-stated_numbers.ensures.refused
 
@@ -228,7 +228,7 @@ pub returns-in-Err-stated_numbers-clause-serve_timed : goal.returns-in-Err-state
 returns-in-Err-stated_numbers-clause-serve_timed c = λ word first second third fourth p plain one two three four are.
     let held = serves_timed word first second third fourth plain (number_plain Seconds first _ one) (number_plain Seconds second _ two) (number_plain Seconds third _ three) (number_plain Seconds fourth _ four) in
     let simple : is_simple (app_of c.in-Ok.command) ≡ true = ap is_simple c.in-Ok.ensures.ftpd ∙ ftpd_is_simple in
-    let entered = c.in-Ok-parsed.ensures.found simple ∙ ap₂ subcommand_of c.in-Ok.ensures.ftpd are ∙ held.entered in
+    let entered = c.in-Ok-parsed_or_hinted.ensures.found simple ∙ ap₂ subcommand_of c.in-Ok.ensures.ftpd are ∙ held.entered in
     let states = patient held.rows p first second third fourth held.first held.second held.third held.fourth one two three four in
     refused_stated _ p _ _ _ (serve_stated _ p None held.rows entered states (no_port held.rows held.portless)) c.in-Err-stated_numbers.ensures.refused
 
@@ -236,42 +236,42 @@ pub returns-in-Err-stated_numbers-clause-plan : goal.returns-in-Err-stated_numbe
 returns-in-Err-stated_numbers-clause-plan c = λ word stated plain also are.
     let held = plans word stated plain also in
     let simple : is_simple (app_of c.in-Ok.command) ≡ true = ap is_simple c.in-Ok.ensures.ftpd ∙ ftpd_is_simple in
-    let entered = c.in-Ok-parsed.ensures.found simple ∙ ap₂ subcommand_of c.in-Ok.ensures.ftpd are ∙ held.entered in
+    let entered = c.in-Ok-parsed_or_hinted.ensures.found simple ∙ ap₂ subcommand_of c.in-Ok.ensures.ftpd are ∙ held.entered in
     refused_other _ (codes "plan") held.rows _ refl refl entered c.in-Err-stated_numbers.ensures.refused
 
 pub returns-in-Err-stated_numbers-clause-plan_json : goal.returns-in-Err-stated_numbers-clause-plan_json
 returns-in-Err-stated_numbers-clause-plan_json c = λ word stated plain also are.
     let held = plans_json word stated plain also in
     let simple : is_simple (app_of c.in-Ok.command) ≡ true = ap is_simple c.in-Ok.ensures.ftpd ∙ ftpd_is_simple in
-    let entered = c.in-Ok-parsed.ensures.found simple ∙ ap₂ subcommand_of c.in-Ok.ensures.ftpd are ∙ held.entered in
+    let entered = c.in-Ok-parsed_or_hinted.ensures.found simple ∙ ap₂ subcommand_of c.in-Ok.ensures.ftpd are ∙ held.entered in
     refused_other _ (codes "plan") held.rows _ refl refl entered c.in-Err-stated_numbers.ensures.refused
 
 pub returns-in-Err-stated_numbers-clause-top : goal.returns-in-Err-stated_numbers-clause-top
 returns-in-Err-stated_numbers-clause-top c = λ word plain are.
     let held = tops word plain in
     let simple : is_simple (app_of c.in-Ok.command) ≡ true = ap is_simple c.in-Ok.ensures.ftpd ∙ ftpd_is_simple in
-    let entered = c.in-Ok-parsed.ensures.found simple ∙ ap₂ subcommand_of c.in-Ok.ensures.ftpd are ∙ held.entered in
+    let entered = c.in-Ok-parsed_or_hinted.ensures.found simple ∙ ap₂ subcommand_of c.in-Ok.ensures.ftpd are ∙ held.entered in
     refused_stated _ _ _ _ _ (top_stated _ ROWS held.rows entered (usual_lines held.rows held.lineless)) c.in-Err-stated_numbers.ensures.refused
 
 pub returns-in-Err-stated_numbers-clause-top_once : goal.returns-in-Err-stated_numbers-clause-top_once
 returns-in-Err-stated_numbers-clause-top_once c = λ word lines n plain number are.
     let held = tops_once word lines plain (number_plain Lines lines n number) in
     let simple : is_simple (app_of c.in-Ok.command) ≡ true = ap is_simple c.in-Ok.ensures.ftpd ∙ ftpd_is_simple in
-    let entered = c.in-Ok-parsed.ensures.found simple ∙ ap₂ subcommand_of c.in-Ok.ensures.ftpd are ∙ held.entered in
+    let entered = c.in-Ok-parsed_or_hinted.ensures.found simple ∙ ap₂ subcommand_of c.in-Ok.ensures.ftpd are ∙ held.entered in
     refused_stated _ _ _ _ _ (top_stated _ n held.rows entered (some_lines held.rows lines n held.lines_stated number)) c.in-Err-stated_numbers.ensures.refused
 
 pub returns-in-Err-stated_numbers-clause-refused : goal.returns-in-Err-stated_numbers-clause-refused
 returns-in-Err-stated_numbers-clause-refused c =
     let texts = map (λ (s : Bor (List ℕ)). s.now) c.args.words.now in
     let simple : is_simple (app_of c.in-Ok.command) ≡ true = ap is_simple c.in-Ok.ensures.ftpd ∙ ftpd_is_simple in
-    let entered = c.in-Ok-parsed.ensures.found simple ∙ ap (λ (a : App). subcommand_of a texts) c.in-Ok.ensures.ftpd in
+    let entered = c.in-Ok-parsed_or_hinted.ensures.found simple ∙ ap (λ (a : App). subcommand_of a texts) c.in-Ok.ensures.ftpd in
     inr (subst (λ (found : Option (Text × List Row)). IsUnnumbered found c.in-Err-stated_numbers.fault) entered c.in-Err-stated_numbers.ensures.refused)
 
 pub returns-in-Err-stated_numbers-clause-taken : goal.returns-in-Err-stated_numbers-clause-taken
 returns-in-Err-stated_numbers-clause-taken c = λ is.
     let texts = map (λ (s : Bor (List ℕ)). s.now) c.args.words.now in
     let simple : is_simple (app_of c.in-Ok.command) ≡ true = ap is_simple c.in-Ok.ensures.ftpd ∙ ftpd_is_simple in
-    let entered = c.in-Ok-parsed.ensures.found simple ∙ ap (λ (a : App). subcommand_of a texts) c.in-Ok.ensures.ftpd in
+    let entered = c.in-Ok-parsed_or_hinted.ensures.found simple ∙ ap (λ (a : App). subcommand_of a texts) c.in-Ok.ensures.ftpd in
     let found = ftpd_found c.args.words texts is.1.0 is.1.1 is.1.2 is.0 is.1.3 in
     let refused = subst (λ (found : Option (Text × List Row)). IsUnnumbered found c.in-Err-stated_numbers.fault) entered c.in-Err-stated_numbers.ensures.refused in
     (found.0, found.1, refused_stated _ is.1.0 is.1.1 is.1.2 _ is.1.3 refused)
@@ -283,8 +283,8 @@ unreachable-requires c =
     let texts = map (λ (s : Bor (List ℕ)). s.now) c.args.words.now in
     let free : is_simple_and_free (app_of c.in-Ok.command) ≡ true = ap is_simple_and_free c.in-Ok.ensures.ftpd ∙ ftpd_is_free in
     let simple : is_simple (app_of c.in-Ok.command) ≡ true = ap is_simple c.in-Ok.ensures.ftpd ∙ ftpd_is_simple in
-    let none : fault_of ftpd texts ≡ [] = subst (λ (a : App). fault_of a texts ≡ []) c.in-Ok.ensures.ftpd (c.in-Ok-parsed.ensures.given free) in
-    let entered = c.in-Ok-parsed.ensures.found simple ∙ ap (λ (a : App). subcommand_of a texts) c.in-Ok.ensures.ftpd in
+    let none : fault_of ftpd texts ≡ [] = subst (λ (a : App). fault_of a texts ≡ []) c.in-Ok.ensures.ftpd (c.in-Ok-parsed_or_hinted.ensures.given free) in
+    let entered = c.in-Ok-parsed_or_hinted.ensures.found simple ∙ ap (λ (a : App). subcommand_of a texts) c.in-Ok.ensures.ftpd in
     let numbers = c.in-Ok-stated_numbers.numbers in
     let stated = subst (λ (o : Option (Text × List Row)). IsStatedBy o numbers.patience numbers.status_port numbers.rows) entered c.in-Ok-stated_numbers.ensures.stated in
     let found = ftpd_found c.args.words texts numbers.patience numbers.status_port numbers.rows none stated in
@@ -295,7 +295,7 @@ pub returns-clause-share : goal.returns-clause-share
 returns-clause-share c = λ word plain are.
     let held = ftpd_shares word plain in
     let simple : is_simple (app_of c.in-Ok.command) ≡ true = ap is_simple c.in-Ok.ensures.ftpd ∙ ftpd_is_simple in
-    let entered = c.in-Ok-parsed.ensures.found simple ∙ ap₂ subcommand_of c.in-Ok.ensures.ftpd are ∙ held.entered in
+    let entered = c.in-Ok-parsed_or_hinted.ensures.found simple ∙ ap₂ subcommand_of c.in-Ok.ensures.ftpd are ∙ held.entered in
     subst (λ (flag : Bool). IsOfSheets (IsShare word flag) c.in-Some.words) held.unflagged
     (share_of_sheets _ _ held.rows word entered held.sheet c.in-Some.ensures.found)
 
@@ -303,7 +303,7 @@ pub returns-clause-share_svg : goal.returns-clause-share_svg
 returns-clause-share_svg c = λ word plain are.
     let held = ftpd_pictures word plain in
     let simple : is_simple (app_of c.in-Ok.command) ≡ true = ap is_simple c.in-Ok.ensures.ftpd ∙ ftpd_is_simple in
-    let entered = c.in-Ok-parsed.ensures.found simple ∙ ap₂ subcommand_of c.in-Ok.ensures.ftpd are ∙ held.entered in
+    let entered = c.in-Ok-parsed_or_hinted.ensures.found simple ∙ ap₂ subcommand_of c.in-Ok.ensures.ftpd are ∙ held.entered in
     subst (λ (flag : Bool). IsOfSheets (IsShare word flag) c.in-Some.words) held.flagged
     (share_of_sheets _ _ held.rows word entered held.sheet c.in-Some.ensures.found)
 
@@ -311,14 +311,14 @@ pub returns-clause-check : goal.returns-clause-check
 returns-clause-check c = λ first second plain also are.
     let held = ftpd_checks first second plain also in
     let simple : is_simple (app_of c.in-Ok.command) ≡ true = ap is_simple c.in-Ok.ensures.ftpd ∙ ftpd_is_simple in
-    let entered = c.in-Ok-parsed.ensures.found simple ∙ ap₂ subcommand_of c.in-Ok.ensures.ftpd are ∙ held.entered in
+    let entered = c.in-Ok-parsed_or_hinted.ensures.found simple ∙ ap₂ subcommand_of c.in-Ok.ensures.ftpd are ∙ held.entered in
     check_of_sheets _ _ held.rows first second entered held.sheet held.grants c.in-Some.ensures.found
 
 pub returns-clause-check_config : goal.returns-clause-check_config
 returns-clause-check_config c = λ word plain are.
     let held = checks_config word plain in
     let simple : is_simple (app_of c.in-Ok.command) ≡ true = ap is_simple c.in-Ok.ensures.ftpd ∙ ftpd_is_simple in
-    let entered = c.in-Ok-parsed.ensures.found simple ∙ ap₂ subcommand_of c.in-Ok.ensures.ftpd are ∙ held.entered in
+    let entered = c.in-Ok-parsed_or_hinted.ensures.found simple ∙ ap₂ subcommand_of c.in-Ok.ensures.ftpd are ∙ held.entered in
     subst (λ (on : Bool). IsCheckConfig word false None on c.in-Some.words) held.still
     (subst (λ (other : Option Text). IsCheckConfig word false other (is_flagged (codes "against-running") held.rows) c.in-Some.words) held.alone
     (subst (λ (flag : Bool). IsCheckConfig word flag (first_of (codes "against") held.rows) (is_flagged (codes "against-running") held.rows) c.in-Some.words) held.unflagged
@@ -328,7 +328,7 @@ pub returns-clause-check_config_json : goal.returns-clause-check_config_json
 returns-clause-check_config_json c = λ word plain are.
     let held = reports_json word plain in
     let simple : is_simple (app_of c.in-Ok.command) ≡ true = ap is_simple c.in-Ok.ensures.ftpd ∙ ftpd_is_simple in
-    let entered = c.in-Ok-parsed.ensures.found simple ∙ ap₂ subcommand_of c.in-Ok.ensures.ftpd are ∙ held.entered in
+    let entered = c.in-Ok-parsed_or_hinted.ensures.found simple ∙ ap₂ subcommand_of c.in-Ok.ensures.ftpd are ∙ held.entered in
     subst (λ (on : Bool). IsCheckConfig word true None on c.in-Some.words) held.still
     (subst (λ (other : Option Text). IsCheckConfig word true other (is_flagged (codes "against-running") held.rows) c.in-Some.words) held.alone
     (subst (λ (flag : Bool). IsCheckConfig word flag (first_of (codes "against") held.rows) (is_flagged (codes "against-running") held.rows) c.in-Some.words) held.flagged
@@ -338,7 +338,7 @@ pub returns-clause-check_against : goal.returns-clause-check_against
 returns-clause-check_against c = λ word other plain also are.
     let held = checks_against word other plain also in
     let simple : is_simple (app_of c.in-Ok.command) ≡ true = ap is_simple c.in-Ok.ensures.ftpd ∙ ftpd_is_simple in
-    let entered = c.in-Ok-parsed.ensures.found simple ∙ ap₂ subcommand_of c.in-Ok.ensures.ftpd are ∙ held.entered in
+    let entered = c.in-Ok-parsed_or_hinted.ensures.found simple ∙ ap₂ subcommand_of c.in-Ok.ensures.ftpd are ∙ held.entered in
     subst (λ (on : Bool). IsCheckConfig word false (Some other) on c.in-Some.words) held.still
     (subst (λ (against : Option Text). IsCheckConfig word false against (is_flagged (codes "against-running") held.rows) c.in-Some.words) held.against
     (subst (λ (flag : Bool). IsCheckConfig word flag (first_of (codes "against") held.rows) (is_flagged (codes "against-running") held.rows) c.in-Some.words) held.flag
@@ -348,7 +348,7 @@ pub returns-clause-check_against_json : goal.returns-clause-check_against_json
 returns-clause-check_against_json c = λ word other plain also are.
     let held = checks_against_json word other plain also in
     let simple : is_simple (app_of c.in-Ok.command) ≡ true = ap is_simple c.in-Ok.ensures.ftpd ∙ ftpd_is_simple in
-    let entered = c.in-Ok-parsed.ensures.found simple ∙ ap₂ subcommand_of c.in-Ok.ensures.ftpd are ∙ held.entered in
+    let entered = c.in-Ok-parsed_or_hinted.ensures.found simple ∙ ap₂ subcommand_of c.in-Ok.ensures.ftpd are ∙ held.entered in
     subst (λ (on : Bool). IsCheckConfig word true (Some other) on c.in-Some.words) held.still
     (subst (λ (against : Option Text). IsCheckConfig word true against (is_flagged (codes "against-running") held.rows) c.in-Some.words) held.against
     (subst (λ (flag : Bool). IsCheckConfig word flag (first_of (codes "against") held.rows) (is_flagged (codes "against-running") held.rows) c.in-Some.words) held.flag
@@ -358,7 +358,7 @@ pub returns-clause-check_running : goal.returns-clause-check_running
 returns-clause-check_running c = λ word plain are.
     let held = checks_running word plain in
     let simple : is_simple (app_of c.in-Ok.command) ≡ true = ap is_simple c.in-Ok.ensures.ftpd ∙ ftpd_is_simple in
-    let entered = c.in-Ok-parsed.ensures.found simple ∙ ap₂ subcommand_of c.in-Ok.ensures.ftpd are ∙ held.entered in
+    let entered = c.in-Ok-parsed_or_hinted.ensures.found simple ∙ ap₂ subcommand_of c.in-Ok.ensures.ftpd are ∙ held.entered in
     subst (λ (on : Bool). IsCheckConfig word false None on c.in-Some.words) held.on
     (subst (λ (other : Option Text). IsCheckConfig word false other (is_flagged (codes "against-running") held.rows) c.in-Some.words) held.alone
     (subst (λ (flag : Bool). IsCheckConfig word flag (first_of (codes "against") held.rows) (is_flagged (codes "against-running") held.rows) c.in-Some.words) held.unflagged
@@ -368,21 +368,21 @@ pub returns-clause-migrate : goal.returns-clause-migrate
 returns-clause-migrate c = λ word plain are.
     let held = migrates word plain in
     let simple : is_simple (app_of c.in-Ok.command) ≡ true = ap is_simple c.in-Ok.ensures.ftpd ∙ ftpd_is_simple in
-    let entered = c.in-Ok-parsed.ensures.found simple ∙ ap₂ subcommand_of c.in-Ok.ensures.ftpd are ∙ held.entered in
+    let entered = c.in-Ok-parsed_or_hinted.ensures.found simple ∙ ap₂ subcommand_of c.in-Ok.ensures.ftpd are ∙ held.entered in
     migrate_is _ _ held.rows word entered held.config c.in-Some.ensures.found
 
 pub returns-clause-script : goal.returns-clause-script
 returns-clause-script c = λ word plain are.
     let held = scripts word plain in
     let simple : is_simple (app_of c.in-Ok.command) ≡ true = ap is_simple c.in-Ok.ensures.ftpd ∙ ftpd_is_simple in
-    let entered = c.in-Ok-parsed.ensures.found simple ∙ ap₂ subcommand_of c.in-Ok.ensures.ftpd are ∙ held.entered in
+    let entered = c.in-Ok-parsed_or_hinted.ensures.found simple ∙ ap₂ subcommand_of c.in-Ok.ensures.ftpd are ∙ held.entered in
     script_is _ _ held.rows word entered held.config c.in-Some.ensures.found
 
 pub returns-clause-serve : goal.returns-clause-serve
 returns-clause-serve c = λ word plain are.
     let held = serves word plain in
     let simple : is_simple (app_of c.in-Ok.command) ≡ true = ap is_simple c.in-Ok.ensures.ftpd ∙ ftpd_is_simple in
-    let entered = c.in-Ok-parsed.ensures.found simple ∙ ap₂ subcommand_of c.in-Ok.ensures.ftpd are ∙ held.entered in
+    let entered = c.in-Ok-parsed_or_hinted.ensures.found simple ∙ ap₂ subcommand_of c.in-Ok.ensures.ftpd are ∙ held.entered in
     subst (λ (ready : Option Text). IsServe word None ready usual_patience c.in-Some.words) held.no_ready
     (subst (λ (path : Option Text). IsServe word path (first_of (codes "ready-file") held.rows) usual_patience c.in-Some.words) held.no_path
     (serve_is _ _ held.rows word usual_patience entered held.of (usual held.rows held.usual) c.in-Some.ensures.found))
@@ -391,7 +391,7 @@ pub returns-clause-serve_until : goal.returns-clause-serve_until
 returns-clause-serve_until c = λ word path plain also are.
     let held = serves_until word path plain also in
     let simple : is_simple (app_of c.in-Ok.command) ≡ true = ap is_simple c.in-Ok.ensures.ftpd ∙ ftpd_is_simple in
-    let entered = c.in-Ok-parsed.ensures.found simple ∙ ap₂ subcommand_of c.in-Ok.ensures.ftpd are ∙ held.entered in
+    let entered = c.in-Ok-parsed_or_hinted.ensures.found simple ∙ ap₂ subcommand_of c.in-Ok.ensures.ftpd are ∙ held.entered in
     subst (λ (ready : Option Text). IsServe word (Some path) ready usual_patience c.in-Some.words) held.no_ready
     (subst (λ (stop : Option Text). IsServe word stop (first_of (codes "ready-file") held.rows) usual_patience c.in-Some.words) held.stop_file
     (serve_is _ _ held.rows word usual_patience entered held.of (usual held.rows held.usual) c.in-Some.ensures.found))
@@ -400,7 +400,7 @@ pub returns-clause-serve_ready : goal.returns-clause-serve_ready
 returns-clause-serve_ready c = λ word path ready plain also third are.
     let held = serves_ready word path ready plain also third in
     let simple : is_simple (app_of c.in-Ok.command) ≡ true = ap is_simple c.in-Ok.ensures.ftpd ∙ ftpd_is_simple in
-    let entered = c.in-Ok-parsed.ensures.found simple ∙ ap₂ subcommand_of c.in-Ok.ensures.ftpd are ∙ held.entered in
+    let entered = c.in-Ok-parsed_or_hinted.ensures.found simple ∙ ap₂ subcommand_of c.in-Ok.ensures.ftpd are ∙ held.entered in
     subst (λ (file : Option Text). IsServe word (Some path) file usual_patience c.in-Some.words) held.ready_file
     (subst (λ (stop : Option Text). IsServe word stop (first_of (codes "ready-file") held.rows) usual_patience c.in-Some.words) held.stop_file
     (serve_is _ _ held.rows word usual_patience entered held.of (usual held.rows held.usual) c.in-Some.ensures.found))
@@ -409,7 +409,7 @@ pub returns-clause-serve_logged : goal.returns-clause-serve_logged
 returns-clause-serve_logged c = λ word path form plain also third are.
     let held = serves_logged word path form plain also third in
     let simple : is_simple (app_of c.in-Ok.command) ≡ true = ap is_simple c.in-Ok.ensures.ftpd ∙ ftpd_is_simple in
-    let entered = c.in-Ok-parsed.ensures.found simple ∙ ap₂ subcommand_of c.in-Ok.ensures.ftpd are ∙ held.entered in
+    let entered = c.in-Ok-parsed_or_hinted.ensures.found simple ∙ ap₂ subcommand_of c.in-Ok.ensures.ftpd are ∙ held.entered in
     subst (λ (form : Option Text). IsLoggedBy word (Some path) form c.in-Some.words) held.log_form
     (subst (λ (log : Option Text). IsLoggedBy word log (first_of (codes "log-form") held.rows) c.in-Some.words) held.transfer_log
     (logged_is _ _ held.rows word entered held.of c.in-Some.ensures.found))
@@ -418,7 +418,7 @@ pub returns-clause-serve_status : goal.returns-clause-serve_status
 returns-clause-serve_status c = λ word path port n plain also number are.
     let held = serves_status word path port plain also (number_plain Port port n number) in
     let simple : is_simple (app_of c.in-Ok.command) ≡ true = ap is_simple c.in-Ok.ensures.ftpd ∙ ftpd_is_simple in
-    let entered = c.in-Ok-parsed.ensures.found simple ∙ ap₂ subcommand_of c.in-Ok.ensures.ftpd are ∙ held.entered in
+    let entered = c.in-Ok-parsed_or_hinted.ensures.found simple ∙ ap₂ subcommand_of c.in-Ok.ensures.ftpd are ∙ held.entered in
     subst (λ (file : Option Text). IsStatusBy word file (Some n) c.in-Some.words) held.status
     (status_is _ _ held.rows word (Some n) entered held.of (some_port held.rows port n held.status_port number) c.in-Some.ensures.found)
 
@@ -426,7 +426,7 @@ pub returns-clause-serve_timed : goal.returns-clause-serve_timed
 returns-clause-serve_timed c = λ word first second third fourth p plain one two three four are.
     let held = serves_timed word first second third fourth plain (number_plain Seconds first _ one) (number_plain Seconds second _ two) (number_plain Seconds third _ three) (number_plain Seconds fourth _ four) in
     let simple : is_simple (app_of c.in-Ok.command) ≡ true = ap is_simple c.in-Ok.ensures.ftpd ∙ ftpd_is_simple in
-    let entered = c.in-Ok-parsed.ensures.found simple ∙ ap₂ subcommand_of c.in-Ok.ensures.ftpd are ∙ held.entered in
+    let entered = c.in-Ok-parsed_or_hinted.ensures.found simple ∙ ap₂ subcommand_of c.in-Ok.ensures.ftpd are ∙ held.entered in
     let states = patient held.rows p first second third fourth held.first held.second held.third held.fourth one two three four in
     subst (λ (ready : Option Text). IsServe word None ready p c.in-Some.words) held.no_ready
     (subst (λ (path : Option Text). IsServe word path (first_of (codes "ready-file") held.rows) p c.in-Some.words) held.no_path
@@ -436,7 +436,7 @@ pub returns-clause-plan : goal.returns-clause-plan
 returns-clause-plan c = λ word stated plain also are.
     let held = plans word stated plain also in
     let simple : is_simple (app_of c.in-Ok.command) ≡ true = ap is_simple c.in-Ok.ensures.ftpd ∙ ftpd_is_simple in
-    let entered = c.in-Ok-parsed.ensures.found simple ∙ ap₂ subcommand_of c.in-Ok.ensures.ftpd are ∙ held.entered in
+    let entered = c.in-Ok-parsed_or_hinted.ensures.found simple ∙ ap₂ subcommand_of c.in-Ok.ensures.ftpd are ∙ held.entered in
     subst (λ (flag : Bool). IsPlanWords word stated flag c.in-Some.words) held.unflagged
     (plan_is _ _ held.rows word stated entered held.config held.transfers c.in-Some.ensures.found)
 
@@ -444,7 +444,7 @@ pub returns-clause-plan_json : goal.returns-clause-plan_json
 returns-clause-plan_json c = λ word stated plain also are.
     let held = plans_json word stated plain also in
     let simple : is_simple (app_of c.in-Ok.command) ≡ true = ap is_simple c.in-Ok.ensures.ftpd ∙ ftpd_is_simple in
-    let entered = c.in-Ok-parsed.ensures.found simple ∙ ap₂ subcommand_of c.in-Ok.ensures.ftpd are ∙ held.entered in
+    let entered = c.in-Ok-parsed_or_hinted.ensures.found simple ∙ ap₂ subcommand_of c.in-Ok.ensures.ftpd are ∙ held.entered in
     subst (λ (flag : Bool). IsPlanWords word stated flag c.in-Some.words) held.flagged
     (plan_is _ _ held.rows word stated entered held.config held.transfers c.in-Some.ensures.found)
 
@@ -452,7 +452,7 @@ pub returns-clause-top : goal.returns-clause-top
 returns-clause-top c = λ word plain are.
     let held = tops word plain in
     let simple : is_simple (app_of c.in-Ok.command) ≡ true = ap is_simple c.in-Ok.ensures.ftpd ∙ ftpd_is_simple in
-    let entered = c.in-Ok-parsed.ensures.found simple ∙ ap₂ subcommand_of c.in-Ok.ensures.ftpd are ∙ held.entered in
+    let entered = c.in-Ok-parsed_or_hinted.ensures.found simple ∙ ap₂ subcommand_of c.in-Ok.ensures.ftpd are ∙ held.entered in
     subst (λ (flag : Bool). IsTop word flag ROWS c.in-Some.words) held.unflagged
     (top_is _ _ held.rows word ROWS entered held.status (usual_lines held.rows held.lineless) c.in-Some.ensures.found)
 
@@ -460,7 +460,7 @@ pub returns-clause-top_once : goal.returns-clause-top_once
 returns-clause-top_once c = λ word lines n plain number are.
     let held = tops_once word lines plain (number_plain Lines lines n number) in
     let simple : is_simple (app_of c.in-Ok.command) ≡ true = ap is_simple c.in-Ok.ensures.ftpd ∙ ftpd_is_simple in
-    let entered = c.in-Ok-parsed.ensures.found simple ∙ ap₂ subcommand_of c.in-Ok.ensures.ftpd are ∙ held.entered in
+    let entered = c.in-Ok-parsed_or_hinted.ensures.found simple ∙ ap₂ subcommand_of c.in-Ok.ensures.ftpd are ∙ held.entered in
     subst (λ (flag : Bool). IsTop word flag n c.in-Some.words) held.flagged
     (top_is _ _ held.rows word n entered held.status (some_lines held.rows lines n held.lines_stated number) c.in-Some.ensures.found)
 
@@ -469,8 +469,8 @@ returns-clause-given c =
     let texts = map (λ (s : Bor (List ℕ)). s.now) c.args.words.now in
     let free : is_simple_and_free (app_of c.in-Ok.command) ≡ true = ap is_simple_and_free c.in-Ok.ensures.ftpd ∙ ftpd_is_free in
     let simple : is_simple (app_of c.in-Ok.command) ≡ true = ap is_simple c.in-Ok.ensures.ftpd ∙ ftpd_is_simple in
-    let none : fault_of ftpd texts ≡ [] = subst (λ (a : App). fault_of a texts ≡ []) c.in-Ok.ensures.ftpd (c.in-Ok-parsed.ensures.given free) in
-    let entered = c.in-Ok-parsed.ensures.found simple ∙ ap (λ (a : App). subcommand_of a texts) c.in-Ok.ensures.ftpd in
+    let none : fault_of ftpd texts ≡ [] = subst (λ (a : App). fault_of a texts ≡ []) c.in-Ok.ensures.ftpd (c.in-Ok-parsed_or_hinted.ensures.given free) in
+    let entered = c.in-Ok-parsed_or_hinted.ensures.found simple ∙ ap (λ (a : App). subcommand_of a texts) c.in-Ok.ensures.ftpd in
     let numbers = c.in-Ok-stated_numbers.numbers in
     let stated = subst (λ (o : Option (Text × List Row)). IsStatedBy o numbers.patience numbers.status_port numbers.rows) entered c.in-Ok-stated_numbers.ensures.stated in
     (none, (numbers.patience, numbers.status_port, numbers.rows, stated))
@@ -479,7 +479,7 @@ pub returns-clause-found : goal.returns-clause-found
 returns-clause-found c =
     let texts = map (λ (s : Bor (List ℕ)). s.now) c.args.words.now in
     let simple : is_simple (app_of c.in-Ok.command) ≡ true = ap is_simple c.in-Ok.ensures.ftpd ∙ ftpd_is_simple in
-    let entered = c.in-Ok-parsed.ensures.found simple ∙ ap (λ (a : App). subcommand_of a texts) c.in-Ok.ensures.ftpd in
+    let entered = c.in-Ok-parsed_or_hinted.ensures.found simple ∙ ap (λ (a : App). subcommand_of a texts) c.in-Ok.ensures.ftpd in
     subst (λ (found : Option (Text × List Row)). IsFound found c.in-Some.words) entered c.in-Some.ensures.found
 
 pub returns-clause-taken : goal.returns-clause-taken

@@ -108,6 +108,10 @@ def a_status_file():
         client.says(None, "426 ...")
         status = next_status(server)
         same((status["ended"], status["transfers"]), (2, []), "after the end")
+        same((status["endings"]["whole"], status["endings"]["lost"]), (1, 1), "how they ended")
+        account = status["accounts"][0]
+        same((account["user"], account["group"], account["granted_up"], len(status["accounts"])), ("ann", None, 0, 1), "the account")
+        want(row["granted"] <= account["granted_down"] <= status["issued"], f"{account} of {status['issued']}, and {row['granted']} before")
         is_balanced(status)
         client.says("USER bob", "331 Password required")
         client.says("PASS wrong", "530 ...")
@@ -452,4 +456,34 @@ def a_table_of_the_status():
         server.ended()
 
 
-ROWS = [a_status_file, what_holds_transfers_back, the_division_is_shown, a_status_page, a_status_that_cannot_be_written, a_status_whose_folder_goes, a_path_of_another_file, a_table_of_the_status]
+def who_is_inside():
+    """A session that transfers nothing is shown, with what is guaranteed to it, until it ends."""
+    with held_server() as server:
+        nobody, dan, cem = Client(server, None), Client(server, "dan", "d"), Client(server, "cem", "c")
+        nobody.says(None, "220 Ready")
+        status = next_status(server)
+        inside = {it["user"]: it for it in status["sessions_now"]}
+        same((len(status["sessions_now"]), sorted(inside, key=str)), (3, [None, "cem", "dan"]), "who is inside")
+        same((inside["dan"]["guaranteed_down"], inside["dan"]["guaranteed_up"], inside["cem"]["group"]), (500_000, None, "two"), "guarantee and group")
+        same((status["guaranteed_down"], status["groups"][0]["guaranteed_down"], status["logins"]), (500_000, None, 2), "in all")
+        want(all(it["begun"] <= it["active"] < status["micros"] for it in status["sessions_now"]), f"idle: {status['sessions_now']}")
+        shown = subprocess.run([SERVER, "top", "--once", f"{server.place}/status.json"], capture_output=True, text=True, timeout=60).stdout
+        want("\n3 idle   guaranteed down 500.00K" in shown, f"the table: {shown}")
+        want(re.search(r"\n#\d+ +dan +127\.0\.0\.1 +0:00:\d\d +0:00:\d\d +500\.00K +-\n", shown), f"the table: {shown}")
+        data = cem.passive(room=65536)
+        cem.says("RETR big", "150 Opening data connection")
+        status = next_status(server)
+        active = next(it for it in status["sessions_now"] if it["user"] == "cem")
+        same(active["active"], status["micros"], "who transfers is not idle")
+        dan.says("REIN", "220 ...")
+        same(next_status(server)["guaranteed_down"], None, "who has left holds nothing")
+        dan.quit()
+        until(lambda: len(status_of(server)["sessions_now"]) == 2, "two sessions")
+        for it in (data, cem, nobody):
+            it.close()
+        until(lambda: status_of(server)["sessions_now"] == [], "nobody inside")
+        server.stop()
+        server.ended()
+
+
+ROWS = [a_status_file, who_is_inside, what_holds_transfers_back, the_division_is_shown, a_status_page, a_status_that_cannot_be_written, a_status_whose_folder_goes, a_path_of_another_file, a_table_of_the_status]

@@ -3,7 +3,7 @@
 use event_word::micros;
 use line_rates::{Limits, Name, Way};
 use server_config::Config;
-use status_keeper::{StatedGroup, StatusFacts};
+use status_keeper::{StatedGroup, StatedUser, StatusFacts};
 use std::alloc::Global;
 use std::time::Clock;
 
@@ -67,6 +67,19 @@ fn group_names(alloc: Global, config: &Config) -> Option<Vec<String>> {
     Some(names)
 }
 
+/// The users that a configuration has, with their numbers. `None` if memory runs out.
+fn stated_users(alloc: Global, config: &Config) -> Option<Vec<StatedUser>> {
+    let names = config.users.names(alloc).ok()?;
+    let mut stated = Vec::with_capacity(alloc, names.len()).ok()?;
+    for name in &names {
+        if let Some(number) = config.users.number(name.as_str()) {
+            let name = String::from_str(alloc, name.as_str()).ok()?;
+            stated.push(StatedUser { name, number }).ok()?;
+        }
+    }
+    Some(stated)
+}
+
 /// The facts for a status of a configuration, of the limits in force, with rows of the past, and of a start. `None` if
 /// memory runs out.
 pub(crate) fn facts_of(
@@ -79,6 +92,7 @@ pub(crate) fn facts_of(
         limits: copied_limits(alloc, limits)?,
         stated: stated_groups(alloc, config)?,
         groups: group_names(alloc, config)?,
+        names: stated_users(alloc, config)?,
         users: config.limits.users().len() as u64,
         lanes: u64::from(config.numbers.lanes),
         max_sessions: u64::from(config.numbers.max_cons),

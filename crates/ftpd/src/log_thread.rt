@@ -21,11 +21,13 @@ use transfer_log::{FileTransfer, transfer_line};
 pub(crate) struct QueuedTransfers<R: Wait + AllocGlobal> {
     rt: R,
     lines: Option<Arc<SharedLines>>,
+    // the notes, whose lost lines are counted with those of the log
+    notes: PlainNotes,
 }
 
 impl<R: Wait + AllocGlobal> QueuedTransfers<R> {
-    pub fn new(rt: R, lines: Option<Arc<SharedLines>>) -> QueuedTransfers<R> {
-        QueuedTransfers { rt, lines }
+    pub fn new(rt: R, lines: Option<Arc<SharedLines>>, notes: PlainNotes) -> QueuedTransfers<R> {
+        QueuedTransfers { rt, lines, notes }
     }
 }
 
@@ -35,6 +37,14 @@ impl<R: Wait + AllocGlobal> TransferLog for QueuedTransfers<R> {
             let line = transfer_line(self.rt.alloc(), transfer);
             lines.transfer(&self.rt, line);
         }
+    }
+
+    fn lost_lines(&self) -> u64 {
+        let lost = match &self.lines {
+            Some(lines) => lines.lost(),
+            None => 0,
+        };
+        lost.saturating_add(self.notes.lost_lines())
     }
 }
 
@@ -54,6 +64,11 @@ pub(crate) struct PlainNotes {
 }
 
 impl PlainNotes {
+    /// Number of the notes that were dropped so far.
+    pub fn lost_lines(&self) -> u64 {
+        self.lines.lost()
+    }
+
     /// Notes the number of users that a new configuration has no longer.
     pub fn note_gone<R: Wait + AllocGlobal>(&self, rt: &R, count: u64) {
         let head = count_head(self.form);

@@ -507,7 +507,7 @@ where
     };
     let (cell, kept, watched) = cells(rt.alloc(), status.is_some() || page.is_some())?;
     let queued = QueuedLog::new(*rt, lines, form);
-    let transfers = QueuedTransfers::new(*rt, transfers);
+    let transfers = QueuedTransfers::new(*rt, transfers, log.plain_notes()?);
     let notes = Notes::new(Logged::new(*machine, Level::Debug, queued), form, transfers);
     notes.note_warnings(warnings.as_str());
     let handler = StatusKeeper::new(*rt, notes, facts, kept);

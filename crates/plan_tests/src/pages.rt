@@ -4,7 +4,9 @@ ghost use Rattle.std.specs.Prelude.{◌≡◌};
 
 use crate::examples::holds;
 use httpdate::HttpDate;
-use server_status::{Direction, GroupStatus, HeldRounds, LineRates, Status, TransferStatus};
+use server_status::{
+    AccountStatus, Direction, EndCounts, GroupStatus, HeldRounds, LineRates, Status, TransferStatus,
+};
 use status_page::{MachineClock, MicrosClock, PAGE, Timed, metrics_text, serve_request};
 use std::alloc::AllocError;
 use std::hash::RandomState;
@@ -73,6 +75,45 @@ ftpd_held_rounds_total{kind="nothing"} 6
 # TYPE ftpd_limit_bytes_per_second gauge
 ftpd_limit_bytes_per_second{kind="direction",name="",direction="down"} 15000000
 ftpd_limit_bytes_per_second{kind="group",name="a\"b\\c\né",direction="up"} 5
+# HELP ftpd_logins_total Logins.
+# TYPE ftpd_logins_total counter
+ftpd_logins_total 11
+# HELP ftpd_refused_logins_total Logins refused for the number of sessions of their user.
+# TYPE ftpd_refused_logins_total counter
+ftpd_refused_logins_total 12
+# HELP ftpd_refused_guarantees_total Logins refused for a guarantee.
+# TYPE ftpd_refused_guarantees_total counter
+ftpd_refused_guarantees_total 13
+# HELP ftpd_log_lines_lost_total Lines of notes and of the transfer log that were dropped.
+# TYPE ftpd_log_lines_lost_total counter
+ftpd_log_lines_lost_total 14
+# HELP ftpd_transfer_ends_total Transfers that have ended, by how they did.
+# TYPE ftpd_transfer_ends_total counter
+ftpd_transfer_ends_total{how="whole"} 21
+ftpd_transfer_ends_total{how="aborted"} 22
+ftpd_transfer_ends_total{how="unconnected"} 23
+ftpd_transfer_ends_total{how="lost"} 24
+ftpd_transfer_ends_total{how="file"} 25
+ftpd_transfer_ends_total{how="memory"} 26
+ftpd_transfer_ends_total{how="owner"} 27
+# HELP ftpd_guaranteed_bytes_per_second Guarantees of the sessions that are logged in, together.
+# TYPE ftpd_guaranteed_bytes_per_second gauge
+ftpd_guaranteed_bytes_per_second{kind="direction",name="",direction="down"} 31
+ftpd_guaranteed_bytes_per_second{kind="direction",name="",direction="up"} 0
+ftpd_guaranteed_bytes_per_second{kind="group",name="a\"b\\c\né",direction="down"} 0
+ftpd_guaranteed_bytes_per_second{kind="group",name="a\"b\\c\né",direction="up"} 4
+# HELP ftpd_granted_bytes_total Bytes granted to the transfers of users.
+# TYPE ftpd_granted_bytes_total counter
+ftpd_granted_bytes_total{user="ann",group="",direction="down"} 890
+ftpd_granted_bytes_total{user="ann",group="",direction="up"} 0
+ftpd_granted_bytes_total{user="b\"c",group="sales",direction="down"} 41
+ftpd_granted_bytes_total{user="b\"c",group="sales",direction="up"} 42
+# HELP ftpd_guarantee_unmet_seconds_total Seconds below nine tenths of a guarantee while a limit held the transfer back.
+# TYPE ftpd_guarantee_unmet_seconds_total counter
+ftpd_guarantee_unmet_seconds_total{user="ann",group="",direction="down"} 2
+ftpd_guarantee_unmet_seconds_total{user="ann",group="",direction="up"} 0
+ftpd_guarantee_unmet_seconds_total{user="b\"c",group="sales",direction="down"} 0
+ftpd_guarantee_unmet_seconds_total{user="b\"c",group="sales",direction="up"} 3
 "#;
 
 /// The fields of each answer but its type and its length, up to the policy.
@@ -120,6 +161,8 @@ fn groups_of<R: AllocGlobal>(rt: &R) -> Result<Vec<GroupStatus>, AllocError> {
         name,
         down: 0,
         up: 5,
+        guaranteed_down: 0,
+        guaranteed_up: 4,
     })?;
     Ok(groups)
 }
@@ -132,7 +175,33 @@ fn transfers_of<R: AllocGlobal>(rt: &R) -> Result<Vec<TransferStatus>, AllocErro
     Ok(transfers)
 }
 
-fn status_of(groups: Vec<GroupStatus>, transfers: Vec<TransferStatus>) -> Status {
+fn accounts_of<R: AllocGlobal>(rt: &R) -> Result<Vec<AccountStatus>, AllocError> {
+    let mut accounts = Vec::new(rt.alloc());
+    accounts.push(AccountStatus {
+        user: String::from_str(rt.alloc(), "ann")?,
+        group: None,
+        granted_down: 890,
+        granted_up: 0,
+        unmet_down: 2_999_999,
+        unmet_up: 0,
+    })?;
+    accounts.push(AccountStatus {
+        user: String::from_str(rt.alloc(), "b\"c")?,
+        group: Some(String::from_str(rt.alloc(), "sales")?),
+        granted_down: 41,
+        granted_up: 42,
+        unmet_down: 999_999,
+        unmet_up: 3_000_000,
+    })?;
+    Ok(accounts)
+}
+
+fn status_of<R: AllocGlobal>(
+    rt: &R,
+    groups: Vec<GroupStatus>,
+    transfers: Vec<TransferStatus>,
+    accounts: Vec<AccountStatus>,
+) -> Status {
     Status {
         started: 1_764_000_000,
         micros: 61_999_999,
@@ -141,6 +210,8 @@ fn status_of(groups: Vec<GroupStatus>, transfers: Vec<TransferStatus>) -> Status
             down: 15_000_000,
             up: 0,
         },
+        guaranteed_down: 31,
+        guaranteed_up: 0,
         groups,
         users: 2,
         sessions: 3,
@@ -150,17 +221,33 @@ fn status_of(groups: Vec<GroupStatus>, transfers: Vec<TransferStatus>) -> Status
         ended_granted: 100,
         ended_moved: 90,
         ended: 1,
+        endings: EndCounts {
+            whole: 21,
+            aborted: 22,
+            unconnected: 23,
+            lost: 24,
+            file: 25,
+            memory: 26,
+            owner: 27,
+        },
         rounds: HELD,
         waits: 0,
+        logins: 11,
         failed_logins: 7,
+        refused_logins: 12,
+        refused_guarantees: 13,
         refused: 8,
+        lost_lines: 14,
         transfers,
+        sessions_now: Vec::new(rt.alloc()),
+        accounts,
     }
 }
 
 fn status<R: AllocGlobal>(rt: &R) -> Result<Status, AllocError> {
     let groups = groups_of(rt)?;
-    Ok(status_of(groups, transfers_of(rt)?))
+    let transfers = transfers_of(rt)?;
+    Ok(status_of(rt, groups, transfers, accounts_of(rt)?))
 }
 
 #[test]

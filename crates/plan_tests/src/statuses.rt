@@ -2,18 +2,28 @@
 
 use crate::examples::holds;
 use server_status::{
-    Direction, GroupStatus, HeldRounds, LineRates, Status, StatusFault, TransferStatus,
-    read_status, status_text,
+    AccountStatus, Direction, EndCounts, GroupStatus, HeldRounds, LineRates, SessionStatus, Status,
+    StatusFault, TransferStatus, read_status, status_text,
 };
 use std::alloc::{AllocError, Global};
 use std::process::Abort;
 
 /// The front of the status of the page, in the order of the names of its members.
-const FRONT: &str = "{\"ended\":2,\"ended_granted\":3000,\"ended_moved\":2900,\"failed_logins\":1,\
-\"groups\":[{\"down\":3000000,\"name\":\"sales\",\"up\":null}],\
+const FRONT: &str =
+    "{\"accounts\":[{\"granted_down\":48003000,\"granted_up\":0,\"group\":\"sales\",\"unmet_down\":1000000,\"unmet_up\":0,\"user\":\"ann\"},\
+{\"granted_down\":0,\"granted_up\":1000000,\"group\":null,\"unmet_down\":0,\"unmet_up\":0,\"user\":\"bob\"}],\
+\"ended\":2,\"ended_granted\":3000,\"ended_moved\":2900,\
+\"endings\":{\"aborted\":1,\"file\":0,\"lost\":0,\"memory\":0,\"owner\":0,\"unconnected\":0,\"whole\":1},\"failed_logins\":1,\
+\"groups\":[{\"down\":3000000,\"guaranteed_down\":500000,\"guaranteed_up\":null,\"name\":\"sales\",\"up\":null}],\
+\"guaranteed_down\":500000,\"guaranteed_up\":250000,\
 \"held\":{\"direction\":5000,\"group\":0,\"nothing\":1250,\"server\":0,\"session\":0,\"user\":4},\
-\"issued\":49003000,\"lanes\":2,\"line\":{\"both\":null,\"down\":4000000,\"up\":null},\
-\"max_sessions\":64,\"micros\":12500000,\"refused\":0,\"sessions\":4,\"started\":1790000000,";
+\"issued\":49003000,\"lanes\":2,\"line\":{\"both\":null,\"down\":4000000,\"up\":null},\"logins\":6,\"lost_lines\":0,\
+\"max_sessions\":64,\"micros\":12500000,\"refused\":0,\"refused_guarantees\":1,\"refused_logins\":0,\"sessions\":4,\
+\"sessions_now\":[{\"active\":12500000,\"begun\":200000,\"group\":\"sales\",\"guaranteed_down\":500000,\"guaranteed_up\":null,\
+\"peer\":\"192.0.2.7\",\"session\":3,\"user\":\"ann\"},\
+{\"active\":9000000,\"begun\":8000000,\"group\":null,\"guaranteed_down\":null,\"guaranteed_up\":250000,\
+\"peer\":\"192.0.2.9\",\"session\":4,\"user\":null}],\
+\"started\":1790000000,";
 
 /// Its transfers.
 const TRANSFERS: &str = "\"transfers\":[\
@@ -122,11 +132,64 @@ fn groups(alloc: Global) -> Result<Vec<GroupStatus>, AllocError> {
         name: String::from_str(alloc, "sales")?,
         down: 3_000_000,
         up: 0,
+        guaranteed_down: 500_000,
+        guaranteed_up: 0,
     })?;
     Ok(groups)
 }
 
-fn with_lists(groups: Vec<GroupStatus>, transfers: Vec<TransferStatus>) -> Status {
+fn sessions(alloc: Global) -> Result<Vec<SessionStatus>, AllocError> {
+    let mut sessions = Vec::with_capacity(alloc, 2)?;
+    sessions.push(SessionStatus {
+        session: 3,
+        user: Some(String::from_str(alloc, "ann")?),
+        group: Some(String::from_str(alloc, "sales")?),
+        peer: [192, 0, 2, 7],
+        begun: 200_000,
+        active: 12_500_000,
+        guaranteed_down: 500_000,
+        guaranteed_up: 0,
+    })?;
+    sessions.push(SessionStatus {
+        session: 4,
+        user: None,
+        group: None,
+        peer: [192, 0, 2, 9],
+        begun: 8_000_000,
+        active: 9_000_000,
+        guaranteed_down: 0,
+        guaranteed_up: 250_000,
+    })?;
+    Ok(sessions)
+}
+
+fn accounts(alloc: Global) -> Result<Vec<AccountStatus>, AllocError> {
+    let mut accounts = Vec::with_capacity(alloc, 2)?;
+    accounts.push(AccountStatus {
+        user: String::from_str(alloc, "ann")?,
+        group: Some(String::from_str(alloc, "sales")?),
+        granted_down: 48_003_000,
+        granted_up: 0,
+        unmet_down: 1_000_000,
+        unmet_up: 0,
+    })?;
+    accounts.push(AccountStatus {
+        user: String::from_str(alloc, "bob")?,
+        group: None,
+        granted_down: 0,
+        granted_up: 1_000_000,
+        unmet_down: 0,
+        unmet_up: 0,
+    })?;
+    Ok(accounts)
+}
+
+fn with_lists(
+    groups: Vec<GroupStatus>,
+    transfers: Vec<TransferStatus>,
+    sessions: Vec<SessionStatus>,
+    accounts: Vec<AccountStatus>,
+) -> Status {
     Status {
         started: 1_790_000_000,
         micros: 12_500_000,
@@ -135,6 +198,8 @@ fn with_lists(groups: Vec<GroupStatus>, transfers: Vec<TransferStatus>) -> Statu
             down: 4_000_000,
             up: 0,
         },
+        guaranteed_down: 500_000,
+        guaranteed_up: 250_000,
         groups,
         users: 3,
         sessions: 4,
@@ -144,16 +209,31 @@ fn with_lists(groups: Vec<GroupStatus>, transfers: Vec<TransferStatus>) -> Statu
         ended_granted: 3_000,
         ended_moved: 2_900,
         ended: 2,
+        endings: EndCounts {
+            whole: 1,
+            aborted: 1,
+            unconnected: 0,
+            lost: 0,
+            file: 0,
+            memory: 0,
+            owner: 0,
+        },
         rounds: HeldRounds {
             direction: 5_000,
             nothing: 1_250,
             user: 4,
             ..NO_ROUNDS
         },
+        logins: 6,
         failed_logins: 1,
+        refused_logins: 0,
+        refused_guarantees: 1,
         refused: 0,
+        lost_lines: 0,
         waits: 3,
         transfers,
+        sessions_now: sessions,
+        accounts,
     }
 }
 
@@ -161,7 +241,9 @@ fn with_lists(groups: Vec<GroupStatus>, transfers: Vec<TransferStatus>) -> Statu
 fn status(rt: &(impl Abort + AllocGlobal)) -> Status {
     let groups = groups(rt.alloc()).expect(rt, "memory");
     let transfers = transfers(rt.alloc()).expect(rt, "memory");
-    with_lists(groups, transfers)
+    let sessions = sessions(rt.alloc()).expect(rt, "memory");
+    let accounts = accounts(rt.alloc()).expect(rt, "memory");
+    with_lists(groups, transfers, sessions, accounts)
 }
 
 fn page(rt: &(impl Abort + AllocGlobal)) -> String {
@@ -193,11 +275,51 @@ fn a_status_is_written_and_read(rt: HostRuntime) {
 /// A change of the text of the page, and the fault of what comes of it; none if it is a status.
 struct Change(&'static str, &'static str, Option<StatusFault>);
 
-const CHANGES: [Change; 20] = [
+const CHANGES: [Change; 28] = [
     Change("\"version\":1", "\"version\":1,\"zone\":[]", None),
     Change("}\n", "\n}", None),
     Change("\"session\":3,", "\"session\":8,\"session\":3,", None),
-    Change("{\"ended\"", "[\"ended\"", Some(StatusFault::NotJson)),
+    Change(
+        "\"sessions_now\":",
+        "\"sessions_then\":",
+        Some(StatusFault::Missing("sessions_now")),
+    ),
+    Change(
+        "\"active\":12500000,",
+        "",
+        Some(StatusFault::Missing("sessions_now[].active")),
+    ),
+    Change(
+        "192.0.2.9",
+        "192.0.2",
+        Some(StatusFault::OtherKind("sessions_now[].peer")),
+    ),
+    Change(
+        "\"user\":null}",
+        "\"user\":4}",
+        Some(StatusFault::OtherKind("sessions_now[].user")),
+    ),
+    Change(
+        "\"accounts\":[",
+        "\"accounts\":0,\"old\":[",
+        Some(StatusFault::OtherKind("accounts")),
+    ),
+    Change(
+        "\"unmet_up\":0,",
+        "",
+        Some(StatusFault::Missing("accounts[].unmet_up")),
+    ),
+    Change(
+        "\"endings\":{\"aborted\":1,",
+        "\"endings\":{",
+        Some(StatusFault::Missing("endings.aborted")),
+    ),
+    Change(
+        ",\"guaranteed_up\":null,\"name\"",
+        ",\"name\"",
+        Some(StatusFault::Missing("groups[].guaranteed_up")),
+    ),
+    Change("{\"accounts\"", "[\"accounts\"", Some(StatusFault::NotJson)),
     Change(
         "\"version\":1",
         "\"version\":2",
@@ -235,8 +357,8 @@ const CHANGES: [Change; 20] = [
         Some(StatusFault::OtherKind("groups")),
     ),
     Change(
-        "\"sales\",\"up\":null",
-        "\"sales\",\"up\":-1",
+        "\"name\":\"sales\",\"up\":null",
+        "\"name\":\"sales\",\"up\":-1",
         Some(StatusFault::OtherKind("groups[].up")),
     ),
     Change(
@@ -245,13 +367,13 @@ const CHANGES: [Change; 20] = [
         Some(StatusFault::Missing("groups[].name")),
     ),
     Change(
-        "\"user\":\"ann\"",
-        "\"user\":null",
+        "\"user\":\"ann\",\"user_rate\"",
+        "\"user\":null,\"user_rate\"",
         Some(StatusFault::OtherKind("transfers[].user")),
     ),
     Change(
-        "192.0.2.7",
-        "192.0.2.256",
+        "192.0.2.7\",\"session\":3,\"session_rate",
+        "192.0.2.256\",\"session\":3,\"session_rate",
         Some(StatusFault::OtherKind("transfers[].peer")),
     ),
     Change(

@@ -3,7 +3,7 @@
 /// The policy for browsers: they may run the script of the page and use its style, by their hashes, and ask the server
 /// itself. `tools/page-policy --write` computes the hashes.
 pub const POLICY: &str =
-    "default-src 'none'; connect-src 'self'; script-src 'sha256-Z8rZgevJ7we66Q4r8AyT1Jb114dgzd/rYfYG8nRZBYg='; style-src 'sha256-S2OK/3jFGzhxX59B5bvWp9SZKq5+ulgFhhsqoTbxAT4='; base-uri 'none'; form-action 'none'; frame-ancestors 'none'";
+    "default-src 'none'; connect-src 'self'; script-src 'sha256-lEwfWkMko0qgvqOgEZuifYH7ecGOXBHRQP/1zKb9jEA='; style-src 'sha256-S2OK/3jFGzhxX59B5bvWp9SZKq5+ulgFhhsqoTbxAT4='; base-uri 'none'; form-action 'none'; frame-ancestors 'none'";
 
 /// The page. It asks for `status.json` once a second, and shows each text in it as text.
 pub const PAGE: &str = r##"<!doctype html>
@@ -114,12 +114,23 @@ limit leaves to each whom it holds back. A line above has the colour of its colu
 <tbody id="transfers"></tbody>
 </table>
 </div>
+<section id="inside" hidden>
+<h2>Sessions without a transfer <span id="idle-number" class="faint"></span></h2>
+<div class="wide" tabindex="0" role="group" aria-label="Sessions without a transfer">
+<table>
+<thead><tr><th scope="col">user</th><th scope="col" class="number">idle</th><th scope="col" class="number">inside</th>
+<th scope="col" class="number held">guaranteed</th><th scope="col" class="more">group</th><th scope="col" class="more">session</th>
+<th scope="col" class="more">from</th></tr></thead>
+<tbody id="idle"></tbody>
+</table>
+</div>
+</section>
 </main>
 <script>
 "use strict";
 const KINDS = ["server", "direction", "group", "user", "session", "nothing"];
 const WAYS = ["down", "up"];
-const COLOURS = 10, KEPT_MICROS = 600e6, BASE = 160, ROOM = 72, LONGEST = 20;
+const COLOURS = 10, KEPT_MICROS = 600e6, BASE = 160, ROOM = 72, LONGEST = 20, MOST_IDLE = 12;
 const byId = id => document.getElementById(id);
 const sum = numbers => numbers.reduce((a, b) => a + b, 0);
 const whole = n => Math.round(n).toLocaleString("en");
@@ -219,9 +230,9 @@ function styleOf(limit, rows) {
   return rows.some(r => r.limit === limit && r.kind !== "nothing" && !r.transfer.waiting) ? limitColours.get(limit) : "nothing";
 }
 
-// One line: what is used of it, and what is guaranteed; as a bar, and in megabits.
-function addLine(name, shown, rows, style, rate) {
-  const now = sum(rows.map(r => r.rate)), promised = sum(rows.map(r => r.transfer.guaranteed ?? 0));
+// One line: what is used of it, and what is guaranteed to all sessions; as a bar, and in megabits.
+function addLine(name, shown, rows, style, rate, promised) {
+  const now = sum(rows.map(r => r.rate));
   const line = put(byId("lines"), "div"), text = put(line, "div");
   put(text, "b", shown + " ").title = name;
   text.append(rate === null ? rateText(now) + ", no limit" : pair(now, rate) + ", ");
@@ -238,15 +249,18 @@ function addLine(name, shown, rows, style, rate) {
 
 function fillLines(status, rows) {
   byId("lines").replaceChildren();
-  const add = (kind, transfer, inside, rate) => {
+  const promised = (limit, way) => limit["guaranteed_" + way] ?? 0;
+  const add = (kind, transfer, inside, rate, least) => {
     const name = limitName(kind, transfer, Infinity);
-    addLine(name, limitName(kind, transfer, LONGEST), rows.filter(r => inside(r.transfer)), styleOf(name, rows), rate);
+    addLine(name, limitName(kind, transfer, LONGEST), rows.filter(r => inside(r.transfer)), styleOf(name, rows), rate, least);
   };
-  if (status.line.both !== null) add("server", {}, () => true, status.line.both);
-  for (const direction of WAYS) add("direction", { direction }, t => t.direction === direction, status.line[direction]);
+  if (status.line.both !== null) add("server", {}, () => true, status.line.both, promised(status, "down") + promised(status, "up"));
+  for (const direction of WAYS)
+    add("direction", { direction }, t => t.direction === direction, status.line[direction], promised(status, direction));
   for (const group of status.groups)
     for (const direction of WAYS.filter(way => group[way] !== null))
-      add("group", { direction, group: group.name }, t => t.direction === direction && t.group === group.name, group[direction]);
+      add("group", { direction, group: group.name }, t => t.direction === direction && t.group === group.name, group[direction],
+        promised(group, direction));
 }
 
 // Keeps since when each guarantee is not met.
@@ -372,6 +386,31 @@ function fillTransfers(rows) {
     for (const row of rows.filter(r => r.transfer.waiting === waiting)) addRow(body, row, styleOf(row.limit, rows));
 }
 
+// The sessions that transfer nothing: who is guaranteed most first, and then who is idle longest.
+function idleOf(status) {
+  const least = s => (s.guaranteed_down ?? 0) + (s.guaranteed_up ?? 0);
+  return status.sessions_now.filter(s => s.active < status.micros).sort((a, b) => least(b) - least(a) || a.active - b.active || a.session - b.session);
+}
+
+// Fills their table, up to a dozen.
+function fillIdle(status) {
+  const body = byId("idle"), idle = idleOf(status), since = micros => timeText((status.micros - micros) / 1e6);
+  const more = idle.length > MOST_IDLE ? `, ${MOST_IDLE} of them shown` : "";
+  byId("inside").hidden = idle.length === 0;
+  byId("idle-number").textContent = `${idle.length} of ${status.sessions}${more}`;
+  body.replaceChildren();
+  for (const it of idle.slice(0, MOST_IDLE)) {
+    const { user, group, peer, session, begun, active } = it, line = put(body, "tr");
+    const name = put(line, "th", user ?? "not logged in", user === null ? "faint" : undefined);
+    const least = WAYS.filter(way => it["guaranteed_" + way] !== null).map(way => `${whole(it["guaranteed_" + way])} ${way}`);
+    name.scope = "row";
+    name.title = user ?? "";
+    for (const text of [since(active), since(begun)]) put(line, "td", text, "number");
+    put(line, "td", least.join(", ") || "-", "number held");
+    for (const text of [group ?? "-", "#" + session, peer]) put(line, "td", text, "more").title = text;
+  }
+}
+
 // Keeps for ten minutes what each user got, what all got together, and which limits held somebody back.
 function remember(status, old, rows) {
   const users = new Map(), time = (status.micros - old.micros) / 1e6;
@@ -423,7 +462,7 @@ function show(status, old) {
   const rows = measuredAll(status, old);
   const waiting = rows.filter(r => r.transfer.waiting).length, minutes = Math.floor(status.micros / 6e7);
   byId("summary").textContent = `up ${Math.floor(minutes / 60)} h ${minutes % 60} min, `
-    + `${status.sessions} of ${status.max_sessions} sessions, ${rows.length - waiting} of ${status.lanes} transfers, ${waiting} waiting, `
+    + `${status.sessions} of ${status.max_sessions} sessions, ${idleOf(status).length} idle, ${rows.length - waiting} of ${status.lanes} transfers, ${waiting} waiting, `
     + `${whole(status.ended)} ended, ${whole(status.failed_logins)} wrong passwords, ${whole(status.refused)} refused`;
   if (old !== null) remember(status, old, rows);
   else [past, unmet] = [[], new Map()];
@@ -434,6 +473,7 @@ function show(status, old) {
   for (const way of WAYS) drawChart(way, rows);
   drawPast(status);
   fillTransfers(rows);
+  fillIdle(status);
   byId("none").hidden = rows.length > 0;
   byId("key").hidden = rows.length === waiting;
 }

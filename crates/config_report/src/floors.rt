@@ -108,7 +108,7 @@ impl fmt::Display for Shortage<'_> {
 }
 
 fn short_of<'a>(limit: ShortRate<'a>, promised: u64, rate: u64) -> Option<Shortage<'a>>
-    ensures short { result ≡ short_of limit promised rate }
+    ensures short { result ≡ short_of limit.entry promised rate }
 {
     if fits(promised, rate) {
         None

@@ -49,14 +49,17 @@ takes_line server =
     ++ codes ", " ++ counted server.lanes (codes "transfer") (codes "transfers")
     ++ codes " at once" ++ 10 ∷ []
 
+abbrev pub from_any_line : ℕ → List ℕ
+from_any_line most =
+    codes "takes " ++ counted most (codes "connection") (codes "connections")
+    ++ codes " from one address" ++ 10 ∷ []
+
 -- connections from one address; 0 is no limit
 abbrev pub from_one_line : ServerTable → List ℕ
 from_one_line server =
     if nat_eq server.max_cons_per_address 0
     then codes "takes any number of connections from one address" ++ 10 ∷ []
-    else codes "takes "
-    ++ counted server.max_cons_per_address (codes "connection") (codes "connections")
-    ++ codes " from one address" ++ 10 ∷ []
+    else from_any_line server.max_cons_per_address
 
 abbrev pub attempts_line : ServerTable → List ℕ
 attempts_line server =

@@ -46,14 +46,19 @@ abbrev pub promised_both : List SeenUser → ℕ
 promised_both rows = min (promised_down rows + promised_up rows) most_promised
 
 -- a session of each user cannot have its guarantees at once, within the rates of the server
+abbrev pub way_warnings : ServerTable → ℕ → ℕ → List Warning
+way_warnings server down up =
+    (if fits down server.down_rate then [] else PromisedDown down server.down_rate ∷ [])
+    ++ (if fits up server.up_rate then [] else PromisedUp up server.up_rate ∷ [])
+
+abbrev pub both_warnings : ServerTable → ℕ → List Warning
+both_warnings server both =
+    if fits both server.rate then [] else PromisedBoth both server.rate ∷ []
+
 abbrev pub promise_warnings : ServerTable → List SeenUser → List Warning
 promise_warnings server rows =
-    (if fits (promised_down rows) server.down_rate then []
-    else PromisedDown (promised_down rows) server.down_rate ∷ [])
-    ++ (if fits (promised_up rows) server.up_rate then []
-    else PromisedUp (promised_up rows) server.up_rate ∷ [])
-    ++ (if fits (promised_both rows) server.rate then []
-    else PromisedBoth (promised_both rows) server.rate ∷ [])
+    way_warnings server (promised_down rows) (promised_up rows)
+    ++ both_warnings server (promised_both rows)
 
 -- ---- of users
 

@@ -53,14 +53,20 @@ root_warnings root =
     (if is_nearly_memory root.now then NearlyMemory root ∷ [] else [])
     ++ (if is_relative root.now then RelativeRoot root ∷ [] else [])
 
-abbrev pub port_warnings : ServerTable → List Warning
-port_warnings server =
+abbrev pub own_port_warnings : ServerTable → List Warning
+own_port_warnings server =
     (if is_unreported server then NoAddress ∷ [] else [])
     ++ (if is_among_own server then OwnPorts server.passive_first server.passive_last ∷ [] else [])
-    ++ (if is_among_passive server
+
+abbrev pub passive_port_warnings : ServerTable → List Warning
+passive_port_warnings server =
+    (if is_among_passive server
     then PortAmongPassive server.port server.passive_first server.passive_last ∷ [] else [])
     ++ (if has_few_ports server
     then FewPorts server.passive_first server.passive_last server.max_cons ∷ [] else [])
+
+abbrev pub port_warnings : ServerTable → List Warning
+port_warnings server = own_port_warnings server ++ passive_port_warnings server
 
 -- ---- of a user's password and letters
 

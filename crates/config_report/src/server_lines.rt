@@ -3,7 +3,7 @@
 ghost use Rattle.std.specs.Prelude.{◌≡◌, ◌++◌, OnOk, string_bytes};
 ghost use Rattle.std.specs.Net.Addr.{ipv4_octets};
 ghost use Rattle.std.specs.Net.Text.{ipv4_text};
-ghost use Rattle.config_report.specs.ServerLines.{attempts_line, bound_lines, connects_line, contents_text, from_one_line, greets_line, listens_line, lowest_port, memory_text, network_lines, offer_lines, port_text, ports_text, root_text, server_lines, serves_line, sessions_line, takes_line, reports_line, reported_text, whom_text};
+ghost use Rattle.config_report.specs.ServerLines.{attempts_line, bound_lines, connects_line, contents_text, from_any_line, from_one_line, greets_line, listens_line, lowest_port, memory_text, network_lines, offer_lines, port_text, ports_text, root_text, server_lines, serves_line, sessions_line, takes_line, reports_line, reported_text, whom_text};
 
 use crate::counted::Counted;
 use crate::warnings::{is_unreported, reported_address};
@@ -89,6 +89,14 @@ fn write_takes(text: &mut String, server: &ServerTable) -> Result<(), AllocError
     writeln!(text, "takes {connections}, {lanes} at once")
 }
 
+fn write_from_any(text: &mut String, most: u64) -> Result<(), AllocError>
+    ensures line { OnOk result
+        (string_bytes text.new ≡ string_bytes text.old ++ from_any_line most) }
+{
+    let connections = Counted(most, "connection", "connections");
+    writeln!(text, "takes {connections} from one address")
+}
+
 fn write_from_one(text: &mut String, server: &ServerTable) -> Result<(), AllocError>
     ensures line { OnOk result
         (string_bytes text.new ≡ string_bytes text.old ++ from_one_line server.now) }
@@ -97,8 +105,7 @@ fn write_from_one(text: &mut String, server: &ServerTable) -> Result<(), AllocEr
     if most == 0 {
         writeln!(text, "takes any number of connections from one address")
     } else {
-        let connections = Counted(u64::from(most), "connection", "connections");
-        writeln!(text, "takes {connections} from one address")
+        write_from_any(text, u64::from(most))
     }
 }
 

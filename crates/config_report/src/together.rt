@@ -2,7 +2,7 @@
 
 ghost use Rattle.std.specs.Prelude.{◌≡◌, ◌++◌, OnOk};
 ghost use Rattle.std.specs.List.{list_any};
-ghost use Rattle.config_report.specs.Together.{all_warnings, has_few_lanes, has_guarantee, is_among_passive, is_blank_at_an_end, lane_warnings, may_wait, name_warnings, nobody_warnings, promised_down, promised_up, promise_warnings};
+ghost use Rattle.config_report.specs.Together.{all_warnings, has_few_lanes, has_guarantee, is_among_passive, is_blank_at_an_end, lane_warnings, may_wait, name_warnings, nobody_warnings, promised_down, promised_up, promise_warnings, way_warnings, both_warnings};
 
 use crate::floors::{fits, has_floor};
 use crate::seen::SeenUser;
@@ -91,18 +91,16 @@ fn warn_of_lanes(
     Ok(())
 }
 
-/// Adds the warnings of guarantees that a session of each user cannot have at once, within the rates of the server.
-fn warn_of_promises(
+/// Adds the warnings of guarantees one way, of which these are the sums.
+fn warn_of_ways(
     found: &mut Vec<Warning>,
     server: &ServerTable,
-    rows: &[SeenUser],
+    down: u64,
+    up: u64,
 ) -> Result<(), AllocError>
     ensures warnings { OnOk result
-        (found.new.items ≡ found.old.items ++ promise_warnings server.now rows.now) }
+        (found.new.items ≡ found.old.items ++ way_warnings server.now down up) }
 {
-    let down = promised_down(rows);
-    let up = promised_up(rows);
-    let both = down.saturating_add(up);
     if !fits(down, server.down_rate) {
         found.push(Warning::PromisedDown {
             promised: down,
@@ -115,12 +113,36 @@ fn warn_of_promises(
             rate: server.up_rate,
         })?;
     }
+    Ok(())
+}
+
+/// Adds the warning of guarantees both ways together, of which this is the sum.
+fn warn_of_both(found: &mut Vec<Warning>, server: &ServerTable, both: u64) -> Result<(), AllocError>
+    ensures warnings { OnOk result
+        (found.new.items ≡ found.old.items ++ both_warnings server.now both) }
+{
     if !fits(both, server.rate) {
         found.push(Warning::PromisedBoth {
             promised: both,
             rate: server.rate,
         })?;
     }
+    Ok(())
+}
+
+/// Adds the warnings of guarantees that a session of each user cannot have at once, within the rates of the server.
+fn warn_of_promises(
+    found: &mut Vec<Warning>,
+    server: &ServerTable,
+    rows: &[SeenUser],
+) -> Result<(), AllocError>
+    ensures warnings { OnOk result
+        (found.new.items ≡ found.old.items ++ promise_warnings server.now rows.now) }
+{
+    let down = promised_down(rows);
+    let up = promised_up(rows);
+    warn_of_ways(found, server, down, up)?;
+    warn_of_both(found, server, down.saturating_add(up))?;
     Ok(())
 }
 

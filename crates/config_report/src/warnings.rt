@@ -4,7 +4,7 @@ ghost use Rattle.std.specs.Prelude.{◌≡◌, ◌++◌, IfOk, OnOk};
 ghost use Rattle.server_config.specs.Settings.{reported_address};
 ghost use Rattle.std.specs.List.{flat_map, list_any};
 ghost use Rattle.config_report.specs.Together.{all_warnings, name_warnings};
-ghost use Rattle.config_report.specs.Warnings.{access_warnings, file_warnings, floor_warnings, has_few_ports, has_word, is_among_own, is_open, is_public, is_unlisted, is_unreported, lacks_home, port_warnings, root_warnings, server_warnings, sight_warnings, user_warnings, warnings};
+ghost use Rattle.config_report.specs.Warnings.{access_warnings, file_warnings, floor_warnings, has_few_ports, has_word, is_among_own, is_open, is_public, is_unlisted, is_unreported, lacks_home, port_warnings, own_port_warnings, passive_port_warnings, root_warnings, server_warnings, sight_warnings, user_warnings, warnings};
 
 use crate::floors::{first_shortage, second_shortage};
 use crate::letters::may_browse;
@@ -154,10 +154,13 @@ fn warn_of_file(
     Ok(())
 }
 
-/// Adds the warnings of the address and the ports.
-fn warn_of_ports<'a>(found: &mut Vec<Warning<'a>>, server: &ServerTable) -> Result<(), AllocError>
+/// Adds the warnings of the address, and of passive ports that are the machine's own.
+fn warn_of_own_ports<'a>(
+    found: &mut Vec<Warning<'a>>,
+    server: &ServerTable,
+) -> Result<(), AllocError>
     ensures warnings { OnOk result
-        (found.new.items ≡ found.old.items ++ port_warnings server.now) }
+        (found.new.items ≡ found.old.items ++ own_port_warnings server.now) }
 {
     let (first, last) = (server.passive_first, server.passive_last);
     if is_unreported(server) {
@@ -166,6 +169,18 @@ fn warn_of_ports<'a>(found: &mut Vec<Warning<'a>>, server: &ServerTable) -> Resu
     if is_among_own(server) {
         found.push(Warning::OwnPorts { first, last })?;
     }
+    Ok(())
+}
+
+/// Adds the warnings of passive ports that are one for control connections, or too few.
+fn warn_of_passive_ports<'a>(
+    found: &mut Vec<Warning<'a>>,
+    server: &ServerTable,
+) -> Result<(), AllocError>
+    ensures warnings { OnOk result
+        (found.new.items ≡ found.old.items ++ passive_port_warnings server.now) }
+{
+    let (first, last) = (server.passive_first, server.passive_last);
     if is_among_passive(server) {
         found.push(Warning::PortAmongPassive {
             port: server.port,
@@ -180,6 +195,16 @@ fn warn_of_ports<'a>(found: &mut Vec<Warning<'a>>, server: &ServerTable) -> Resu
             connections: server.max_cons,
         })?;
     }
+    Ok(())
+}
+
+/// Adds the warnings of the address and the ports.
+fn warn_of_ports<'a>(found: &mut Vec<Warning<'a>>, server: &ServerTable) -> Result<(), AllocError>
+    ensures warnings { OnOk result
+        (found.new.items ≡ found.old.items ++ port_warnings server.now) }
+{
+    warn_of_own_ports(found, server)?;
+    warn_of_passive_ports(found, server)?;
     Ok(())
 }
 

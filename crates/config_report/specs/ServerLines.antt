@@ -51,8 +51,8 @@ takes_line server =
 
 abbrev pub from_any_line : ℕ → List ℕ
 from_any_line most =
-    codes "takes " ++ counted most (codes "connection") (codes "connections")
-    ++ codes " from one address" ++ 10 ∷ []
+    codes "takes " ++ (counted most (codes "connection") (codes "connections")
+    ++ (codes " from one address" ++ 10 ∷ []))
 
 -- connections from one address; 0 is no limit
 abbrev pub from_one_line : ServerTable → List ℕ

@@ -1,6 +1,6 @@
 //! Options of a server that have no effect.
 
-ghost use Rattle.std.specs.Prelude.{◌≡◌, ◌×◌, ◌↔◌, IsTrue, true};
+ghost use Rattle.std.specs.Prelude.{◌≡◌, ◌↔◌, IsTrue, true};
 ghost use Rattle.ftpd_program.specs.IdleOptions.{idle_sessions, idle_sync};
 ghost use Rattle.sheets_program.specs.Runs.{IsInput};
 

@@ -47,10 +47,21 @@ class Trial:
         try:
             until(lambda: read(told).count("attached") >= len(threads or [1]) or process.poll() is not None, "strace")
             want(process.poll() is None, read(told))
+            # (it has said so before it holds the threads: what they call until then is refused to nobody)
+            with contextlib.suppress(Refused):
+                until(lambda: self.is_armed(process, threads), "threads that are held", 100)
             yield
         finally:
             process.send_signal(signal.SIGTERM)
             process.wait()
+
+    def is_armed(self, tracer, threads):
+        """Whether strace and all threads that it is attached to sleep, by proc(5): it has had each of them go on."""
+        tasks = f"/proc/{self.server.process.pid}/task"
+        with contextlib.suppress(FileNotFoundError):
+            told = [read(f"/proc/{tracer.pid}/stat"), *(read(f"{tasks}/{it}/stat") for it in threads or os.listdir(tasks))]
+            return all(it.rpartition(")")[2].split()[0] == "S" for it in told)
+        return False
 
     def made(self):
         """The number of calls that were refused."""

@@ -180,8 +180,13 @@ class House:
         """What a status shows of the limits, and of each busy session by its user."""
         server = self.taken["server"]
         line = {shown: server.get(key, 0) or None for shown, key in (("both", "rate"), ("down", "down_rate"), ("up", "up_rate"))}
-        groups = [{"name": name, **{way: row.get(f"{way}_rate", 0) or None for way in WAYS}} for name, row in sorted(groups_of(self.taken).items())]
+        groups = [{"name": name, **{way: row.get(f"{way}_rate", 0) or None for way in WAYS}, **self.guaranteed_in(name)} for name, row in sorted(groups_of(self.taken).items())]
         return {"line": line, "groups": groups, "users": len(users_of(self.taken)), "max_sessions": self.max_cons()}
+
+    def guaranteed_in(self, group):
+        """What is guaranteed in all, of each direction, to those inside whose group this is."""
+        rows = [users_of(self.taken).get(it.name, {}) for it in self.inside if self.past[it.name].get("group") == group]
+        return {f"guaranteed_{way}": sum(it.get(f"session_{way}_floor", 0) for it in rows) or None for way in WAYS}
 
     def charged(self, session):
         """What a status shows of a session's transfer: those who are taken out keep their rates, and no guarantee."""

@@ -164,9 +164,28 @@ def a_time_without_a_drain_file():
         server.ended()
 
 
+def options_without_effect():
+    """A configuration from standard input cannot be read again; what has no effect with a configuration is noted, and nothing else is."""
+    server = Server(words=["--reload-file", "reload"])
+    wanted = "--reload-file has no effect with a configuration from standard input, which is read once: state a file, or leave it out\nftpd: ReloadFile\n"
+    for name in ("-", "/dev/stdin"):
+        same(server.run(config=name), (1, "", wanted), f"the end of a configuration from {name}")
+    server.room.cleanup()
+    notes = ["--sync has no effect on a store in memory", "--user-sessions 64 has no effect: max_cons is 64"]
+    with Server(sessions=0, stop=True, words=["--sync", "--user-sessions", "64"]) as server:
+        server.stop()
+        server.ended()
+        same([note for note in notes if f" {note}\n" in server.all_noted()], notes, "the notes")
+    with Server(sessions=0, stop=True, root="folder", words=["--sync", "--user-sessions", "63"]) as server:
+        server.stop()
+        server.ended()
+        want("no effect" not in server.all_noted(), server.all_noted())
+
+
 ROWS = [
     transfers_have_their_end,
     a_client_that_waits_has_its_transfer,
+    options_without_effect,
     lines_sent_ahead_begin_nothing,
     a_drain_of_nobody,
     a_drain_that_takes_too_long,

@@ -8,7 +8,7 @@ import os
 import socket
 import time
 
-from serving_kit import Client, Refused, Server, same, until, want, wait_for
+from serving_kit import Client, Refused, Server, in_time, same, until, wait_for, want
 
 # More octets than the sockets between a server and a client hold.
 MUCH = 200_000_000
@@ -21,10 +21,9 @@ def promptly(what):
     """Wants that something is done within the bound."""
     begun = time.monotonic()
     yield
-    took = time.monotonic() - begun
     if os.environ.get("TIMES"):
-        print(f"{what}: {1000 * took:.0f} ms")
-    want(took < PROMPT, f"{what} took {took:.1f} seconds")
+        print(f"{what}: {1000 * (time.monotonic() - begun):.0f} ms")
+    in_time(begun, PROMPT, what)
 
 
 @contextlib.contextmanager

@@ -25,8 +25,8 @@ SETTLED = re.compile(r"ready\nsettled issued (\d+) moved (\d+) back (\d+)\n")
 WARNING = re.compile(r"^\[WARN \] \S+Z configuration: (.*)\n", re.MULTILINE)
 # The head of a note: the time, the peer's address, and the number of the session where it is admitted.
 STAMP = re.compile(r"\[(?:INFO |WARN |DEBUG)\] \d{4}-\d\d-\d\dT\d\d:\d\d:\d\dZ (127\.0\.0\.\d+ (#\d+ )?)")
-# The user, the octets and the seconds of a transfer.
-AMOUNT = re.compile(r': user "[^"]*", \d+ octets, \d+\.\d{3} s')
+# The user, the octets and the seconds of a transfer, and what held it back if a look of the status met it.
+AMOUNT = re.compile(r': user "[^"]*", \d+ octets, \d+\.\d{3} s(?:, held by [^:]* %)?(?:, guarantee of \d+ not met for \d+ s)?')
 # The note of a listing.
 LISTED = re.compile(r"(127\.0\.0\.\d+ #\d+ )?(not )?listed\b")
 
@@ -60,6 +60,10 @@ class Refused(Exception):
     """What was wanted did not happen."""
 
 
+class Late(Refused):
+    """It happened later, or went more slowly, than the pages say: on a busy machine the row is tried once more."""
+
+
 def want(is_so, what):
     if not is_so:
         raise Refused(what)
@@ -67,6 +71,28 @@ def want(is_so, what):
 
 def same(found, wanted, what):
     want(found == wanted, f"{what}: {found!r}, wanted {wanted!r}")
+
+
+# How many times as long a row may take in this thread: more than once only if it is tried once more on a busy machine.
+SLACK = threading.local()
+
+
+def slack():
+    return getattr(SLACK, "times", 1)
+
+
+def in_time(begun, seconds, what):
+    """Wants that at most these seconds have passed since a moment: twice those that the pages promise."""
+    taken = time.monotonic() - begun
+    if taken > seconds * slack():
+        raise Late(f"{what}: {taken:.1f} seconds, and not {seconds}")
+
+
+def near(found, wanted, most, what):
+    """Wants a number that is at most so far from what is wanted. Fewer octets than a rate gives may be the machine's fault, more are not."""
+    want(found <= wanted + most, f"{what}: {found}, wanted {wanted}")
+    if found < (wanted - most) / slack():
+        raise Late(f"{what}: {found}, wanted {wanted}")
 
 
 def is_unread(data):
@@ -196,12 +222,13 @@ class Server:
         want(self.process.poll() is None, f"it ended at once: {self.noted()}")
         return self
 
-    def run(self, stdout=subprocess.PIPE):
-        """Its status and outputs, where it is to end by itself."""
+    def run(self, stdout=subprocess.PIPE, config="ftpd.toml"):
+        """Its status and outputs, where it is to end by itself; by a configuration that may be its standard input."""
         if not os.path.exists(f"{self.place}/ftpd.toml"):
             self.configure()
-        words = [SERVER, "serve", "ftpd.toml", *self.words]
-        found = subprocess.run(words, cwd=self.place, stdout=stdout, stderr=subprocess.PIPE, env={}, timeout=SECONDS)
+        words = [SERVER, "serve", config, *self.words]
+        with open(f"{self.place}/ftpd.toml", "rb") as text:
+            found = subprocess.run(words, cwd=self.place, stdin=text, stdout=stdout, stderr=subprocess.PIPE, env={}, timeout=SECONDS)
         return found.returncode, found.stdout if found.stdout is None else found.stdout.decode(), WARNING.sub("", found.stderr.decode())
 
     def told(self):

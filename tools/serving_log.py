@@ -9,7 +9,7 @@ import subprocess
 import time
 
 import xferlog_reading
-from serving_kit import PORTS_TO_HAND_OUT, SERVER, TOP, Client, Data, Server, same, until, want
+from serving_kit import PORTS_TO_HAND_OUT, SERVER, TOP, Client, Data, Server, in_time, same, until, want
 
 COUNT = re.compile(r"\[WARN \] lines dropped: (\d+)")
 # A name that is noted in some 1,200 octets, so that a pipe is full after few lines.
@@ -101,7 +101,7 @@ def a_reader_that_stops_for_good():
         begun = time.monotonic()
         server.stop()
         server.ended()
-        want(time.monotonic() - begun < 5, f"it ended after {time.monotonic() - begun:.1f} seconds")
+        in_time(begun, 4, "the end")
 
 
 def a_reader_that_is_gone():
@@ -284,6 +284,8 @@ def warnings_of_a_configuration():
         "user  carol: the name begins or ends with a blank",
     ]
     with Server(text=head + users, port=first + 4, stop=True) as server:
+        # (a thread of its own writes them)
+        until(lambda: len(server.warned()) == len(wanted), "the notes")
         same(server.warned(), wanted, "the notes")
         found = subprocess.run([SERVER, "check-config", "ftpd.toml"], cwd=server.place, capture_output=True, text=True)
         same([it.removeprefix("warning: ") for it in found.stdout.splitlines() if it.startswith("warning: ")], wanted, "the warnings of check-config")

@@ -4,13 +4,13 @@ import select
 import socket
 import time
 
-from serving_kit import SECONDS, Client, Server, same, want
+from serving_kit import SECONDS, Client, Server, in_time, same, want
 
 # Where the kernel's account of a connection has the number of segments with data that came (struct tcp_info, tcpi_data_segs_in).
 SEGMENTS_IN = 152
 MUCH = 24_000_000
-# No machine takes so long for what has no rate.
-SOON = 15
+# A bound in seconds of what no rate holds back, and takes some milliseconds.
+SOON = 4
 LINE = 1_000_000
 # The octets that an upload sends at a time, and the seconds between two times: 100,000 a second.
 PIECE, PAUSE = 1_400, 0.014
@@ -30,7 +30,7 @@ def read_until(datas, octets):
     had = {it.socket: 0 for it in datas}
     begun = time.monotonic()
     while sum(had.values()) < octets:
-        want(time.monotonic() - begun < SECONDS, f"{sum(had.values())} of {octets} octets have come")
+        in_time(begun, SECONDS, f"{sum(had.values())} of {octets} octets have come")
         for it in select.select([*had], [], [], 1)[0]:
             had[it] += len(it.recv(65_536))
     return [*had.values()]
@@ -137,11 +137,11 @@ def an_upload_at_a_low_rate_is_aborted():
             data.socket.send(bytes(MUCH))
         begun = time.monotonic()
         clients[0].says("ABOR", "426 Transfer aborted", "226 Abort done")
-        want(time.monotonic() - begun < SOON, f"the abort took {time.monotonic() - begun:.1f} seconds")
+        in_time(begun, SOON, "the abort")
         begun = time.monotonic()
         server.stop()
         issued, moved, back = server.ended()
-        want(time.monotonic() - begun < SOON, f"the stop took {time.monotonic() - begun:.1f} seconds")
+        in_time(begun, SOON, "the stop")
         same(issued, moved + back, "octets issued")
         for it in [*datas, *clients]:
             it.close()
@@ -155,7 +155,7 @@ def an_abort_at_a_rate_that_is_used_up():
         for client in clients:
             client.says("ABOR", "426 Transfer aborted", "226 Abort done")
             client.says("NOOP", "200 OK")
-        want(time.monotonic() - begun < SOON / 2, f"the aborts took {time.monotonic() - begun:.1f} seconds")
+        in_time(begun, SOON, "the aborts")
         for it in datas:
             it.close()
         datas = [client.passive() for client in clients]
@@ -165,7 +165,7 @@ def an_abort_at_a_rate_that_is_used_up():
         begun = time.monotonic()
         server.stop()
         server.ended()
-        want(time.monotonic() - begun < SOON, f"the stop took {time.monotonic() - begun:.1f} seconds")
+        in_time(begun, SOON, "the stop")
         for it in [*datas, *clients]:
             it.close()
 

@@ -8,7 +8,7 @@ import threading
 import time
 
 from serving_drain import drained
-from serving_kit import SECONDS, SERVER, Client, Server, same, until, want
+from serving_kit import SECONDS, SERVER, Client, Server, near, same, until, want
 from serving_limits import is_served
 from serving_status import next_status, row_of
 
@@ -71,21 +71,21 @@ def changes_noted(server):
 
 def a_rate_is_halved_and_a_user_added():
     """Twelve downloads run on under half the rate, and the new user logs in. What the reload changes is noted, and the second time that it changes nothing more."""
-    with served(stop=True) as server:
+    rate = 4 * RATE
+    with served(rate=rate, stop=True) as server:
         pairs = begun(server, 12)
         moved_in(pairs, 1.5)
-        text = text_of(server, RATE // 2, {**USERS, "carol": ""})
+        text = text_of(server, rate // 2, {**USERS, "carol": ""})
         server.reloaded(text)
         until(lambda: len(changes_noted(server)) == 3, "the notes of what has changed")
         changed = changes_noted(server)
         same(changed[0], "user carol is added", "the first change")
         want(changed[1].startswith("octets a second "), changed)
-        same(changed[2].split(), ["server", "rate", "2000000", "1000000", "16.00", "8.00"], "the rate, and the same in Mbit/s")
+        same(changed[2].split(), ["server", "rate", "8000000", "4000000", "64.00", "32.00"], "the rate, and the same in Mbit/s")
         server.reloaded(text)
         same(changes_noted(server), changed, "the lines of changes")
         moved_in(pairs, 1)
-        had = moved_in(pairs, 3)
-        want(abs(had - 3 * RATE // 2) < 0.03 * 3 * RATE / 2 + 65_536, f"{had} octets in three seconds under {RATE // 2}")
+        near(moved_in(pairs, 3), 3 * rate // 2, 0.03 * 3 * rate / 2 + 65_536, f"octets in three seconds under {rate // 2}")
         carol = Client(server, "carol")
         carol.quit()
         closed(pairs)
@@ -303,11 +303,11 @@ def who_is_charged_after_reloads():
                 after, seconds, had = next_status(server), time.monotonic() - begun_at, [last - first for first, last in zip(had, counts)]
                 looked = (after["micros"] - before["micros"]) / 1e6
                 for user, way, count, rate in zip(("ann", "bob"), ("down", "up"), had, wanted):
-                    want(abs(count - seconds * rate) < 0.1 * seconds * rate + 262_144, f"{user}: {count} octets in {seconds} seconds at {rate}")
+                    near(count, seconds * rate, 0.1 * seconds * rate + 262_144, f"octets of {user} in {seconds:.1f} seconds at {rate}")
                     first, last = row_of(before, user), row_of(after, user)
                     same(last["direction"], way, f"the way of {user}")
                     moved = last["moved"] - first["moved"]
-                    want(abs(moved - looked * rate) < 0.1 * looked * rate + 65_536, f"{user}: {moved} octets in {looked} seconds by the status, at {rate}")
+                    near(moved, looked * rate, 0.1 * looked * rate + 65_536, f"octets of {user} by the status in {looked:.1f} seconds at {rate}")
         for it in (down, up):
             it.close()
         for it in (ann, bob):

@@ -845,6 +845,8 @@ def warnings_of_the_machine_are_noted():
     with server:
         public = "everybody on this machine may read the passwords of this file; make it readable by its owner and group alone"
         missed = [f"{home}, the home of user {name}, is no directory" for name, home in (("bob", "/b"), ("cem", "/f"), ("dan", "/l"))]
+        # (a thread of its own writes them)
+        until(lambda: len(server.warned()) == 1 + len(missed), "the warnings")
         same(server.warned(), [public, *missed], "the warnings")
         Client(server).quit()
         server.ended()

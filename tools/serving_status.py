@@ -8,7 +8,7 @@ import subprocess
 import threading
 import time
 
-from serving_kit import PORTS_TO_HAND_OUT, SERVER, Client, Server, same, until, want
+from serving_kit import PORTS_TO_HAND_OUT, SERVER, Client, Server, in_time, same, until, want
 
 # More octets than a row moves.
 MUCH = 200_000_000
@@ -88,10 +88,11 @@ def reader(data, seconds):
 
 def a_status_file():
     """Each second a whole text replaces the one before: what is connected, who transfers what, and what has ended."""
-    with watched(LINE) as server:
+    rates = "down_rate = 2_600_000\nsession_down_rate = 2_500_000\nsession_down_floor = 100_000\nup_rate = 2_400_000\nsession_up_rate = 2_300_000\n"
+    with watched(f"{LINE}\ndown_rate = 2_900_000\nup_rate = 2_800_000", rates=rates) as server:
         status = next_status(server)
         same((status["version"], status["unit"], status["sessions"], status["transfers"]), (1, "octets", 0, []), "the first status")
-        same(status["line"], {"both": 3_000_000, "down": None, "up": None}, "its rates")
+        same(status["line"], {"both": 3_000_000, "down": 2_900_000, "up": 2_800_000}, "its rates")
         same(os.stat(f"{server.place}/status.json").st_mode & 0o777, 0o640, "its mode")
         client = Client(server)
         same(client.retrieve("f"), b"a\nb", "a file")
@@ -101,6 +102,7 @@ def a_status_file():
         status = next_status(server)
         row = row_of(status, "ann")
         same((row["path"], row["size"], row["direction"], row["peer"], row["waiting"]), ("/big", MUCH, "down", "127.0.0.1", False), "the row")
+        same((row["guaranteed"], row["session_rate"], row["user_rate"]), (100_000, 2_500_000, 2_600_000), "its guarantee and rates")
         want(0 < row["moved"] <= row["granted"], f"granted {row['granted']}, moved {row['moved']}")
         same((status["ended"], status["ended_moved"], status["sessions"]), (1, 3, 1), "what has ended")
         is_balanced(status)
@@ -108,6 +110,10 @@ def a_status_file():
         client.says(None, "426 ...")
         status = next_status(server)
         same((status["ended"], status["transfers"]), (2, []), "after the end")
+        same((status["endings"]["whole"], status["endings"]["lost"]), (1, 1), "how they ended")
+        account = status["accounts"][0]
+        same((account["user"], account["group"], account["granted_up"], len(status["accounts"])), ("ann", None, 0, 1), "the account")
+        want(row["granted"] <= account["granted_down"] <= status["issued"], f"{account} of {status['issued']}, and {row['granted']} before")
         is_balanced(status)
         client.says("USER bob", "331 Password required")
         client.says("PASS wrong", "530 ...")
@@ -355,7 +361,7 @@ def a_status_page():
                     peer.sendall(octets)
             begun = time.monotonic()
             want(request(port, get("/metrics"), 60)[0].startswith("HTTP/1.1 200 "), "behind peers who do not end")
-            want(time.monotonic() - begun < 30, f"it took {time.monotonic() - begun:.1f} seconds")
+            in_time(begun, 12, "the answer behind three peers of two seconds each")
         with Client(server).socket:
             pass
         server.stop()
@@ -452,4 +458,34 @@ def a_table_of_the_status():
         server.ended()
 
 
-ROWS = [a_status_file, what_holds_transfers_back, the_division_is_shown, a_status_page, a_status_that_cannot_be_written, a_status_whose_folder_goes, a_path_of_another_file, a_table_of_the_status]
+def who_is_inside():
+    """A session that transfers nothing is shown, with what is guaranteed to it, until it ends."""
+    with held_server() as server:
+        nobody, dan, cem = Client(server, None), Client(server, "dan", "d"), Client(server, "cem", "c")
+        nobody.says(None, "220 Ready")
+        status = next_status(server)
+        inside = {it["user"]: it for it in status["sessions_now"]}
+        same((len(status["sessions_now"]), sorted(inside, key=str)), (3, [None, "cem", "dan"]), "who is inside")
+        same((inside["dan"]["guaranteed_down"], inside["dan"]["guaranteed_up"], inside["cem"]["group"]), (500_000, None, "two"), "guarantee and group")
+        same((status["guaranteed_down"], status["groups"][0]["guaranteed_down"], status["logins"]), (500_000, None, 2), "in all")
+        want(all(it["begun"] <= it["active"] < status["micros"] for it in status["sessions_now"]), f"idle: {status['sessions_now']}")
+        shown = subprocess.run([SERVER, "top", "--once", f"{server.place}/status.json"], capture_output=True, text=True, timeout=60).stdout
+        want("\n3 idle   guaranteed down 500.00K" in shown, f"the table: {shown}")
+        want(re.search(r"\n#\d+ +dan +127\.0\.0\.1 +0:00:\d\d +0:00:\d\d +500\.00K +-\n", shown), f"the table: {shown}")
+        data = cem.passive(room=65536)
+        cem.says("RETR big", "150 Opening data connection")
+        status = next_status(server)
+        active = next(it for it in status["sessions_now"] if it["user"] == "cem")
+        same(active["active"], status["micros"], "who transfers is not idle")
+        dan.says("REIN", "220 ...")
+        same(next_status(server)["guaranteed_down"], None, "who has left holds nothing")
+        dan.quit()
+        until(lambda: len(status_of(server)["sessions_now"]) == 2, "two sessions")
+        for it in (data, cem, nobody):
+            it.close()
+        until(lambda: status_of(server)["sessions_now"] == [], "nobody inside")
+        server.stop()
+        server.ended()
+
+
+ROWS = [a_status_file, who_is_inside, what_holds_transfers_back, the_division_is_shown, a_status_page, a_status_that_cannot_be_written, a_status_whose_folder_goes, a_path_of_another_file, a_table_of_the_status]

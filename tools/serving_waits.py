@@ -15,7 +15,7 @@ import subprocess
 import threading
 import time
 
-from serving_kit import PORTS_TO_HAND_OUT, Client, Server, same, until, want
+from serving_kit import PORTS_TO_HAND_OUT, Client, Server, in_time, same, until, want
 
 # The time in which a server ends that waits for nobody: its clients are told, and each of its own threads has a second.
 PROMPT = 8
@@ -31,8 +31,7 @@ def ends(server, sign=Server.stop, tracer=None, status=0):
     begun = time.monotonic()
     sign(server)
     until(lambda: is_over(server), "the end of the process")
-    taken = time.monotonic() - begun
-    want(taken < PROMPT, f"it ended after {taken:.1f} seconds")
+    in_time(begun, PROMPT, "the end")
     if tracer:
         # (what is left of a thread that it holds goes with it)
         tracer.kill()
@@ -251,8 +250,8 @@ def what_the_end_waits_for():
             begun = time.monotonic()
             server.stop()
             until(lambda: "waits for 1 calls of the machine" in server.noted(), "the note")
-            taken = time.monotonic() - begun
-            want(9.5 < taken < 14, f"it was told after {taken:.1f} seconds")
+            want(time.monotonic() - begun > 9.5, f"it was told after {time.monotonic() - begun:.1f} seconds")
+            in_time(begun, 14, "the note")
             want(server.process.poll() is None, "it waits")
             until(lambda: status_of(server)["waits"] == 1, "the status has it")
         server.ended()
@@ -317,8 +316,7 @@ def a_page_with_silent_clients():
                 text = asked(port)
                 want(text.startswith(b"HTTP/1.1 200 OK\r\n"), text[:100])
                 want(re.search(rb"\r\ndate: [A-Z][a-z]{2}, \d\d [A-Z][a-z]{2} \d{4} \d\d:\d\d:\d\d GMT\r\n", text), text[:400])
-            taken = time.monotonic() - begun
-            want(taken < 2, f"five answers took {taken:.1f} seconds")
+            in_time(begun, 2, "five answers")
             ends(server)
 
 

@@ -1,18 +1,32 @@
--- Histories at the ends of a server.
-use Rattle.std.proofs.Common.{◌≡◌, ℕ, ◌+◌, Bool, true, false, ◌&&◌, ◌||◌, nat_eq, [], refl, ◌∙◌, subst, arith}
-use Rattle.std.proofs.lemmas.Bool.{false≢true}
+-- The rates of a server's rounds, and what they granted.
+use Rattle.std.proofs.Common.{◌≡◌, ℕ, ◌+◌, ◌≤◌, Bool, true, false, ◌||◌, List, [], ◌∷◌, refl, sym, subst, arith}
+use Rattle.std.specs.List.{list_all}
+use Rattle.std.proofs.lemmas.Bool.{and_parts, false≢true}
+use Rattle.line_rates.specs.declared.ask.Name.TheVariants.{Server}
 use Rattle.line_rates.specs.Rates.{Rates}
-use Rattle.paced_rounds.specs.Seconds.{HasKept}
+use Rattle.round_pace.specs.Stretches.{Stretch}
+use Rattle.paced_rounds.specs.Allowed.{AreAllowed}
+use Rattle.paced_rounds.specs.Spans.{HasRate}
 use Rattle.ftp_daemon.specs.SameRates.{may_hold, same_rates}
 use Rattle.ftp_daemon.proofs.Sameness.{rates_same, same_server}
 
--- nothing was granted
-pub none_kept : (allowed : Rates → Bool) (test : ℕ → Bool) (carried issued : ℕ) → issued ≡ carried → HasKept allowed test carried issued
-none_kept allowed test carried issued e = ([], record { seconds = λ n second bound within. omega arith; windows = tt }, refl, omega (arith, e))
+-- what was issued, by what was carried
+pub issued_by : (issued carried before granted : ℕ) → issued ≡ carried + granted → carried ≡ before → issued ≡ before + granted
+issued_by issued carried before granted e f = omega (arith, e, f)
 
--- nothing was carried
-pub kept_of : (allowed : Rates → Bool) (test : ℕ → Bool) (carried issued : ℕ) → carried ≡ 0 → HasKept allowed test carried issued → HasKept allowed test 0 issued
-kept_of allowed test carried issued e kept = subst (λ (n : ℕ). HasKept allowed test n issued) e kept
+pub issued_within : (issued carried before granted bound : ℕ) → issued ≡ carried + granted → carried ≡ before → granted ≤ bound → issued ≤ before + bound
+issued_within issued carried before granted bound e f h = omega (arith, e, f, h)
+
+-- rates of which each has one rate of the server
+pub has_rate : (allowed : Rates → Bool) (rate : ℕ) → ((rates : Rates) → allowed rates ≡ true → rates.server ≡ rate) → (ss : List Stretch) → AreAllowed allowed ss → HasRate Server rate ss
+has_rate allowed rate one [] are = tt
+has_rate allowed rate one (s ∷ ss) are =
+    let parts : (allowed s.rates ≡ true) × (list_all (λ (x : Stretch). allowed x.rates) ss ≡ true) = and_parts _ _ are in
+    (one s.rates parts.0, has_rate allowed rate one ss parts.1)
+
+-- the rates of no rounds
+pub none_allowed : (allowed : Rates → Bool) (ss : List Stretch) → ss ≡ [] → AreAllowed allowed ss
+none_allowed allowed ss none = subst (AreAllowed allowed) (sym none) refl
 
 -- the rates of the start are among those
 pub may_begin : (rates : Rates) (allows : Rates → Bool) → may_hold rates allows rates ≡ true

@@ -4,3 +4,4 @@ pub mod Descriptors
 pub mod Draining
 pub mod Reloading
 pub mod SameRates
+pub mod Unheld

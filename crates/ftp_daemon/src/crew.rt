@@ -3,8 +3,8 @@
 use crate::server::Server;
 use crate::watching::{OwnerSigns, watch, watch_end};
 use client_door::DoorBell;
-use lane_rounds::{RoundClock, keep_rounds, run_here, work_lane};
-use lent_parts::PartsName;
+use lane_rounds::{keep_rounds, run_here, work_lane};
+use lent_parts::{PartsName, RoundClock};
 use server_house::{House, OwnRuns, ServerHooks, ServerRuntime, ShutdownStage};
 use std::alloc::Global;
 use virtual_tree::Store;
@@ -29,7 +29,7 @@ pub(crate) trait Crew {
     fn end_lanes(&self);
 }
 
-impl<R, S, H, B, P> Crew for Server<R, S, H, B, P>
+impl<R, S, H, B, N, P> Crew for Server<R, S, H, B, N, P>
 where
     R: ServerRuntime + RoundClock,
     S: Store<Global>,
@@ -70,7 +70,7 @@ where
     }
 }
 
-impl<R, S, H, B, P> OwnRuns for Server<R, S, H, B, P>
+impl<R, S, H, B, N, P> OwnRuns for Server<R, S, H, B, N, P>
 where
     R: ServerRuntime + RoundClock,
     S: Store<Global>,
@@ -89,7 +89,7 @@ pub(crate) trait HasHouse<S: Store<Global>, H: Drop, B: PartsName> {
     fn house(&self) -> &House<S, H, B>;
 }
 
-impl<R, S, H, B, P> HasHouse<S, H, B> for Server<R, S, H, B, P>
+impl<R, S, H, B, N, P> HasHouse<S, H, B> for Server<R, S, H, B, N, P>
 where
     R: RoundClock,
     S: Store<Global>,

@@ -29,7 +29,7 @@ pub use client_patience::Patience;
 pub use ending_sessions::EndSign;
 pub use ftpd_program::{ScriptFault, ServeFault, run_script};
 pub use grant_certificate::Verdict;
-pub use lane_rounds::RoundClock;
+pub use lent_parts::{Moment, RoundClock};
 pub use opening::Service;
 pub use reloading::{Reload, ReloadFault, ReloadSign};
 pub use script_session::SessionFault;

@@ -1,6 +1,6 @@
 //! The parts that a server needs before it serves.
 
-ghost use Rattle.std.specs.Prelude.{◌≡◌, ◌+◌, ◌≤◌, [], true, IfOk, length, vec_capacity};
+ghost use Rattle.std.specs.Prelude.{◌≡◌, ◌+◌, ◌≤◌, [], IfErr, IfOk, length, vec_capacity};
 ghost use Rattle.lane_desk.specs.Open.{AreFresh};
 ghost use Rattle.desk_rule.specs.Lanes.{posted_in};
 ghost use Rattle.lane_desk.specs.Seats.{desk_id};
@@ -11,14 +11,16 @@ ghost use Rattle.passive_ports.specs.Connections.{none_admitted};
 ghost use Rattle.round_pace.specs.Earned.{tick_of};
 ghost use Rattle.round_pace.specs.Paced.{IsPacedFrom};
 ghost use Rattle.ftp_daemon.specs.Boards.{AreNewBoards, ArePassesOf};
+ghost use Rattle.ftp_daemon.specs.Unheld.{IsUnheld};
 
+use crate::settling::settle_unheld;
 use client_patience::Patience;
 use ftpd_program::ServeFault;
-use grant_ledger::{Book, SettledNumbers as Settled, Tally, settle};
+use grant_ledger::{Book, Tally};
 use lane_desk::{Desk, LaneSeat, RoundDesk, Worked, open_desk};
-use lane_rounds::RoundClock;
-use lent_parts::{LentPass, LentSeats, PartsName};
+use lent_parts::{LentPass, LentSeats, Moment, PartsName, RoundClock};
 use line_rates::Limits;
+use paced_rounds::Settlement;
 use passive_ports::{Admissions, ConnectionLimits, PoolFault, Registry, RestingPorts};
 use rate_floors::Floors;
 use round_cadence::Cadence;
@@ -142,7 +144,7 @@ fn admissions(alloc: Global, limits: ConnectionLimits) -> Result<Admissions, All
 }
 
 /// The parts of a server that are allocated beside its line. They cannot be dropped.
-pub(crate) struct Allocated<S: Store<Global>, B: PartsName> {
+pub(crate) struct Allocated<S: Store<Global>, B: PartsName, N> {
     pub(crate) own_stores: Vec<Mutex<S>>,
     pub(crate) arrivals: Vec<Mutex<Option<TcpStream>>>,
     pub(crate) floors: Floors,
@@ -155,13 +157,13 @@ pub(crate) struct Allocated<S: Store<Global>, B: PartsName> {
     pub(crate) pace: Pace,
     /// The beats of the pace's rows.
     pub(crate) cadence: Cadence,
-    /// The moment at which the pace was made, in microseconds.
-    pub(crate) begun: u64,
+    /// The moment at which the pace was made.
+    pub(crate) begun: Moment,
     /// The passes of sessions, and those of lanes.
     pub(crate) pass: LentPass<B, u32>,
     pub(crate) passes: Vec<LentPass<B, u32>>,
     /// Room for the seats of the lanes.
-    pub(crate) seats: LentSeats<B>,
+    pub(crate) seats: LentSeats<B, N>,
 }
 
 /// The passes of two boards that were just opened, as many of each.
@@ -224,7 +226,7 @@ fn lend_passes<B: PartsName>(
 }
 
 /// Allocates the parts beside the line of a server, with room for this many seats. The pace takes the limits.
-pub(crate) fn allocate<R, S, B>(
+pub(crate) fn allocate<R, S, B, N>(
     rt: &R,
     numbers: &ServerNumbers,
     limits: Limits,
@@ -232,14 +234,13 @@ pub(crate) fn allocate<R, S, B>(
     passes: NewPasses,
     seats: usize,
     user_sessions: u32,
-) -> Result<Allocated<S, B>, ServeFault>
+) -> Result<Allocated<S, B, N>, ServeFault>
 where
     R: RoundClock + AllocGlobal,
     S: Store<Global> + Drop,
     B: PartsName,
     requires passes { ArePassesOf B.first B.board passes }
-    ensures new { IfOk result (λ a. IsPacedFrom (tick_of a.begun) limits a.pace) }
-    ensures when { IfOk result (λ a. R.when a.begun ≡ true) }
+    ensures new { IfOk result (λ a. IsPacedFrom (tick_of a.begun.micros) limits a.pace) }
     ensures room { IfOk result (λ a. HasRoom seats a.seats) }
 {
     let alloc = rt.alloc();
@@ -255,7 +256,7 @@ where
     let lanes = new_lanes(alloc, usize::from(numbers.lanes))?;
     let cadence = new_cadence(alloc, &limits)?;
     let begun = rt.moment();
-    let pace = Pace::of(alloc, limits, begun)?;
+    let pace = Pace::of(alloc, limits, begun.micros())?;
     let mut lent = lend_passes::<B>(alloc, passes)?;
     let Some(pass) = lent.pop() else {
         return Err(ServeFault::NoThread);
@@ -279,32 +280,36 @@ where
     })
 }
 
-/// A desk that was just opened, with its book, and room to gather its seats. It cannot be dropped.
-pub(crate) struct Line {
-    pub(crate) desk: Desk<()>,
-    pub(crate) round: RoundDesk<()>,
-    pub(crate) seats: Vec<LaneSeat<()>>,
-    pub(crate) book: Book<()>,
-    pub(crate) tally: Tally<()>,
-    pub(crate) room: Vec<Worked<()>>,
+/// A desk that was just opened, with the book of a name, and room to gather its seats. It cannot be dropped.
+pub(crate) struct Line<N> {
+    pub(crate) desk: Desk<N>,
+    pub(crate) round: RoundDesk<N>,
+    pub(crate) seats: Vec<LaneSeat<N>>,
+    pub(crate) book: Book<N>,
+    pub(crate) tally: Tally<N>,
+    pub(crate) room: Vec<Worked<N>>,
     ghost unmoved: { IsRoundOf desk round × (back round ≡ []) },
     ghost begun: { AllAnswered (traces round) × (posted_in (traces round) ≡ 0) },
     ghost fresh: { AreFresh (desk_id desk) desk.lanes seats.items },
     ghost reported: { book.issued ≡ tally.moved + tally.back },
-    ghost unissued: { book.issued ≡ 0 },
     ghost empty: { (room.items ≡ []) × (length seats.items ≤ vec_capacity room) },
 }
 
-// Settles a book that issued nothing.
-fn close_book(book: Book<()>, tally: Tally<()>) -> Settled {
-    settle(book, tally).numbers()
-}
-
-/// Opens a desk of `lanes` lanes.
-pub(crate) fn open_line(alloc: Global, lanes: usize) -> Result<Line, ServeFault> {
-    let room = Vec::with_capacity(alloc, lanes)?;
-    let (book, tally) = Book::open(0);
-    match open_desk(alloc, lanes, &book) {
+/// Opens a desk of `lanes` lanes for a book. If that fails, the book is settled.
+pub(crate) fn open_line<R: RoundClock + AllocGlobal, N>(
+    rt: &R,
+    lanes: usize,
+    book: Book<N>,
+    tally: Tally<N>,
+) -> Result<Line<N>, (Settlement<N>, ServeFault)>
+    requires tally { book.issued ≡ tally.moved + tally.back }
+    ensures book { IfOk result (λ line. line.book ≡ book) }
+    ensures unheld { IfErr result (λ e. IsUnheld book.issued e.0) }
+{
+    let Ok(room) = Vec::with_capacity(rt.alloc(), lanes) else {
+        return Err((settle_unheld(rt, book, tally), ServeFault::Memory));
+    };
+    match open_desk(rt.alloc(), lanes, &book) {
         Ok((desk, round, seats)) => Ok(Line {
             desk,
             round,
@@ -314,9 +319,8 @@ pub(crate) fn open_line(alloc: Global, lanes: usize) -> Result<Line, ServeFault>
             room,
         }),
         Err(_) => {
-            close_book(book, tally);
             room.destroy_empty();
-            Err(ServeFault::Memory)
+            Err((settle_unheld(rt, book, tally), ServeFault::Memory))
         }
     }
 }

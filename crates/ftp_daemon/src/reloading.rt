@@ -54,11 +54,11 @@ pub enum ReloadFault {
 }
 
 // Puts limits in force, in all parts or in none.
-fn put_in_force<B: PartsName>(
+fn put_in_force<B: PartsName, N>(
     alloc: Global,
     registry: &mut Admissions,
     floors: &mut Floors,
-    rounds: &mut LentRounds<B>,
+    rounds: &mut LentRounds<B, N>,
     counts: ConnectionLimits,
     limits: Limits,
 ) -> Result<(), ReloadFault>
@@ -93,11 +93,11 @@ fn put_in_force<B: PartsName>(
 
 /// Takes new parts: from the next round on rates and guarantees are the new ones, and whoever logs in from now on meets
 /// the new users. After an error everything is as it was.
-pub(crate) fn take<R, S, H, B>(
+pub(crate) fn take<R, S, H, B, N>(
     rt: &R,
     alloc: Global,
     house: &House<S, H, B>,
-    engine: &Engine<B>,
+    engine: &Engine<B, N>,
     reload: Reload,
 ) -> Result<(), ReloadFault>
 where

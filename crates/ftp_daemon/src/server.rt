@@ -1,11 +1,11 @@
 //! One server, from its parts to their settlement.
 
 ghost use Rattle.std.specs.Prelude.{◌≡◌, ◌+◌, true, IfErr, length};
-ghost use Rattle.lane_rounds.specs.Clocks.{IsTestOf};
 ghost use Rattle.lent_parts.specs.Names.{IsBoardOf, IsNamed};
 ghost use Rattle.lent_parts.specs.Rooms.{HasRoom};
 ghost use Rattle.line_rates.specs.Rates.{Rates};
-ghost use Rattle.paced_rounds.specs.Seconds.{HasKept};
+ghost use Rattle.paced_rounds.specs.Allowed.{AreAllowed};
+ghost use Rattle.paced_rounds.specs.Settled.{rounds_of};
 ghost use Rattle.round_pace.specs.Earned.{tick_of};
 ghost use Rattle.round_pace.specs.Histories.{rates_of};
 ghost use Rattle.round_pace.specs.Paced.{IsPacedFrom};
@@ -20,11 +20,12 @@ use crate::settling::settle_unlent;
 use crate::watching::{OwnerSigns, wants_looks};
 use event_word::{EventCount, SharedEventCount};
 use ftpd_program::ServeFault;
-use grant_ledger::SettledNumbers as Settled;
 use lane_desk::Rounds;
-use lane_rounds::{Engine, RoundClock};
-use lent_parts::{LentBoard, LentDesk, LentPass, LentRounds, LentSeats, PartsName};
-use paced_rounds::PacedRounds;
+use lane_rounds::Engine;
+use lent_parts::{
+    LentBoard, LentDesk, LentPass, LentRounds, LentSeats, Moment, PartsName, RoundClock,
+};
+use paced_rounds::Settlement;
 use recorded_store::Recorder;
 use round_cadence::Cadence;
 use round_pace::{Pace, histories_keep_rates};
@@ -37,35 +38,40 @@ use text_io::TextWriter;
 use virtual_tree::Store;
 
 /// A server whose parts have a name: what its threads share. It cannot be dropped.
-pub(crate) struct Server<R: RoundClock, S: Store<Global>, H: Drop, B: PartsName, P: OwnerSigns> {
+pub(crate) struct Server<R, S, H, B, N, P>
+where
+    R: RoundClock,
+    S: Store<Global>,
+    H: Drop,
+    B: PartsName,
+    P: OwnerSigns,
+{
     pub(crate) rt: R,
     pub(crate) house: House<S, H, B>,
-    pub(crate) engine: Engine<B>,
+    pub(crate) engine: Engine<B, N>,
     /// The passes with which lanes take transfers: each takes one as it begins.
     pub(crate) passes: Mutex<Vec<LentPass<B, u32>>>,
     /// The signs of the owner, if there are any.
     pub(crate) signs: Option<P>,
     /// The lanes that have not ended.
     pub(crate) at_work: LanesAtWork,
-    ghost clock: { IsTestOf R.when B.when },
     ghost owner: { Permits P.allows B.rates },
 }
 
 // Lends a line: its seats, for which there is room, its desk, and its rounds at a pace that was made at this moment, with
 // the beats of its rows. If the server is watched, what holds transfers back is counted.
-fn lend_line<B: PartsName>(
-    line: Line,
+fn lend_line<B: PartsName, N>(
+    line: Line<N>,
     pace: Pace,
     cadence: Cadence,
-    begun: u64,
+    begun: Moment,
     is_watched: bool,
-    lent: &mut LentSeats<B>,
-) -> (LentDesk<B>, LentRounds<B>)
+    lent: &mut LentSeats<B, N>,
+) -> (LentDesk<B, N>, LentRounds<B, N>)
     requires desk { IsNamed B.desk B.lanes line.desk }
     requires carried { line.book.issued ≡ B.carried }
-    requires new { (rates : Rates) × IsPacedFrom (tick_of begun) rates pace }
+    requires new { (rates : Rates) × IsPacedFrom (tick_of begun.micros) rates pace }
     requires rated { B.rates (rates_of pace) ≡ true }
-    requires when { B.when begun ≡ true }
     requires room { HasRoom (length line.seats.items) lent.old }
 {
     let Line {
@@ -78,11 +84,14 @@ fn lend_line<B: PartsName>(
     } = line;
     room.destroy_empty();
     lent.lend(seats, &mut tally);
-    let rounds = PacedRounds::new(Rounds::new(round, book, tally), pace, cadence, begun);
-    (LentDesk::new(desk), LentRounds::new(rounds, is_watched))
+    let rounds = Rounds::new(round, book, tally);
+    (
+        LentDesk::new(desk),
+        LentRounds::new(rounds, pace, cadence, begun, is_watched),
+    )
 }
 
-impl<R, S, H, B, P> Server<R, S, H, B, P>
+impl<R, S, H, B, N, P> Server<R, S, H, B, N, P>
 where
     R: ServerRuntime + RoundClock + Copy,
     S: Store<Global> + Drop,
@@ -95,18 +104,17 @@ where
         rt: &R,
         service: Service<S, H, P>,
         boards: NewBoards,
-        line: Line,
-    ) -> Result<Self, (Settled, ServeFault)>
+        line: Line<N>,
+    ) -> Result<Self, (Settlement<N>, ServeFault)>
         requires desk { IsNamed B.desk B.lanes line.desk }
         requires first { IsBoardOf B.first boards.first }
         requires others { IsBoardOf B.board boards.others }
         requires passes { ArePassesOf B.first B.board boards.passes }
         requires rated { B.rates service.limits ≡ true }
         requires owner { Permits P.allows B.rates }
-        requires clock { IsTestOf R.when B.when }
         requires carried { line.book.issued ≡ B.carried }
-        ensures sum { IfErr result (λ e. e.0.issued ≡ e.0.moved + e.0.back) }
-        ensures kept { IfErr result (λ e. HasKept B.rates B.when B.carried e.0.issued) }
+        ensures carried { IfErr result (λ e. e.0.carried ≡ B.carried) }
+        ensures rates { IfErr result (λ e. AreAllowed B.rates (rounds_of e.0)) }
     {
         histories_keep_rates();
         let Service {
@@ -126,7 +134,7 @@ where
             passes,
         } = boards;
         let seats = line.seats.len();
-        match allocate::<R, S, B>(
+        match allocate::<R, S, B, N>(
             rt,
             &numbers,
             limits,
@@ -135,7 +143,7 @@ where
             seats,
             user_sessions,
         ) {
-            Err(fault) => Err((settle_unlent(line), fault)),
+            Err(fault) => Err((settle_unlent(rt, line), fault)),
             Ok(made) => {
                 let Allocated {
                     own_stores,
@@ -195,7 +203,7 @@ where
     }
 }
 
-impl<R, S, H, B, P> Server<R, S, H, B, P>
+impl<R, S, H, B, N, P> Server<R, S, H, B, N, P>
 where
     R: Threads + ServerRuntime + RoundClock + Copy + Send + Sync,
     S: Store<Global> + Recorder + Send + Drop,
@@ -203,6 +211,7 @@ where
     S::Sink: Send,
     H: ServerHooks + Send,
     B: PartsName + Send + Sync,
+    N: Send + Sync,
     P: OwnerSigns + Send + Sync + Drop,
 {
     /// Serves the clients of a door in threads, until all have ended.
@@ -215,7 +224,7 @@ where
     }
 }
 
-impl<R, S, H, B, P> Server<R, S, H, B, P>
+impl<R, S, H, B, N, P> Server<R, S, H, B, N, P>
 where
     R: RoundClock + Wait + Clock + Copy + Drop,
     S: Store<Global> + Drop,
@@ -225,9 +234,9 @@ where
 {
     /// Settles the desk, once no thread has any part of it. A part that is not in its place is told to the handler, for
     /// ever.
-    pub(crate) fn settle(self) -> Settled
-        ensures sum { result.issued ≡ result.moved + result.back }
-        ensures kept { HasKept B.rates B.when B.carried result.issued }
+    pub(crate) fn settle(self) -> Settlement<N>
+        ensures carried { result.carried ≡ B.carried }
+        ensures rates { AreAllowed B.rates (rounds_of result) }
     {
         let Server {
             rt,

@@ -1,23 +1,27 @@
 //! A server, from its listener to its settlement.
 
-ghost use Rattle.std.specs.Prelude.{◌≡◌, ◌≢◌, ◌+◌, ◌*◌, ◌≤◌, ℕ, true, IfOk};
-ghost use Rattle.lane_rounds.specs.Clocks.{IsTestOf};
+ghost use Rattle.std.specs.Prelude.{◌≡◌, ◌≢◌, ◌+◌, ◌*◌, ◌≤◌, true, IfOk};
 ghost use Rattle.lent_parts.specs.Names.{IsBoardOf, IsNamed};
 ghost use Rattle.line_rates.specs.Rates.{Rates};
-ghost use Rattle.paced_rounds.specs.Seconds.{AreInSeconds, HasKept};
-ghost use Rattle.ftp_daemon.specs.Boards.{ArePassesOf};
+ghost use Rattle.line_rates.specs.declared.ask.Name.TheVariants.{Server};
+ghost use Rattle.paced_rounds.specs.Allowed.{AreAllowed};
+ghost use Rattle.paced_rounds.specs.Settled.{rounds_of};
+ghost use Rattle.paced_rounds.specs.Spans.{IsWithinRates, granted_to, seconds_from};
+ghost use Rattle.round_pace.specs.Stretches.{StretchesKeep};
+ghost use Rattle.ftp_daemon.specs.Boards.{AreNewBoards, ArePassesOf};
 ghost use Rattle.ftp_daemon.specs.SameRates.{Permits, may_hold};
 
 use crate::listening::{Entrance, listen_on, warn_of_descriptors};
 use crate::opening::{Line, NewBoards, Service, open_boards, open_line};
-use crate::server::Server;
+use crate::server::Server as NamedServer;
+use crate::settling::settle_unheld;
 use crate::watching::{OwnerSigns, is_up};
 use ftpd_program::ServeFault;
-use grant_ledger::SettledNumbers as Settled;
-use lane_rounds::RoundClock;
-use lent_parts::PartsName;
-use paced_rounds::seconds_are_kept;
+use grant_ledger::{Book, Tally};
+use lent_parts::{PartsName, RoundClock};
+use paced_rounds::Settlement;
 use recorded_store::Recorder;
+use server_config::ServerNumbers;
 use server_house::{ServerHooks, ServerRuntime};
 use std::alloc::Global;
 use std::marker::Brand;
@@ -25,15 +29,15 @@ use std::thread::Threads;
 use text_io::TextWriter;
 use virtual_tree::Store;
 
-/// Serves with a desk and boards of this name. Returns the settled book, and whether clients were served.
-fn serve_named<R, S, H, B, P, W>(
+/// Serves with a desk and boards of this name. Returns the settlement of the line's book, and whether clients were served.
+fn serve_named<R, S, H, B, N, P, W>(
     rt: &R,
     service: Service<S, H, P>,
     boards: NewBoards,
-    line: Line,
+    line: Line<N>,
     entrance: Entrance,
     writer: &mut W,
-) -> (Settled, Result<(), ServeFault>)
+) -> (Settlement<N>, Result<(), ServeFault>)
 where
     R: Threads + ServerRuntime + RoundClock + Copy + Send + Sync,
     S: Store<Global> + Recorder + Send + Drop,
@@ -41,6 +45,7 @@ where
     S::Sink: Send,
     H: ServerHooks + Send,
     B: PartsName + Send + Sync,
+    N: Send + Sync,
     P: OwnerSigns + Send + Sync + Drop,
     W: TextWriter,
     requires desk { IsNamed B.desk B.lanes line.desk }
@@ -49,13 +54,12 @@ where
     requires passes { ArePassesOf B.first B.board boards.passes }
     requires rated { B.rates service.limits ≡ true }
     requires owner { Permits P.allows B.rates }
-    requires clock { IsTestOf R.when B.when }
     requires carried { line.book.issued ≡ B.carried }
-    ensures sum { result.0.issued ≡ result.0.moved + result.0.back }
-    ensures kept { HasKept B.rates B.when B.carried result.0.issued }
+    ensures carried { result.0.carried ≡ B.carried }
+    ensures rates { AreAllowed B.rates (rounds_of result.0) }
 {
-    match Server::<R, S, H, B, P>::open(rt, service, boards, line) {
-        Err((settled, fault)) => (settled, Err(fault)),
+    match NamedServer::<R, S, H, B, N, P>::open(rt, service, boards, line) {
+        Err((settlement, fault)) => (settlement, Err(fault)),
         Ok(server) => {
             let served = server.run(entrance, writer);
             (server.settle(), served)
@@ -63,17 +67,75 @@ where
     }
 }
 
+// Listens, and opens the boards, unless the owner's signs say that the server is to end.
+fn enter<R, H, P>(
+    rt: &R,
+    numbers: &ServerNumbers,
+    signs: &Option<P>,
+    handler: &mut H,
+) -> Result<(Entrance, NewBoards), ServeFault>
+where
+    R: ServerRuntime,
+    H: ServerHooks,
+    P: OwnerSigns,
+    ensures boards { IfOk result (λ opened. AreNewBoards opened.1) }
+{
+    if is_up(signs) {
+        return Err(ServeFault::Stopped);
+    }
+    let entrance = listen_on(rt, numbers, handler)?;
+    warn_of_descriptors(numbers, handler);
+    let passes = usize::from(numbers.lanes) + 1;
+    let boards = open_boards(rt.alloc(), usize::from(numbers.max_cons), passes)?;
+    Ok((entrance, boards))
+}
+
+// Serves with the book of a name. Returns its settlement, whatever happened, and whether clients were served.
+fn serve_booked<R, S, H, N, P, W>(
+    rt: &R,
+    service: Service<S, H, P>,
+    book: Book<N>,
+    tally: Tally<N>,
+    writer: &mut W,
+) -> (Settlement<N>, Result<(), ServeFault>)
+where
+    R: Threads + ServerRuntime + RoundClock + Copy + Send + Sync,
+    S: Store<Global> + Recorder + Send + Drop,
+    S::Source: Send,
+    S::Sink: Send,
+    H: ServerHooks + Send,
+    N: Send + Sync,
+    P: OwnerSigns + Send + Sync + Drop,
+    W: TextWriter,
+    requires tally { book.issued ≡ tally.moved + tally.back }
+    ensures carried { result.0.carried ≡ book.issued }
+    ensures rates { AreAllowed (may_hold service.limits P.allows) (rounds_of result.0) }
+{
+    let numbers = service.numbers;
+    let mut service = service;
+    let parts = &mut service;
+    match enter(rt, &numbers, &parts.signs, &mut parts.handler) {
+        Err(fault) => (settle_unheld(rt, book, tally), Err(fault)),
+        Ok((entrance, boards)) => {
+            match open_line(rt, usize::from(numbers.lanes), book, tally) {
+                Err((settlement, fault)) => (settlement, Err(fault)),
+                Ok(line) => serve_named::<R, S, H, Brand, N, P, W>(
+                    rt, service, boards, line, entrance, writer,
+                ),
+            }
+        }
+    }
+}
+
 // Writes the numbers of octets issued, moved and given back.
-fn report_settled<W: TextWriter>(
+fn report_settled<N, W: TextWriter>(
     alloc: Global,
-    settled: &Settled,
+    settlement: &Settlement<N>,
     writer: &mut W,
 ) -> Result<(), ServeFault> {
-    let Settled {
-        issued,
-        moved,
-        back,
-    } = *settled;
+    let issued = settlement.issued();
+    let moved = settlement.moved();
+    let back = settlement.back();
     let line = format!(in alloc; "settled issued {issued} moved {moved} back {back}\n")?;
     match writer.write_text(line.as_bytes()) {
         Ok(()) => Ok(()),
@@ -84,49 +146,46 @@ fn report_settled<W: TextWriter>(
 /// Serves until as many sessions were admitted as the numbers say, or until the stop sign is up, and then waits for the
 /// sessions in progress. Writes `ready` once clients may connect, and at the end the outcome of all octets issued.
 ///
-/// Each round is held at a moment of the clock, and under the rates of the limits, or those that the owner has put in
-/// force since: there is a history of rounds at such moments in which the rate of each name is kept, and which granted
-/// all octets issued. So if the moments of the clock are in some seconds, and the owner never changes the rate of the
-/// server, at most that rate is issued for each of these seconds.
+/// Returns the settlement of the book, whatever happened. It has the history of the rounds that were held: each at a
+/// moment that was read from the clock, under the rates of the limits, or those that the owner has put in force since.
+/// They granted what the book issued, and under each name at most what its rates allow, from the second of the opening to
+/// that of the last round. So if the owner never changes the rate of the server, at most that rate is issued for each of
+/// these seconds.
 ///
-/// Returns `Bind` if the address and port cannot be bound (the handler is told why), `NoThread` if a thread of the server
-/// cannot be started, `Stopped` if the stop sign is up at the start.
-pub fn serve<R, S, H, P, W>(
+/// Besides, returns `Bind` if the address and port cannot be bound (the handler is told why), `NoThread` if a thread of the
+/// server cannot be started, `Stopped` if the stop sign is up at the start.
+pub fn serve<R, S, H, N, P, W>(
     rt: &R,
     service: Service<S, H, P>,
+    book: Book<N>,
+    tally: Tally<N>,
     writer: &mut W,
-) -> Result<Settled, ServeFault>
+) -> (Settlement<N>, Result<(), ServeFault>)
 where
     R: Threads + ServerRuntime + RoundClock + Copy + Send + Sync,
     S: Store<Global> + Recorder + Send + Drop,
     S::Source: Send,
     S::Sink: Send,
     H: ServerHooks + Send,
+    N: Send + Sync,
     P: OwnerSigns + Send + Sync + Drop,
     W: TextWriter,
-    ensures sum { IfOk result (λ settled. settled.issued ≡ settled.moved + settled.back) }
-    ensures kept { IfOk result (λ settled.
-        HasKept (may_hold service.limits P.allows) R.when 0 settled.issued) }
-    ensures seconds { IfOk result (λ settled. (first count : ℕ)
-        → AreInSeconds R.when first count → service.limits.server ≢ 0
+    requires tally { book.issued ≡ tally.moved + tally.back }
+    ensures sum { result.0.issued ≡ result.0.moved + result.0.back }
+    ensures issued { result.0.issued ≡ book.issued + granted_to Server (rounds_of result.0) }
+    ensures every_second { StretchesKeep (rounds_of result.0) }
+    ensures kept { IsWithinRates (rounds_of result.0) result.0.opened result.0.latest }
+    ensures rates { AreAllowed (may_hold service.limits P.allows) (rounds_of result.0) }
+    ensures seconds { service.limits.server ≢ 0
         → ((rates : Rates) → P.allows rates ≡ true → rates.server ≡ service.limits.server)
-        → settled.issued ≤ count * service.limits.server) }
+        → result.0.issued ≤ book.issued
+        + seconds_from result.0.opened result.0.latest * service.limits.server }
 {
-    seconds_are_kept();
-    if is_up(&service.signs) {
-        return Err(ServeFault::Stopped);
-    }
-    let numbers = service.numbers;
-    let mut service = service;
-    let entrance = listen_on(rt, &numbers, &mut service.handler)?;
-    warn_of_descriptors(&numbers, &mut service.handler);
-    let lanes = usize::from(numbers.lanes);
-    let boards = open_boards(rt.alloc(), usize::from(numbers.max_cons), lanes + 1)?;
-    let line = open_line(rt.alloc(), lanes)?;
-    let (settled, served) = serve_named::<R, S, H, Brand, P, W>(
-        rt, service, boards, line, entrance, writer,
-    );
-    served?;
-    report_settled(rt.alloc(), &settled, writer)?;
-    Ok(settled)
+    let (settlement, served) = serve_booked(rt, service, book, tally, writer);
+    settlement.rates_are_kept();
+    let reported = match served {
+        Ok(()) => report_settled(rt.alloc(), &settlement, writer),
+        Err(fault) => Err(fault),
+    };
+    (settlement, reported)
 }

@@ -125,7 +125,7 @@ fn lanes_of(signs: &[LaneSign], tallies: &Tallies) -> [LaneLook; MAX_LANES] {
 }
 
 // Shows the handler what goes on, if no round is in the way.
-fn show<R, S, H, B>(rt: &R, house: &House<S, H, B>, engine: &Engine<B>)
+fn show<R, S, H, B, N>(rt: &R, house: &House<S, H, B>, engine: &Engine<B, N>)
 where
     R: Wait + Clock,
     S: Store<Global>,
@@ -186,7 +186,7 @@ where
 }
 
 // Takes the configuration of a sign, if there is one, and tells the handler what came of it.
-fn reload<R, S, H, B, P>(rt: &R, house: &House<S, H, B>, engine: &Engine<B>, signs: &P)
+fn reload<R, S, H, B, N, P>(rt: &R, house: &House<S, H, B>, engine: &Engine<B, N>, signs: &P)
 where
     R: Wait + AllocGlobal,
     S: Store<Global>,
@@ -218,10 +218,10 @@ where
 
 // Shows the handler what goes on, if that is wanted and a second has passed since it was due last. Returns the moment at
 // which it was.
-fn look_if_due<R, S, H, B, P>(
+fn look_if_due<R, S, H, B, N, P>(
     rt: &R,
     house: &House<S, H, B>,
-    engine: &Engine<B>,
+    engine: &Engine<B, N>,
     signs: &P,
     shown: u64,
     now: u64,
@@ -243,10 +243,10 @@ where
 
 /// Checks the signs until the sessions are to end, and shows the handler what goes on, if that is wanted. Drains the
 /// server, or ends its sessions, as is due.
-pub(crate) fn watch<R, S, H, B, P>(
+pub(crate) fn watch<R, S, H, B, N, P>(
     rt: &R,
     house: &House<S, H, B>,
-    engine: &Engine<B>,
+    engine: &Engine<B, N>,
     signs: &P,
     bell: &DoorBell,
 )
@@ -308,10 +308,10 @@ where
 
 /// Watches the end of a server until all sessions and lanes have ended. After ten seconds, and each ten seconds from then
 /// on, the handler is told the number of calls of the machine that the end waits for; it is shown what goes on as before.
-pub(crate) fn watch_end<R, S, H, B, P>(
+pub(crate) fn watch_end<R, S, H, B, N, P>(
     rt: &R,
     house: &House<S, H, B>,
-    engine: &Engine<B>,
+    engine: &Engine<B, N>,
     signs: &P,
     at_work: &LanesAtWork,
 )

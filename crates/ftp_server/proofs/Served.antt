@@ -1,28 +1,34 @@
 -- What a server keeps whose owner gives no signs.
 use Rattle.std.proofs.Common.{◌≡◌, ◌≢◌, ◌≤◌, ◌*◌, ℕ, Bool, true, Option, Some, None, inl, inr, Result, Ok, Err, IfOk, IfSome, subst}
 use Rattle.std.proofs.lemmas.Bool.{false≢true}
+use Rattle.std.specs.declared.alloc.Global.{Global}
 use Rattle.line_rates.specs.Rates.{Rates}
-use Rattle.grant_ledger.specs.declared.ledger.SettledNumbers.{SettledNumbers}
-use Rattle.paced_rounds.specs.Seconds.{AreInSeconds}
+use Rattle.ftp_daemon.specs.SameRates.{may_hold}
+use Rattle.paced_rounds.specs.Allowed.{AreAllowed}
+use Rattle.paced_rounds.specs.Settled.{rounds_in}
+use Rattle.paced_rounds.specs.Spans.{seconds_from}
+use Rattle.paced_rounds.specs.declared.account.SettledRounds.{SettledRounds}
 use Rattle.line_rates.specs.declared.fault.LimitsFault.{LimitsFault}
 use Rattle.ftp_server.specs.Rows.{IsRefusedFor, no_others}
 use Rattle.ftp_server.specs.declared.fault.FtpServerFault.{FtpServerFault}
 use Rattle.ftp_server.specs.declared.fault.FtpServerFault.TheVariants.{Number}
 use Rattle.ftp_server.specs.declared.ranges.NumberFault.{NumberFault}
 
--- the octets of some seconds, by rates that are the same
-pub rated : (when : ℕ → Bool) (allows : Rates → Bool) (result : Result SettledNumbers FtpServerFault) (limits rates : Rates) → limits ≡ rates
-    → IfOk result (λ settled. (first count : ℕ) → AreInSeconds when first count → limits.server ≢ 0 → ((other : Rates) → allows other ≡ true → other.server ≡ limits.server) → settled.issued ≤ count * limits.server)
-    → IfOk result (λ settled. (first count : ℕ) → AreInSeconds when first count → rates.server ≢ 0 → ((other : Rates) → allows other ≡ true → other.server ≡ rates.server) → settled.issued ≤ count * rates.server)
-rated when allows result limits rates same bound =
-    subst (λ (r : Rates). IfOk result (λ settled. (first count : ℕ) → AreInSeconds when first count → r.server ≢ 0 → ((other : Rates) → allows other ≡ true → other.server ≡ r.server) → settled.issued ≤ count * r.server)) same bound
+-- the bound of a result, by rates that are the same
+abbrev pub IsBound : (Rates → Bool) → ℕ → Result (SettledRounds Global) FtpServerFault → Type 0
+IsBound allows rate result = IfOk result (λ settled. rate ≢ 0 → ((other : Rates) → allows other ≡ true → other.server ≡ rate) → settled.issued ≤ seconds_from settled.opened settled.latest * rate)
+
+pub rated : (allows : Rates → Bool) (result : Result (SettledRounds Global) FtpServerFault) (limits rates : Rates) → limits ≡ rates → IsBound allows limits.server result → IsBound allows rates.server result
+rated allows result limits rates same bound = subst (λ (r : Rates). IsBound allows r.server result) same bound
+
+-- the rounds of a result, by rates that are the same
+pub allowed_alike : (allows : Rates → Bool) (result : Result (SettledRounds Global) FtpServerFault) (limits rates : Rates) → limits ≡ rates → IfOk result (λ settled. AreAllowed (may_hold limits allows) (rounds_in settled)) → IfOk result (λ settled. AreAllowed (may_hold rates allows) (rounds_in settled))
+allowed_alike allows result limits rates same holds = subst (λ (r : Rates). IfOk result (λ settled. AreAllowed (may_hold r allows) (rounds_in settled))) same holds
 
 -- an owner without signs puts no other rates in force
-pub alone : (when : ℕ → Bool) (rate : ℕ) (result : Result SettledNumbers FtpServerFault)
-    → IfOk result (λ settled. (first count : ℕ) → AreInSeconds when first count → rate ≢ 0 → ((rates : Rates) → no_others rates ≡ true → rates.server ≡ rate) → settled.issued ≤ count * rate)
-    → IfOk result (λ settled. (first count : ℕ) → AreInSeconds when first count → rate ≢ 0 → settled.issued ≤ count * rate)
-alone when rate (Ok settled) bound = λ first count within some. bound first count within some (λ rates may. absurd (false≢true may))
-alone when rate (Err fault) bound = tt
+pub alone : (rate : ℕ) (result : Result (SettledRounds Global) FtpServerFault) → IsBound no_others rate result → IfOk result (λ settled. rate ≢ 0 → settled.issued ≤ seconds_from settled.opened settled.latest * rate)
+alone rate (Ok settled) bound = λ some. bound some (λ rates may. absurd (false≢true may))
+alone rate (Err fault) bound = tt
 
 -- the parts were refused, so the server is, for the same fault
 pub err_number : {X Y : Type 0} (found : Option NumberFault) (made : Result X FtpServerFault) (served : Result Y FtpServerFault) (e v : FtpServerFault) → made ≡ Err e → served ≡ Err v → v ≡ e → IfSome found (λ fault. made ≡ Err (Number fault)) → IfSome found (λ fault. served ≡ Err (Number fault))

@@ -6,4 +6,7 @@ pub mod Ranges
 pub mod Rows
 pub use Rattle.ftp_daemon.specs.SameRates
 pub use Rattle.line_rates.specs.Rates
-pub use Rattle.paced_rounds.specs.Seconds
+pub use Rattle.paced_rounds.specs.Allowed
+pub use Rattle.paced_rounds.specs.Settled
+pub use Rattle.paced_rounds.specs.Spans
+pub use Rattle.round_pace.specs.Stretches

@@ -48,7 +48,7 @@ fn sets_of(alloc: Global, rows: &[UserRate]) -> Result<Vec<SetRates>, AllocError
 
 impl FtpServer {
     /// The server of a configuration, and its store: in memory, or the path of a folder. A configuration states neither
-    /// limits of time nor one of the sessions of a user, so these are those of `at`.
+    /// limits of time nor one of the sessions of a user, so these are those of `at`. Fails if memory runs out.
     ///
     /// ```text
     /// let (server, store) = FtpServer::of_config(alloc, Config::read(alloc, TEXT.as_bytes())?)?;

@@ -15,6 +15,7 @@
 mod fault;
 mod from_config;
 mod notes;
+mod parts;
 mod ranges;
 mod rates;
 mod rows;
@@ -27,14 +28,17 @@ pub use authorizer::{Authorizer, AuthorizerFault};
 pub use client_patience::{Patience, TimeOut};
 pub use fault::FtpServerFault;
 pub use ftp_daemon::{
-    EndSign, NoSigns, OwnerSigns, Reload, ReloadFault, ReloadSign, RoundClock, ServeFault, Terms,
+    EndSign, NoSigns, OwnerSigns, Reload, ReloadFault, ReloadSign, RoundClock, ServeFault,
+    ServerRuntime, Terms, TextWriter,
 };
 pub use ftp_terms::{EntryKind, LineText, Meta};
-pub use grant_ledger::SettledNumbers;
+pub use grant_ledger::{Book, BookName, Tally};
 pub use line_rates::{GroupRate, Limits, LimitsFault, Name, UserRate, Way};
 pub use memory_store::MemStore;
 pub use notes::{NoTransferLog, StandardErrorNotes, notes_on_standard_error};
+pub use paced_rounds::{SettledRounds, Settlement};
 pub use page_store::{PageFault, PageStore, Pages};
+pub use parts::{ServerParts, serve_stores};
 pub use passive_ports::AdmitFault;
 pub use ranges::NumberFault;
 pub use rate_floors::CarryFault;
@@ -49,6 +53,6 @@ pub use server_house::{
 };
 pub use session_table::{HookCall, Settings};
 pub use stop_flag::StopFlag;
-pub use stores::{FolderStore, Stores};
+pub use stores::{FolderStore, Stores, open_folder};
 pub use virtual_path::VPath;
 pub use virtual_tree::{ListedEntry, Sink, Source, Store, StoreFault, WriteMode};

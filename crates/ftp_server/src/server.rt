@@ -74,7 +74,8 @@ fn default_numbers(address: [u8; 4], port: u16) -> ServerNumbers
 }
 
 impl FtpServer {
-    /// A server at this address and port, without users, groups and limits. Its passive ports are 30000 to 30063.
+    /// A server at this address and port, without users, groups and limits. Its passive ports are 30000 to 30063. Fails if
+    /// memory runs out.
     ///
     /// ```text
     /// let mut server = FtpServer::at(rt.alloc(), [0, 0, 0, 0], 2121)?;
@@ -110,8 +111,8 @@ impl FtpServer {
         })
     }
 
-    /// Sets the rates of a user, in place of those that were set before. Fails, and changes nothing, if there is no user of
-    /// this name or memory runs out.
+    /// Sets the rates of a user, in octets per second, in place of those that were set before. Returns
+    /// `User(NoSuchUser)` if there is no user of this name, and `Memory` if memory runs out; then it changes nothing.
     ///
     /// ```text
     /// server.limit_user("ann", UserRates { down: 500_000, ..UserRates::NONE })?;
@@ -129,7 +130,8 @@ impl FtpServer {
     }
 
     /// Adds a group whose users together have these rates, in octets per second, 0 for no limit; returns its number, which
-    /// is that of groups before it. `users.set_group` puts a user into it.
+    /// is that of groups before it. `users.set_group` puts a user into it. Returns `Memory`, and changes nothing, if memory
+    /// runs out.
     ///
     /// ```text
     /// let staff = server.add_group(2_000_000, 0)?;

@@ -1,26 +1,30 @@
 //! Serving, until a server's sessions or its owner's signs end it.
 
-ghost use Rattle.std.specs.Prelude.{◌≡◌, ◌≢◌, ◌+◌, ◌*◌, ◌≤◌, ℕ, All, Err, IfErr, IfOk, IfSome, None, length, true};
+ghost use Rattle.std.specs.Prelude.{◌≡◌, ◌≢◌, ◌+◌, ◌*◌, ◌≤◌, All, Err, IfErr, IfOk, IfSome, None, length, true};
 ghost use Rattle.std.specs.Arc.{arc_value};
 ghost use Rattle.line_rates.specs.Rates.{Rates};
-ghost use Rattle.paced_rounds.specs.Seconds.{AreInSeconds, HasKept};
+ghost use Rattle.line_rates.specs.declared.ask.Name.TheVariants.{Server};
+ghost use Rattle.paced_rounds.specs.Allowed.{AreAllowed};
+ghost use Rattle.paced_rounds.specs.Settled.{rounds_in};
+ghost use Rattle.paced_rounds.specs.Spans.{IsWithinRates, granted_to, seconds_from};
+ghost use Rattle.round_pace.specs.Stretches.{StretchesKeep};
 ghost use Rattle.ftp_daemon.specs.SameRates.{may_hold};
 ghost use Rattle.ftp_server.specs.Folders.{IsFolderFault};
 ghost use Rattle.ftp_server.specs.Ranges.{range_fault};
 ghost use Rattle.ftp_server.specs.Rows.{IsRefusedFor, no_others, rates_fault, server_rates};
 
 use crate::fault::FtpServerFault;
+use crate::parts::{ServerParts, serve_stores};
 use crate::ranges::number_fault;
 use crate::rows::user_rows;
 use crate::server::FtpServer;
 use crate::stop_flag::StopFlag;
 use crate::stores::{FolderStore, Stores, open_folder, open_own, open_recorded};
-use client_patience::Patience;
-use ftp_daemon::{NoSigns, OwnerSigns, RoundClock, ServerRuntime, Service, Terms, serve};
-use grant_ledger::SettledNumbers;
+use ftp_daemon::{NoSigns, OwnerSigns, RoundClock, ServerRuntime, Terms};
+use grant_ledger::{Book, BookName};
 use last_fault::LastFault;
 use line_rates::Limits;
-use server_config::ServerNumbers;
+use paced_rounds::SettledRounds;
 use server_house::ServerHooks;
 use std::alloc::Global;
 use std::net::{Net, TcpListener, TcpStream};
@@ -29,25 +33,20 @@ use std::thread::Threads;
 use std::time::Clock;
 use virtual_tree::Store;
 
-/// The parts that a server begins with.
+/// The name of the book of a server.
 #[derive(Drop)]
-struct Parts {
-    terms: Arc<Terms>,
-    numbers: ServerNumbers,
-    limits: Limits,
-    patience: Patience,
-    user_sessions: u32,
-    syncs: bool,
-}
+struct OfServer {}
+
+impl BookName for OfServer {}
 
 // Serves with these parts.
 fn serve_parts<R, S, H, P>(
     rt: &R,
-    parts: Parts,
+    parts: ServerParts,
     stores: Stores<S>,
     handler: H,
     signs: P,
-) -> Result<SettledNumbers, FtpServerFault>
+) -> Result<SettledRounds, FtpServerFault>
 where
     R: Threads + ServerRuntime + RoundClock + Copy + Send + Sync,
     S: Store<Global> + Send + Drop,
@@ -56,35 +55,28 @@ where
     H: ServerHooks + Send,
     P: OwnerSigns + Send + Sync + Drop,
     ensures sum { IfOk result (λ settled. settled.issued ≡ settled.moved + settled.back) }
+    ensures issued { IfOk result (λ settled.
+        settled.issued ≡ granted_to Server (rounds_in settled)) }
+    ensures every_second { IfOk result (λ settled. StretchesKeep (rounds_in settled)) }
     ensures kept { IfOk result (λ settled.
-        HasKept (may_hold parts.limits P.allows) R.when 0 settled.issued) }
-    ensures seconds { IfOk result (λ settled. (first count : ℕ)
-        → AreInSeconds R.when first count → parts.limits.server ≢ 0
+        IsWithinRates (rounds_in settled) settled.opened settled.latest) }
+    ensures rates { IfOk result (λ settled.
+        AreAllowed (may_hold parts.limits P.allows) (rounds_in settled)) }
+    ensures seconds { IfOk result (λ settled. parts.limits.server ≢ 0
         → ((rates : Rates) → P.allows rates ≡ true → rates.server ≡ parts.limits.server)
-        → settled.issued ≤ count * parts.limits.server) }
+        → settled.issued ≤ seconds_from settled.opened settled.latest * parts.limits.server) }
 {
-    let Stores { store, own } = stores;
-    let service = Service {
-        terms: parts.terms,
-        numbers: parts.numbers,
-        limits: parts.limits,
-        store,
-        own_stores: own,
-        handler,
-        signs: Some(signs),
-        patience: parts.patience,
-        user_sessions: parts.user_sessions,
-    };
     let mut output = Vec::new(rt.alloc());
-    match serve(rt, service, &mut output) {
-        Ok(settled) => Ok(settled),
+    let book = Book::<OfServer>::open(0);
+    match serve_stores(rt, parts, stores, handler, signs, book, &mut output) {
+        Ok(settlement) => Ok(settlement.read()),
         Err(fault) => Err(FtpServerFault::Serve(fault)),
     }
 }
 
 impl FtpServer {
     // The parts of the server: its numbers are in their ranges, and its rates are taken.
-    fn into_parts(self) -> Result<Parts, FtpServerFault>
+    fn into_parts(self) -> Result<ServerParts, FtpServerFault>
         ensures number { IfSome (range_fault self) (λ fault.
             result ≡ Err (FtpServerFault.Number fault)) }
         ensures refused { range_fault self ≡ None
@@ -96,7 +88,6 @@ impl FtpServer {
             (arc_value parts.terms).settings ≡ self.settings) }
         ensures patience { IfOk result (λ parts. parts.patience ≡ self.patience) }
         ensures user_sessions { IfOk result (λ parts. parts.user_sessions ≡ self.user_sessions) }
-        ensures syncs { IfOk result (λ parts. parts.syncs ≡ self.syncs) }
     {
         if let Some(fault) = number_fault(
             self.numbers,
@@ -117,19 +108,18 @@ impl FtpServer {
             user_sessions,
             groups,
             user_rates,
-            syncs,
+            syncs: _,
             alloc,
         } = self;
         let rows = user_rows(alloc, &users, &user_rates)?;
         let limits = Limits::of(rate, down_rate, up_rate, groups, rows)?;
         let terms = Arc::new(alloc, Terms { users, settings })?;
-        Ok(Parts {
+        Ok(ServerParts {
             terms,
             numbers,
             limits,
             patience,
             user_sessions,
-            syncs,
         })
     }
 
@@ -168,12 +158,15 @@ impl FtpServer {
     }
 
     /// Serves these stores until the owner's signs end it, or it has had as many sessions as `numbers.sessions` says; each
-    /// event is told to the handler. Returns the octets that rounds granted, and what became of them.
+    /// event is told to the handler. Returns the octets that rounds granted, what became of them, and the moments of the
+    /// opening and of the last round, in microseconds of the clock.
     ///
-    /// Whatever clients, stores and the handler do: there is a history of rounds at moments of the clock which granted all
-    /// octets issued, each under the rates of the server or others that the signs allow, and which keeps each of these
-    /// rates. So in each second of the clock at most `rate` octets are issued, if that is not 0 and the signs put no other
-    /// in force.
+    /// Whatever clients, stores and the handler do: the rounds that were held, each at a moment that was read from the
+    /// clock, granted all octets issued, under the rates of the server or others that the signs allow. In each second of
+    /// the clock they granted under each name at most the greatest of its rates that were in force, and an octet for each
+    /// change of its rate. So if `rate` is not 0 and the signs put no other in force, at most `rate` octets are issued in
+    /// each second, and at most `rate` times the number of seconds from that of the opening to that of the last round, with
+    /// both.
     ///
     /// Returns `Number` with the first number that is out of its range, and then `Rate` if the rates are refused, both before
     /// anything is opened; `Serve` if the server did not start or ended with a fault (the handler is told why it cannot
@@ -190,7 +183,7 @@ impl FtpServer {
         stores: Stores<S>,
         handler: H,
         signs: P,
-    ) -> Result<SettledNumbers, FtpServerFault>
+    ) -> Result<SettledRounds, FtpServerFault>
     where
         R: Threads
             + Wait
@@ -211,12 +204,16 @@ impl FtpServer {
         ensures refused { range_fault self ≡ None
             → IfSome (rates_fault self) (λ fault. IsRefusedFor fault result) }
         ensures sum { IfOk result (λ settled. settled.issued ≡ settled.moved + settled.back) }
+        ensures issued { IfOk result (λ settled.
+            settled.issued ≡ granted_to Server (rounds_in settled)) }
+        ensures every_second { IfOk result (λ settled. StretchesKeep (rounds_in settled)) }
         ensures kept { IfOk result (λ settled.
-            HasKept (may_hold (server_rates self) P.allows) R.when 0 settled.issued) }
-        ensures seconds { IfOk result (λ settled. (first count : ℕ)
-            → AreInSeconds R.when first count → self.rate ≢ 0
+            IsWithinRates (rounds_in settled) settled.opened settled.latest) }
+        ensures rates { IfOk result (λ settled.
+            AreAllowed (may_hold (server_rates self) P.allows) (rounds_in settled)) }
+        ensures seconds { IfOk result (λ settled. self.rate ≢ 0
             → ((rates : Rates) → P.allows rates ≡ true → rates.server ≡ self.rate)
-            → settled.issued ≤ count * self.rate) }
+            → settled.issued ≤ seconds_from settled.opened settled.latest * self.rate) }
     {
         let parts = self.into_parts()?;
         serve_parts(rt, parts, stores, handler, signs)
@@ -236,7 +233,7 @@ impl FtpServer {
         machine: &HostRuntime,
         folder: &str,
         handler: H,
-    ) -> Result<SettledNumbers, FtpServerFault>
+    ) -> Result<SettledRounds, FtpServerFault>
     where
         R: Threads
             + Wait
@@ -253,20 +250,24 @@ impl FtpServer {
         ensures refused { range_fault self ≡ None
             → IfSome (rates_fault self) (λ fault. IsRefusedFor fault result) }
         ensures sum { IfOk result (λ settled. settled.issued ≡ settled.moved + settled.back) }
+        ensures issued { IfOk result (λ settled.
+            settled.issued ≡ granted_to Server (rounds_in settled)) }
+        ensures every_second { IfOk result (λ settled. StretchesKeep (rounds_in settled)) }
         ensures kept { IfOk result (λ settled.
-            HasKept (may_hold (server_rates self) no_others) R.when 0 settled.issued) }
-        ensures seconds { IfOk result (λ settled. (first count : ℕ)
-            → AreInSeconds R.when first count → self.rate ≢ 0
-            → settled.issued ≤ count * self.rate) }
+            IsWithinRates (rounds_in settled) settled.opened settled.latest) }
+        ensures rates { IfOk result (λ settled.
+            AreAllowed (may_hold (server_rates self) no_others) (rounds_in settled)) }
+        ensures seconds { IfOk result (λ settled. self.rate ≢ 0
+            → settled.issued ≤ seconds_from settled.opened settled.latest * self.rate) }
     {
+        let (connections, syncs) = (self.numbers.max_cons, self.syncs);
         let parts = self.into_parts()?;
         let flag = StopFlag::new(machine.alloc())?;
-        let (connections, syncs) = (parts.numbers.max_cons, parts.syncs);
         let stores = open_folder(machine, folder, connections, syncs, &flag)?;
         serve_parts(rt, parts, stores, handler, NoSigns)
     }
 
-    /// Serves a store that all sessions share, as `serve_with` does without signs.
+    /// Serves a store that all sessions share, as `serve_with` does without signs, with its faults.
     ///
     /// ```text
     /// server.serve_store(&rt, MemStore::new(rt.alloc(), 1_000_000)?, NoHooks)?;
@@ -276,7 +277,7 @@ impl FtpServer {
         rt: &R,
         store: S,
         handler: H,
-    ) -> Result<SettledNumbers, FtpServerFault>
+    ) -> Result<SettledRounds, FtpServerFault>
     where
         R: Threads
             + Wait
@@ -296,11 +297,15 @@ impl FtpServer {
         ensures refused { range_fault self ≡ None
             → IfSome (rates_fault self) (λ fault. IsRefusedFor fault result) }
         ensures sum { IfOk result (λ settled. settled.issued ≡ settled.moved + settled.back) }
+        ensures issued { IfOk result (λ settled.
+            settled.issued ≡ granted_to Server (rounds_in settled)) }
+        ensures every_second { IfOk result (λ settled. StretchesKeep (rounds_in settled)) }
         ensures kept { IfOk result (λ settled.
-            HasKept (may_hold (server_rates self) no_others) R.when 0 settled.issued) }
-        ensures seconds { IfOk result (λ settled. (first count : ℕ)
-            → AreInSeconds R.when first count → self.rate ≢ 0
-            → settled.issued ≤ count * self.rate) }
+            IsWithinRates (rounds_in settled) settled.opened settled.latest) }
+        ensures rates { IfOk result (λ settled.
+            AreAllowed (may_hold (server_rates self) no_others) (rounds_in settled)) }
+        ensures seconds { IfOk result (λ settled. self.rate ≢ 0
+            → settled.issued ≤ seconds_from settled.opened settled.latest * self.rate) }
     {
         let stores = Stores::one(rt.alloc(), store);
         self.serve_with(rt, stores, handler, NoSigns)

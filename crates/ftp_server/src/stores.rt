@@ -99,9 +99,18 @@ pub(crate) fn open_own(
     Ok(())
 }
 
-/// Opens a folder of the machine, as a store for all and as one for each of this number of connections. Returns `Folder` if
-/// it cannot be opened.
-pub(crate) fn open_folder(
+/// Opens a folder of the machine: as a store for all connections, and as one for each of this number of them. Its listings
+/// are left once the flag is raised. With `syncs`, the octets of a file that is received are put on the device before its
+/// reply.
+///
+/// Returns `Folder` if it is not there, is no directory, or the machine reports another fault, with its error if that is
+/// known; `Memory` if memory runs out.
+///
+/// ```text
+/// let flag = StopFlag::new(rt.alloc())?;
+/// let stores = open_folder(&rt, "/srv/ftp", 64, false, &flag)?; // a store for each of 64 connections
+/// ```
+pub fn open_folder(
     machine: &HostRuntime,
     folder: &str,
     connections: u16,

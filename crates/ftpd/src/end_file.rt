@@ -1,8 +1,7 @@
 //! The end file of a server: once it appears, the sessions of its lines end.
 
-use crate::config_thread::{ConfigReader, ReadOctets};
-use crate::sign_file::SignFile;
 use ftp_daemon::EndSign;
+use machine_parts::{ConfigReader, ReadOctets, SignFile};
 use std::alloc::Global;
 use std::sync::{Arc, Mutex, Wait};
 

@@ -2,36 +2,17 @@
 //! with its status.
 #![tactic(auto)]
 
-mod asked;
-mod config_thread;
 mod end_file;
-mod facts;
-mod known;
-mod log_file;
-mod log_thread;
-mod machine_files;
-mod options;
-mod own_thread;
-mod page_thread;
-mod ready_file;
 mod reload_file;
-mod running_file;
 mod serving;
-mod sign_file;
-mod starting;
-mod stated_files;
-mod status_file;
-mod status_thread;
-mod usage_files;
-mod watched_file;
+mod signs;
 
-use asked::Asked;
 use ftp_daemon::{RoundClock, ServerRuntime};
 use ftpd_program::{FtpdErrorText, FtpdExit, StartFault, run_words};
 use line_queue::{LineOutlet, Readiness, StandardError};
-use machine_files::MachineFiles;
+use machine_parts::{AskedServer, MachineFiles, added_up, looked_at, watched};
 use serving::serve_asked;
-use sheets_program::{Machine, NOBODY_READS, Noted, as_words, line_words, null_device};
+use sheets_program::{NOBODY_READS, Noted, as_words, line_words, null_device};
 use std::io;
 use std::io::Write;
 use std::net::{Net, TcpListener, TcpStream};
@@ -40,8 +21,6 @@ use std::sync::Wait;
 use std::thread::Threads;
 use std::time::Clock;
 use text_io::FallibleIo;
-use usage_files::added_up;
-use watched_file::watched;
 
 /// Runs the command of these words, and serves what they ask for. Returns the ending, and the reason for which a server
 /// did not start, if it is known.
@@ -55,13 +34,14 @@ where
     R: Threads + ServerRuntime + RoundClock + Copy + Send + Sync + 'static,
     W: Write,
 {
-    let mut asked = Asked::new();
+    if let Some(ending) = looked_at(machine, words, output) {
+        return (ending, None);
+    }
+    let mut asked = AskedServer::new();
     let ending = run_words(
         rt.alloc(),
         words,
-        &mut MachineFiles {
-            files: Machine { rt: machine },
-        },
+        &mut MachineFiles::of(machine),
         &mut asked,
         output,
     );

@@ -1,25 +1,20 @@
 //! The reload file of a server: once it appears, the configuration is read again.
 
-use crate::config_thread::{ConfigReader, ReadOctets};
-use crate::facts::{Start, copied_limits, facts_of};
-use crate::known::Known;
-use crate::running_file::RunningWriter;
-use crate::sign_file::SignFile;
 use change_report::{ChangeReport, reload_report};
-use config_change::{FixedValues, count_fault, fixed_key, renumbered, with_past};
-use ftp_daemon::{Config, Reload, ReloadFault, ReloadSign, Terms};
-use line_rates::{Name, Way};
+use ftp_daemon::{Reload, ReloadFault, ReloadSign};
+use machine_parts::{
+    AtStart, ConfigReader, Known, NextConfig, ReadOctets, RunningWriter, SignFile, limit_words,
+    next_config, words,
+};
 use rate_floors::CarryFault;
-use server_config::{ServedStore, ServerNumbers};
 use status_keeper::StatusFacts;
 use std::alloc::Global;
-use std::fmt::Display;
 use std::fs;
 use std::sync::{Arc, Mutex, Wait};
 
-/// A configuration that a server is about to take.
+/// The parts of a configuration that the server is about to take, which are kept until then.
 #[derive(Drop)]
-pub(crate) struct NextConfig {
+pub(crate) struct KeptNext {
     pub known: Known,
     /// The facts that a status shows; none without memory for them.
     pub facts: Option<StatusFacts>,
@@ -45,81 +40,16 @@ pub(crate) struct ReloadFile {
     pub sign: SignFile,
     /// The thread that reads the configuration.
     pub reader: Arc<ConfigReader>,
-    /// The numbers of the start.
-    pub numbers: ServerNumbers,
-    /// `memory`, or the path of the folder that is served.
-    pub root: String,
-    /// The capacity of a store in memory.
-    pub capacity: u64,
+    pub at_start: AtStart,
     pub known: Mutex<Known>,
     /// The octets of the configuration that the server has.
     pub octets: Mutex<Arc<Vec<u8>>>,
     /// The thread that writes them to the running file, if there is one.
     pub running: Option<Arc<RunningWriter>>,
     /// The configuration that the server is about to take.
-    pub next: Mutex<Option<NextConfig>>,
+    pub next: Mutex<Option<KeptNext>>,
     /// The file could not be removed.
     pub is_stuck: Mutex<bool>,
-    /// The start of the server.
-    pub start: Start,
-}
-
-/// A reason in words; none if memory runs out.
-fn words<T: Display>(alloc: Global, reason: &T) -> Option<String> {
-    format!(in alloc; "{reason}").ok()
-}
-
-/// The key of a rate of a way.
-fn key_of(way: Way) -> &'static str {
-    match way {
-        Way::Down => "down_rate",
-        Way::Up => "up_rate",
-    }
-}
-
-/// A limit in words: its key, and whose it is.
-fn limit_words(alloc: Global, known: &Known, name: Name) -> Option<String> {
-    let reported = match name {
-        Name::Server => String::from_str(alloc, "`rate` of the server"),
-        Name::Direction(way) => format!(in alloc; "`{}` of the server", key_of(way)),
-        Name::Group(way, group) => {
-            let name = known.groups.get(group as usize)?;
-            format!(in alloc; "`{}` of the group {:?}", key_of(way), name.as_str())
-        }
-        Name::User(way, user) => {
-            let name = known.user(user)?;
-            format!(in alloc; "`{}` of the user {name:?}", key_of(way))
-        }
-        Name::Session(way, user, _) => {
-            let name = known.user(user)?;
-            format!(in alloc; "`session_{}` of the user {name:?}", key_of(way))
-        }
-    };
-    reported.ok()
-}
-
-/// The root of a store, as a configuration states it.
-pub(crate) fn root_of(store: &ServedStore) -> &str {
-    match store {
-        ServedStore::Memory(_) => "memory",
-        ServedStore::Folder(folder) => folder.as_str(),
-    }
-}
-
-/// The capacity of a store in memory, as a configuration states it; 0 for a folder.
-pub(crate) fn capacity_of(store: &ServedStore) -> u64 {
-    match store {
-        ServedStore::Memory(store) => store.capacity(),
-        ServedStore::Folder(_) => 0,
-    }
-}
-
-/// The configuration of octets of the file at a path. `Err` is the reason for which they are none, with the path.
-fn config_of(alloc: Global, path: &str, octets: &[u8]) -> Result<Config, Option<String>> {
-    match Config::read(alloc, octets) {
-        Ok(config) => Ok(config),
-        Err(fault) => Err(format!(in alloc; "{path}: {fault}").ok()),
-    }
 }
 
 /// The lines of a report below the first, which says that a reload would be taken; none if memory runs out.
@@ -144,70 +74,23 @@ impl ReloadFile {
         !was_stuck
     }
 
-    // The reason for which a configuration cannot be taken while the server runs, if there is one.
-    fn hindrance(&self, config: &Config) -> Option<Option<String>> {
-        let alloc = self.machine.alloc();
-        let old = FixedValues {
-            numbers: self.numbers,
-            root: self.root.as_str(),
-            capacity: self.capacity,
-        };
-        let new = FixedValues {
-            numbers: config.numbers,
-            root: root_of(&config.store),
-            capacity: capacity_of(&config.store),
-        };
-        if let Some(key) = fixed_key(&old, &new) {
-            return Some(words(alloc, &key));
-        }
-        match count_fault(self.numbers.max_cons, 0, config.numbers.max_cons) {
-            Some(fault) => Some(words(alloc, &fault)),
-            None => None,
-        }
-    }
-
     // Takes the configuration of what was read, and keeps what it names until the server has taken it.
     fn read<R: Wait>(&self, rt: &R, octets: ReadOctets) -> Result<Reload, Option<String>> {
         let alloc = self.machine.alloc();
         let octets = octets?;
-        let config = config_of(alloc, self.reader.path(), octets.as_slice())?;
-        if let Some(reason) = self.hindrance(&config) {
-            return Err(reason);
-        }
-        let known = self.known.lock(rt);
-        let Ok(earlier) = known.authorizer(alloc) else {
-            return Err(None);
-        };
-        let config = match renumbered(alloc, config, &earlier, &known.groups) {
-            Ok(config) => config,
-            Err(fault) => return Err(words(alloc, &fault)),
-        };
-        let limits = match with_past(alloc, &config.limits, &known.limits) {
-            Ok(limits) => limits,
-            Err(fault) => return Err(words(alloc, &fault)),
-        };
-        let facts = facts_of(alloc, self.start, &config, &limits);
-        let Some(copy) = copied_limits(alloc, &limits) else {
-            return Err(None);
-        };
-        let Config {
-            settings,
+        let earlier = self.known.lock(rt);
+        let path = self.reader.path();
+        let NextConfig {
+            terms,
+            limits,
             numbers,
-            users,
-            store: _,
-            limits: _,
-            groups,
-        } = config;
-        let Ok(known) = Known::of(alloc, &users, known.users(), groups, copy) else {
-            return Err(None);
-        };
-        let Ok(terms) = Arc::new(alloc, Terms { users, settings }) else {
-            return Err(None);
-        };
+            known,
+            facts,
+        } = next_config(alloc, path, octets.as_slice(), &self.at_start, &*earlier)?;
         let Ok(octets) = Arc::new(alloc, octets) else {
             return Err(None);
         };
-        *self.next.lock(rt) = Some(NextConfig {
+        *self.next.lock(rt) = Some(KeptNext {
             known,
             facts,
             octets,
@@ -236,7 +119,7 @@ impl ReloadFile {
 
     /// The server has taken the configuration.
     pub fn taken<R: Wait>(&self, rt: &R) -> Option<TakenConfig> {
-        let NextConfig {
+        let KeptNext {
             known,
             facts,
             octets,

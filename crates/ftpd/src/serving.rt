@@ -1,169 +1,112 @@
 //! The server of the machine that the program runs on.
 
-ghost use Rattle.std.specs.Prelude.{◌≡◌, ◌<◌, Err, IfErr, IfOk};
+ghost use Rattle.std.specs.Prelude.{◌≡◌, ◌≢◌, ◌+◌, ◌*◌, ◌<◌, ◌≤◌, true, None, Ok, Err, IfErr, IfOk};
+ghost use Rattle.ftp_daemon.specs.SameRates.{may_hold};
+ghost use Rattle.line_rates.specs.Rates.{Rates};
+ghost use Rattle.line_rates.specs.declared.ask.Name.TheVariants.{Server};
+ghost use Rattle.paced_rounds.specs.Allowed.{AreAllowed};
+ghost use Rattle.paced_rounds.specs.Settled.{rounds_of};
+ghost use Rattle.paced_rounds.specs.Spans.{IsWithinRates, granted_to, seconds_from};
+ghost use Rattle.round_pace.specs.Stretches.{StretchesKeep};
 ghost use Rattle.ftpd_program.specs.declared.server.ServeFault.TheVariants.{TransferLog};
 
-use crate::asked::AskedService;
-use crate::config_thread::ConfigReader;
 use crate::end_file::EndFile;
-use crate::facts::{Start, copied_limits, facts_of, start_of};
-use crate::known::Known;
-use crate::log_thread::{LogThreads, PlainNotes, QueuedTransfers};
-use crate::page_thread::{PageSocket, PageThread};
-use crate::ready_file::MachineReadyFile;
-use crate::reload_file::{ReloadFile, capacity_of, root_of};
-use crate::running_file::RunningWriter;
-use crate::sign_file::SignFile;
-use crate::starting::{Means, Prepared, Unprepared, prepare};
-use crate::status_file::{MachineSigns, StatusFile};
-use crate::status_thread::StatusWriter;
-use folder_store::{DirStore, LeaveSign};
-use ftp_daemon::{Patience, RoundClock, ServeFault, ServerRuntime, Service, Terms, serve};
+use crate::reload_file::ReloadFile;
+use crate::signs::{FixedSigns, MachineSigns};
+use authorizer::Authorizer;
+use ftp_daemon::{OwnerSigns, Patience, RoundClock, ServeFault, ServerRuntime, Terms};
+use ftp_server::{FtpServerFault, ServerParts, StopFlag, Stores, open_folder, serve_stores};
 use ftpd_program::{FtpdExit, ReadyOutput, StartFault};
-use last_fault::LastFault;
-use line_queue::{QueuedLog, SharedLines};
+use grant_ledger::{Book, BookName};
 use line_rates::Limits;
-use log::{Level, Logged};
-use recorded_store::RecordedStore;
-use server_config::{Config, ServedStore, ServerNumbers};
-use session_notes::Notes;
+use machine_parts::{
+    AskedService, AtStart, Cells, Known, LogThreads, MachineNotes, MachineReadyFile, Means,
+    OwnThreads, Prepared, ReadPaths, ReadText, Shown, SignFile, Signs, Start, Unprepared, another,
+    copied_limits, keeper_of, prepare, start_of,
+};
+use paced_rounds::Settlement;
+use server_config::{Config, ServedStore};
 use sheets_program::Exit as Common;
-use status_keeper::{StatusCell, StatusKeeper};
+use status_keeper::StatusCell;
 use std::alloc::{AllocError, Global};
 use std::io::Write;
 use std::sync::{Arc, Mutex};
 use std::thread::Threads;
 use text_io::{FallibleIo, TextWriter};
-use virtual_tree::StoreFault;
 
-/// A folder of the machine, whose calls are recorded.
-type FolderStore = RecordedStore<DirStore<HostRuntime>>;
-
-fn open_folder(
-    machine: &HostRuntime,
-    folder: &str,
-    leaves: &LeaveSign,
-    syncs: bool,
-) -> Result<FolderStore, ServeFault> {
-    let error = LastFault::new(machine.alloc())?;
-    let sign = leaves.another()?;
-    match DirStore::new(*machine, folder, error.another()?) {
-        Ok(store) => {
-            let store = store.left_by(sign).syncing(syncs);
-            Ok(RecordedStore::with_fault(machine.alloc(), store, error))
-        }
-        Err(StoreFault::Memory) => Err(ServeFault::Memory),
-        Err(_) => Err(ServeFault::Store),
+/// The fault of a server whose folder cannot be opened.
+fn opening_fault(fault: FtpServerFault) -> ServeFault
+    ensures memory { fault ≡ FtpServerFault.Memory → result ≡ ServeFault.Memory }
+    ensures others { fault ≢ FtpServerFault.Memory → result ≡ ServeFault.Store }
+{
+    match fault {
+        FtpServerFault::Memory => ServeFault::Memory,
+        _ => ServeFault::Store,
     }
 }
 
-// Opens the folder as a store for each connection.
-fn open_folders(
-    machine: &HostRuntime,
-    folder: &str,
-    leaves: &LeaveSign,
-    connections: u16,
-    syncs: bool,
-) -> Result<Vec<FolderStore>, ServeFault> {
-    let mut stores = Vec::new(machine.alloc());
-    for _ in 0..connections {
-        let store = open_folder(machine, folder, leaves, syncs)?;
-        if stores.push(store).is_err() {
-            return Err(ServeFault::Memory);
-        }
-    }
-    Ok(stores)
-}
+/// The name of the program's book.
+#[derive(Drop)]
+pub(crate) struct OfProgram {}
 
-/// Notes on standard error, which a thread of their own writes, and the status.
-type MachineNotes<R> = StatusKeeper<
-    R,
-    Notes<Logged<HostRuntime, QueuedLog<R>>, QueuedTransfers<R>>,
->;
+impl BookName for OfProgram {}
 
-// The signs of a server whose listings are left once it is to end.
-fn leaving<R>(signs: MachineSigns<R>, leaves: LeaveSign) -> MachineSigns<R> {
-    let mut signs = signs;
-    signs.leaves = Some(leaves);
-    signs
-}
-
-/// The parts of a configuration that a server takes at its start.
+/// A configuration as a server takes it at its start.
 #[derive(Drop)]
 struct ServedConfig {
-    terms: Arc<Terms>,
-    numbers: ServerNumbers,
+    parts: ServerParts,
     store: ServedStore,
-    limits: Limits,
     /// A folder has the octets of each file that is received written to the device.
     syncs: bool,
-    /// The greatest number of sessions in which one user is logged in; 0 is no limit.
-    user_sessions: u32,
 }
 
-/// Serves a configuration: its store is in memory, or a folder of the machine.
-fn serve_config<R, W>(
+/// Serves a configuration: its store is in memory, or a folder of the machine, whose listings are left once that flag is
+/// raised. Returns the settlement of the program's book.
+fn serve_config<R, P, W>(
     rt: &R,
     config: ServedConfig,
     handler: MachineNotes<R>,
     machine: &HostRuntime,
-    signs: MachineSigns<R>,
-    patience: Patience,
+    signs: P,
+    leaves: &StopFlag,
     output: &mut W,
-) -> Result<(), ServeFault>
+) -> Result<Settlement<OfProgram>, ServeFault>
 where
     R: Threads + ServerRuntime + RoundClock + Copy + Send + Sync,
+    P: OwnerSigns + Send + Sync + Drop,
     W: TextWriter,
+    ensures issued { IfOk result (λ s. s.issued ≡ granted_to Server (rounds_of s)) }
+    ensures every_second { IfOk result (λ s. StretchesKeep (rounds_of s)) }
+    ensures kept { IfOk result (λ s. IsWithinRates (rounds_of s) s.opened s.latest) }
+    ensures rates { IfOk result (λ s.
+        AreAllowed (may_hold config.parts.limits P.allows) (rounds_of s)) }
+    ensures seconds { IfOk result (λ s. config.parts.limits.server ≢ 0
+        → ((rates : Rates) → P.allows rates ≡ true
+        → rates.server ≡ config.parts.limits.server)
+        → s.issued ≤ seconds_from s.opened s.latest * config.parts.limits.server) }
 {
     let ServedConfig {
-        terms,
-        numbers,
+        parts,
         store,
-        limits,
         syncs,
-        user_sessions,
     } = config;
     match store {
         ServedStore::Memory(store) => {
-            let service = Service {
-                terms,
-                numbers,
-                limits,
-                store: RecordedStore::new(rt.alloc(), store),
-                own_stores: Vec::new(rt.alloc()),
-                handler,
-                signs: Some(signs),
-                patience,
-                user_sessions,
-            };
-            serve(rt, service, output)?;
+            let stores = Stores::one(rt.alloc(), store);
+            let book = Book::<OfProgram>::open(0);
+            serve_stores(rt, parts, stores, handler, signs, book, output)
         }
         ServedStore::Folder(folder) => {
-            let leaves = LeaveSign::new(machine.alloc())?;
-            let store = open_folder(machine, folder.as_str(), &leaves, syncs)?;
-            let own_stores = open_folders(
-                machine,
-                folder.as_str(),
-                &leaves,
-                numbers.max_cons,
-                syncs,
-            )?;
-            let signs = leaving(signs, leaves);
-            let service = Service {
-                terms,
-                numbers,
-                limits,
-                store,
-                own_stores,
-                handler,
-                signs: Some(signs),
-                patience,
-                user_sessions,
+            let folder = folder.as_str();
+            let sessions = parts.numbers.max_cons;
+            let stores = match open_folder(machine, folder, sessions, syncs, leaves) {
+                Ok(stores) => stores,
+                Err(fault) => return Err(opening_fault(fault)),
             };
-            serve(rt, service, output)?;
+            let book = Book::<OfProgram>::open(0);
+            serve_stores(rt, parts, stores, handler, signs, book, output)
         }
     }
-    Ok(())
 }
 
 /// Returns the ending of a server with a fault, and the reason for which it did not start, if it is known.
@@ -185,34 +128,23 @@ where
     (ending, start)
 }
 
-/// The cell of a status, with another handle if the status is shown.
-fn cells(
+/// A configuration as a server takes it, and the parts by which another can follow it. Fails without memory.
+fn followed_of(
     alloc: Global,
-    is_shown: bool,
-) -> Result<
-    (
-        Arc<StatusCell>,
-        Option<Arc<StatusCell>>,
-        Option<Arc<StatusCell>>,
-    ),
-    AllocError,
-> {
-    let cell = Arc::new(alloc, StatusCell::new())?;
-    if !is_shown {
-        return Ok((cell, None, None));
-    }
-    let kept = Arc::try_clone(&cell)?;
-    let watched = Arc::try_clone(&cell)?;
-    Ok((cell, Some(kept), Some(watched)))
-}
-
-/// The parts of a configuration that a server takes, and the names that it knows by numbers.
-fn known_of(
-    alloc: Global,
-    config: Config,
+    read: ReadText,
     syncs: bool,
     user_sessions: u32,
-) -> Result<(ServedConfig, Known), AllocError> {
+    patience: Patience,
+    start: Start,
+) -> Result<(ServedConfig, Followed), AllocError>
+    ensures limits { IfOk result (λ both. both.0.parts.limits ≡ read.config.limits) }
+{
+    let ReadText {
+        path,
+        config,
+        warnings: _,
+        octets,
+    } = read;
     let Config {
         settings,
         numbers,
@@ -221,20 +153,62 @@ fn known_of(
         limits,
         groups,
     } = config;
-    let Some(copy) = copied_limits(alloc, &limits) else {
-        return Err(AllocError);
-    };
-    let known = Known::of(alloc, &users, &[], groups, copy)?;
-    let terms = Arc::new(alloc, Terms { users, settings })?;
-    let served = ServedConfig {
-        terms,
+    let at_start = AtStart::of(alloc, numbers, &store, start)?;
+    let known = known_of(alloc, &users, groups, &limits)?;
+    let parts = ServerParts {
+        terms: Arc::new(alloc, Terms { users, settings })?,
         numbers,
-        store,
         limits,
-        syncs,
+        patience,
         user_sessions,
     };
-    Ok((served, known))
+    let served = ServedConfig {
+        parts,
+        store,
+        syncs,
+    };
+    let followed = Followed {
+        path,
+        octets,
+        known,
+        at_start,
+    };
+    Ok((served, followed))
+}
+
+/// The names that a server knows by numbers at its start. Fails without memory.
+fn known_of(
+    alloc: Global,
+    users: &Authorizer,
+    groups: Vec<String>,
+    limits: &Limits,
+) -> Result<Known, AllocError> {
+    match copied_limits(alloc, limits) {
+        Some(copy) => Known::of(alloc, users, &[], groups, copy),
+        None => Err(AllocError),
+    }
+}
+
+/// The signs of a server of the machine, and the threads that own its files and sockets.
+#[derive(Drop)]
+struct Guidance<R> {
+    fixed: FixedSigns<R>,
+    /// The reload file, if there is to be one.
+    reload: Option<ReloadFile>,
+    /// Raised once the server is to end: listings under way are left.
+    leaves: StopFlag,
+    threads: OwnThreads,
+}
+
+/// The parts of a configuration by which another can follow it.
+#[derive(Drop)]
+struct Followed {
+    /// The path of the configuration.
+    path: String,
+    /// Its octets, if they are kept.
+    octets: Option<Vec<u8>>,
+    known: Known,
+    at_start: AtStart,
 }
 
 /// The reload file of a configuration with its octets, if there is to be one and a thread that reads it.
@@ -243,9 +217,10 @@ fn reload_file(
     stated: Option<(SignFile, Arc<Vec<u8>>)>,
     threads: &OwnThreads,
     known: Known,
-    served: &ServedConfig,
-    start: Start,
-) -> Result<Option<ReloadFile>, AllocError> {
+    at_start: AtStart,
+) -> Result<Option<ReloadFile>, AllocError>
+    ensures none { stated ≡ None → IfOk result (λ file. file ≡ None) }
+{
     let reader = another(&threads.reader)?;
     let (Some((sign, octets)), Some(reader)) = (stated, reader) else {
         return Ok(None);
@@ -254,15 +229,30 @@ fn reload_file(
         machine: *machine,
         sign,
         reader,
-        numbers: served.numbers,
-        root: String::from_str(machine.alloc(), root_of(&served.store))?,
-        capacity: capacity_of(&served.store),
+        at_start,
         known: Mutex::new(known),
         octets: Mutex::new(octets),
         running: another(&threads.running)?,
         next: Mutex::new(None),
         is_stuck: Mutex::new(false),
-        start,
+    }))
+}
+
+/// The end file, if there is to be one and a thread that reads it.
+fn end_file(
+    machine: &HostRuntime,
+    sign: Option<SignFile>,
+    threads: &OwnThreads,
+) -> Result<Option<EndFile>, AllocError> {
+    let reader = another(&threads.ender)?;
+    let (Some(sign), Some(reader)) = (sign, reader) else {
+        return Ok(None);
+    };
+    Ok(Some(EndFile {
+        alloc: machine.alloc(),
+        sign,
+        reader,
+        is_stuck: Mutex::new(false),
     }))
 }
 
@@ -274,257 +264,163 @@ fn split(end: Option<(SignFile, String)>) -> (Option<SignFile>, Option<String>) 
     }
 }
 
-/// The end file, if there is to be one and a thread that reads it.
-fn end_file(
-    machine: &HostRuntime,
-    sign: Option<SignFile>,
-    reader: Option<Arc<ConfigReader>>,
-) -> Option<EndFile> {
-    let (Some(sign), Some(reader)) = (sign, reader) else {
-        return None;
-    };
-    Some(EndFile {
-        alloc: machine.alloc(),
-        sign,
-        reader,
-        is_stuck: Mutex::new(false),
-    })
-}
-
-/// The threads that own paths and sockets of the machine, as far as they are wanted.
-#[derive(Drop)]
-struct OwnThreads {
-    /// It reads the configuration again.
-    reader: Option<Arc<ConfigReader>>,
-    /// It writes the running file.
-    running: Option<Arc<RunningWriter>>,
-    /// It reads the end file, and removes it.
-    ender: Option<Arc<ConfigReader>>,
-    /// It writes the status file.
-    status: Option<Arc<StatusWriter>>,
-    /// It serves the status page.
-    page: Option<Arc<PageThread>>,
-}
-
-/// The paths and sockets of these threads.
-#[derive(Drop)]
-struct OwnMeans {
-    /// The path of the configuration, if it may be read again.
-    config: Option<String>,
-    /// The running file, if there is to be one, and the notes of the thread that writes it.
-    running: Option<(StatusFile, PlainNotes)>,
-    /// The path of the end file, if there is to be one.
-    end: Option<String>,
-    /// The status file, if there is to be one, and the notes of the thread that writes it.
-    status: Option<(StatusFile, PlainNotes)>,
-    page: Option<PageSocket>,
-    cell: Arc<StatusCell>,
-}
-
-/// Another handle of a thread, if there is one.
-fn another<T>(thread: &Option<Arc<T>>) -> Result<Option<Arc<T>>, AllocError> {
-    match thread {
-        Some(thread) => Ok(Some(Arc::try_clone(thread)?)),
-        None => Ok(None),
-    }
-}
-
-impl OwnThreads {
-    /// Starts those that are wanted.
-    fn start<R>(rt: &R, machine: &HostRuntime, means: OwnMeans) -> Result<OwnThreads, ServeFault>
-    where
-        R: Threads + ServerRuntime + Copy + Send + Sync + 'static,
-    {
-        let OwnMeans {
-            config,
-            running,
-            end,
-            status,
-            page,
-            cell,
-        } = means;
-        let reader = match config {
-            Some(path) => Some(ConfigReader::start(rt, machine, path, false)?),
-            None => None,
-        };
-        let running = match running {
-            Some((file, notes)) => Some(RunningWriter::start(rt, machine.alloc(), file, notes)?),
-            None => None,
-        };
-        let ender = match end {
-            Some(path) => Some(ConfigReader::start(rt, machine, path, true)?),
-            None => None,
-        };
-        let status = match status {
-            Some((file, notes)) => Some(StatusWriter::start(rt, machine.alloc(), file, notes)?),
-            None => None,
-        };
-        let page = match page {
-            Some(socket) => Some(PageThread::start(rt, machine, socket, cell)?),
-            None => None,
-        };
-        Ok(OwnThreads {
-            reader,
-            running,
-            ender,
-            status,
-            page,
-        })
-    }
-
-    /// Waits for the end of each, at most a second.
-    fn leave<R: ServerRuntime>(&self, rt: &R) {
-        if let Some(page) = &self.page {
-            page.leave(rt);
-        }
-        if let Some(status) = &self.status {
-            status.leave(rt);
-        }
-        if let Some(running) = &self.running {
-            running.leave(rt);
-        }
-        if let Some(ender) = &self.ender {
-            ender.leave(rt);
-        }
-        if let Some(reader) = &self.reader {
-            reader.leave(rt);
-        }
-    }
-}
-
-/// The lines of a server, for those that offer them.
-fn offered_lines(
-    log: &LogThreads,
-    is_logged: bool,
-) -> Result<(Arc<SharedLines>, Option<Arc<SharedLines>>), AllocError> {
-    let notes = log.notes()?;
-    if !is_logged {
-        return Ok((notes, None));
-    }
-    let transfers = log.transfers()?;
-    Ok((notes, Some(transfers)))
-}
-
 /// The octets of a configuration, if they are kept, which its running file is to have, if there is one.
 fn kept_octets<R: ServerRuntime>(
     rt: &R,
     octets: Option<Vec<u8>>,
-    running: &Option<Arc<RunningWriter>>,
+    threads: &OwnThreads,
 ) -> Result<Option<Arc<Vec<u8>>>, AllocError> {
     let Some(octets) = octets else {
         return Ok(None);
     };
     let octets = Arc::new(rt.alloc(), octets)?;
-    if let Some(running) = running {
+    if let Some(running) = &threads.running {
         running.put(rt, Arc::try_clone(&octets)?);
     }
     Ok(Some(octets))
 }
 
-/// A file that a thread writes, if there is to be one, with notes of what cannot be written.
-fn with_notes(
-    written: Option<StatusFile>,
+/// Starts the threads of a server, and has its signs.
+fn guidance_of<R>(
+    rt: &R,
+    machine: &HostRuntime,
+    signs: Signs,
+    shown: Shown,
+    followed: Followed,
+    cells: (Arc<StatusCell>, Option<Arc<StatusCell>>),
     log: &LogThreads,
-) -> Result<Option<(StatusFile, PlainNotes)>, AllocError> {
-    match written {
-        Some(file) => Ok(Some((file, log.plain_notes()?))),
-        None => Ok(None),
-    }
+) -> Result<Guidance<R>, ServeFault>
+where
+    R: Threads + ServerRuntime + RoundClock + Copy + Send + Sync + 'static,
+    ensures none { signs.reload ≡ None → IfOk result (λ guidance. guidance.reload ≡ None) }
+{
+    let Signs {
+        stop,
+        drain,
+        reload,
+        end,
+    } = signs;
+    let Followed {
+        path,
+        octets,
+        known,
+        at_start,
+    } = followed;
+    let (cell, watched) = cells;
+    let (end, end_path) = split(end);
+    let read = ReadPaths {
+        config: if reload.is_some() { Some(path) } else { None },
+        end: end_path,
+    };
+    let threads = OwnThreads::start(rt, machine, read, shown, log, cell)?;
+    let octets = kept_octets(rt, octets, &threads)?;
+    let reload = reload_file(machine, reload.zip(octets), &threads, known, at_start)?;
+    let leaves = StopFlag::new(machine.alloc())?;
+    let fixed = FixedSigns {
+        rt: *rt,
+        stop,
+        leaves: leaves.another()?,
+        drain,
+        end: end_file(machine, end, &threads)?,
+        notes: log.plain_notes()?,
+        status: another(&threads.status)?,
+        cell: watched,
+    };
+    Ok(Guidance {
+        fixed,
+        reload,
+        leaves,
+        threads,
+    })
 }
 
-/// Serves with what was prepared, and with the threads that write its lines.
+/// Serves with what was prepared, and with the threads that write its lines. Without a reload file the rates stay as they
+/// are.
 fn serve_logged<R, W>(
     rt: &R,
     machine: &HostRuntime,
     means: Means,
     log: &LogThreads,
     output: &mut W,
-) -> Result<(), ServeFault>
+) -> Result<Settlement<OfProgram>, ServeFault>
 where
     R: Threads + ServerRuntime + RoundClock + Copy + Send + Sync + 'static,
     W: TextWriter,
+    ensures issued { IfOk result (λ s. s.issued ≡ granted_to Server (rounds_of s)) }
+    ensures every_second { IfOk result (λ s. StretchesKeep (rounds_of s)) }
+    ensures kept { IfOk result (λ s. IsWithinRates (rounds_of s) s.opened s.latest) }
 {
     let Means {
-        path,
-        config,
-        warnings,
-        octets,
-        form,
-        stop,
-        drain,
-        reload,
-        running,
-        end,
-        is_logged,
+        read,
+        signs,
+        shown,
+        form: _,
         log: _,
-        status,
-        page,
         syncs,
         user_sessions,
         patience,
     } = means;
-    let (lines, transfers) = offered_lines(log, is_logged)?;
     let start = start_of(machine);
-    let Some(facts) = facts_of(rt.alloc(), start, &config, &config.limits) else {
-        return Err(ServeFault::Memory);
-    };
-    let (cell, kept, watched) = cells(rt.alloc(), status.is_some() || page.is_some())?;
-    let queued = QueuedLog::new(*rt, lines, form);
-    let transfers = QueuedTransfers::new(*rt, transfers);
-    let notes = Notes::new(Logged::new(*machine, Level::Debug, queued), form, transfers);
-    notes.note_warnings(warnings.as_str());
-    let handler = StatusKeeper::new(*rt, notes, facts, kept);
-    let (config, known) = known_of(rt.alloc(), config, syncs, user_sessions)?;
-    let (end, end_path) = split(end);
-    let own = OwnMeans {
-        config: if reload.is_some() { Some(path) } else { None },
-        running: with_notes(running, log)?,
-        end: end_path,
-        status: with_notes(status, log)?,
-        page,
+    let is_shown = shown.status.is_some() || shown.page.is_some();
+    let Cells {
         cell,
+        kept,
+        watched,
+    } = Cells::new(rt.alloc(), is_shown)?;
+    let handler = keeper_of(rt, machine, log, &read, start, kept)?;
+    let (config, followed) = followed_of(rt.alloc(), read, syncs, user_sessions, patience, start)?;
+    let Guidance {
+        fixed,
+        reload,
+        leaves,
+        threads,
+    } = guidance_of(rt, machine, signs, shown, followed, (cell, watched), log)?;
+    let served = match reload {
+        Some(reload) => {
+            let signs = MachineSigns { fixed, reload };
+            serve_config(rt, config, handler, machine, signs, &leaves, output)
+        }
+        None => serve_config(rt, config, handler, machine, fixed, &leaves, output),
     };
-    let threads = OwnThreads::start(rt, machine, own)?;
-    let octets = kept_octets(rt, octets, &threads.running)?;
-    let ender = another(&threads.ender)?;
-    let signs = MachineSigns {
-        rt: *rt,
-        stop,
-        leaves: None,
-        drain,
-        reload: reload_file(machine, reload.zip(octets), &threads, known, &config, start)?,
-        end: end_file(machine, end, ender),
-        notes: log.plain_notes()?,
-        status: another(&threads.status)?,
-        cell: watched,
-    };
-    let served = serve_config(rt, config, handler, machine, signs, patience, output);
     threads.leave(rt);
     served
 }
 
 /// The outcome of a server that lost this number of lines of its transfer log at the end.
-fn with_lost(served: Result<(), ServeFault>, lost: u64) -> Result<(), ServeFault>
+fn with_lost(
+    served: Result<Settlement<OfProgram>, ServeFault>,
+    lost: u64,
+) -> Result<Settlement<OfProgram>, ServeFault>
     ensures whole { lost ≡ 0 → result ≡ served }
+    ensures same { IfOk result (λ settlement. served ≡ Ok settlement) }
     ensures lost { IfOk served (λ _. 0 < lost → result ≡ Err TransferLog) }
     ensures faulty { IfErr served (λ fault. result ≡ Err fault) }
 {
     match served {
-        Ok(()) if lost > 0 => Err(ServeFault::TransferLog),
-        served => served,
+        Ok(settlement) => {
+            if lost > 0 {
+                settlement.numbers();
+                return Err(ServeFault::TransferLog);
+            }
+            Ok(settlement)
+        }
+        Err(fault) => Err(fault),
     }
 }
 
-/// Serves with what was prepared.
+/// Serves with what was prepared. Returns the settlement of the program's book.
 fn serve_with<R, W>(
     rt: &R,
     machine: &HostRuntime,
     means: Means,
     output: &mut W,
-) -> Result<(), ServeFault>
+) -> Result<Settlement<OfProgram>, ServeFault>
 where
     R: Threads + ServerRuntime + RoundClock + Copy + Send + Sync + 'static,
     W: TextWriter,
+    ensures issued { IfOk result (λ s. s.issued ≡ granted_to Server (rounds_of s)) }
+    ensures every_second { IfOk result (λ s. StretchesKeep (rounds_of s)) }
+    ensures kept { IfOk result (λ s. IsWithinRates (rounds_of s) s.opened s.latest) }
 {
     let mut means = means;
     let log = LogThreads::start(rt, machine.alloc(), means.form, means.log.take())?;
@@ -552,7 +448,10 @@ where
     let served = serve_with(rt, machine, means, &mut output);
     output.remove_file();
     match served {
-        Ok(()) => (FtpdExit::Common(Common::Done), None),
+        Ok(settlement) => {
+            settlement.numbers();
+            (FtpdExit::Common(Common::Done), None)
+        }
         Err(fault) => faulty(fault, output),
     }
 }

@@ -2,6 +2,7 @@ pub mod Against
 pub mod Causes
 pub mod Endings
 pub mod Faults
+pub mod IdleOptions
 pub mod Paths
 pub mod Printing
 pub mod Ready

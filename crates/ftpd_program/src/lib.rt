@@ -15,6 +15,7 @@
 mod against;
 mod drain_limit;
 mod ending;
+mod idle_options;
 mod paths;
 mod printing;
 mod ready;
@@ -31,6 +32,7 @@ pub use command_line::{Patience, ServeFiles, UsageWords, read_usage_words};
 pub use config_report::{Lookout, Sight};
 pub use drain_limit::is_for_nothing;
 pub use ending::{FtpdErrorText, FtpdExit};
+pub use idle_options::{IdleOption, idle_sessions, idle_sync, reads_input_again};
 pub use paths::{
     FileIdentity, FoundFile, StatedPath, first_twin, is_free_for_log, is_free_for_status,
 };

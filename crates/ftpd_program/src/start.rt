@@ -25,6 +25,8 @@ pub enum StartFault {
     ReloadFileUnseen { path: String, reason: io::Error },
     /// There is something at the path of the end file (`EndFile`).
     EndFileThere { path: String },
+    /// There is to be a reload file, and the configuration is standard input (`ReloadFile`).
+    InputAgain,
     /// The end file of this path could not be noticed, because its folder is not there, or is closed (`EndFile`).
     EndFileUnseen { path: String, reason: io::Error },
     /// There is something at the path of the ready file (`ReadyFile`).
@@ -121,6 +123,9 @@ impl fmt::Display for StartFault {
             }
             StartFault::NothingDrains => f.write_str(
                 "--drain-seconds has no effect without --drain-file: state one, or leave it out",
+            ),
+            StartFault::InputAgain => f.write_str(
+                "--reload-file has no effect with a configuration from standard input, which is read once: state a file, or leave it out",
             ),
             StartFault::UnknownForm { word } => {
                 write!(f, "{word:?} is no form of notes: plain and journal are")

@@ -1,4 +1,3 @@
 pub mod Ends
-pub mod Clocks
 pub mod Dues
 pub mod Gates

@@ -1,18 +1,16 @@
 //! The gate of a lane.
 
 ghost use Rattle.std.specs.Prelude.{◌≡◌, ◌||◌, not, true};
-ghost use Rattle.lane_rounds.specs.Clocks.{IsTestOf};
 ghost use Rattle.lane_rounds.specs.Gates.{answer, dribbles_after, has_seen, runs_upload};
 ghost use Rattle.transfer_ticket.specs.Tickets.{is_runner};
 ghost use Rattle.transfer_ticket.specs.Views.{run_view};
 ghost use Rattle.transfer_worker.specs.Transfers.{IsUploadWant};
 
 use crate::asking::{UploadLooks, account, next_want, want_of};
-use crate::clock::RoundClock;
 use crate::ends::{report_of, reported_of};
 use crate::engine::Engine;
 use crate::rounds::help;
-use lent_parts::PartsName;
+use lent_parts::{PartsName, RoundClock};
 use round_cadence::{WORTH, WORTH_UP};
 use server_house::{DataConnection, House, LaneEnds, LaneSign, Served, SessionEnd, SessionJob};
 use session_table::End;
@@ -44,10 +42,10 @@ const GATHER: u64 = 8_000;
 /// The gate of a lane for one transfer. It waits for answers, and holds rounds. It stops the transfer before an ask once
 /// its session wants it to end, or rounds are refused to it: the lane is free then for the next. It cannot be dropped:
 /// it reports the end of its transfer.
-pub(crate) struct LaneGate<'r, 'h, 'e, R: RoundClock, S: Store<Global>, H: Drop, B: PartsName> {
+pub(crate) struct LaneGate<'r, 'h, 'e, R: RoundClock, S: Store<Global>, H: Drop, B: PartsName, N> {
     rt: &'r R,
     house: &'h House<S, H, B>,
-    engine: &'e Engine<B>,
+    engine: &'e Engine<B, N>,
     lane: usize,
     run: TicketRun<'h, SessionJob<S>, SessionEnd<S>, LaneEnds>,
     is_upload: bool,
@@ -69,13 +67,12 @@ pub(crate) struct LaneGate<'r, 'h, 'e, R: RoundClock, S: Store<Global>, H: Drop,
     // the number of octets that an upload asks for
     want: u64,
     ghost wants: { IsUploadWant want },
-    ghost clock: { IsTestOf R.when B.when },
     ghost runs: { is_runner (run_view run) ≡ true },
     ghost way: { runs_upload (run_view run) ≡ is_upload },
     ghost stops: { (not has_stopped || has_seen (run_view run)) ≡ true },
 }
 
-impl<'r, 'h, 'e, R, S, H, B> LaneGate<'r, 'h, 'e, R, S, H, B>
+impl<'r, 'h, 'e, R, S, H, B, N> LaneGate<'r, 'h, 'e, R, S, H, B, N>
 where
     R: Wait + Clock + RoundClock + AllocGlobal,
     S: Store<Global>,
@@ -86,12 +83,11 @@ where
     pub(crate) fn new(
         rt: &'r R,
         house: &'h House<S, H, B>,
-        engine: &'e Engine<B>,
+        engine: &'e Engine<B, N>,
         lane: usize,
         run: TicketRun<'h, SessionJob<S>, SessionEnd<S>, LaneEnds>,
         is_upload: bool,
     ) -> Self
-        requires clock { IsTestOf R.when B.when }
         requires runs { is_runner (run_view run) ≡ true }
         requires way { runs_upload (run_view run) ≡ is_upload }
     {
@@ -209,7 +205,7 @@ where
         let now = self.rt.moment();
         let due = help(self.rt.alloc(), self.house, self.engine, sign, now);
         let limit = match due {
-            Some(moment) => Duration::from_micros(moment.saturating_sub(now)),
+            Some(moment) => Duration::from_micros(moment.saturating_sub(now.micros())),
             None => Duration::from_millis(BACKSTOP),
         };
         sign.answered.wait(self.rt, seen, PATIENCE, limit);
@@ -253,8 +249,9 @@ fn answer(is_before_ask: bool, is_to_stop: bool, is_starved: bool) -> Go
     Go::On
 }
 
-impl<'r, 'h, 'e, R, S, H, B> Gate<Ran<Served<Global, S::Source>, S::Sink, DataConnection, Global>>
-    for LaneGate<'r, 'h, 'e, R, S, H, B>
+impl<'r, 'h, 'e, R, S, H, B, N> Gate<
+    Ran<Served<Global, S::Source>, S::Sink, DataConnection, Global>,
+> for LaneGate<'r, 'h, 'e, R, S, H, B, N>
 where
     R: Wait + Clock + RoundClock + AllocGlobal,
     S: Store<Global>,

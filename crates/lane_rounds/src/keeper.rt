@@ -1,11 +1,8 @@
 //! The thread of rounds.
 
-ghost use Rattle.lane_rounds.specs.Clocks.{IsTestOf};
-
-use crate::clock::RoundClock;
 use crate::engine::Engine;
 use crate::rounds::try_one;
-use lent_parts::PartsName;
+use lent_parts::{PartsName, RoundClock};
 use server_house::{House, ShutdownStage};
 use std::alloc::Global;
 use std::sync::Wait;
@@ -16,14 +13,13 @@ use virtual_tree::Store;
 /// again by itself.
 const BACKSTOP: u64 = 200;
 
-/// Holds rounds when no lane does, until the lanes are to end. The moments of the clock pass the test of the name.
-pub fn keep_rounds<R, S, H, B>(rt: &R, house: &House<S, H, B>, engine: &Engine<B>)
+/// Holds rounds when no lane does, until the lanes are to end.
+pub fn keep_rounds<R, S, H, B, N>(rt: &R, house: &House<S, H, B>, engine: &Engine<B, N>)
 where
     R: Wait + Clock + RoundClock + AllocGlobal,
     S: Store<Global>,
     H: Drop,
     B: PartsName,
-    requires clock { IsTestOf R.when B.when }
 {
     for _ in rt.forever() {
         let seen = house.waker.seen();

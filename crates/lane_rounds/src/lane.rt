@@ -3,15 +3,13 @@
 ghost use Rattle.std.specs.Prelude.{◌≡◌};
 ghost use Rattle.desk_rule.specs.declared.view.SeatState.TheVariants.{Free};
 ghost use Rattle.lane_desk.specs.Seats.{seat_view};
-ghost use Rattle.lane_rounds.specs.Clocks.{IsTestOf};
 ghost use Rattle.lane_rounds.specs.Gates.{signed};
 ghost use Rattle.server_house.specs.Tickets.{is_upload};
 
 use crate::asking::UploadLooks;
-use crate::clock::RoundClock;
 use crate::engine::Engine;
 use crate::gate::LaneGate;
-use lent_parts::{LentPass, LentWorker, PartsName};
+use lent_parts::{LentPass, LentWorker, PartsName, RoundClock};
 use line_rates::Way;
 use server_house::{DataConnection, House, LaneSign, SessionTicket, ShutdownStage};
 use std::alloc::Global;
@@ -35,7 +33,7 @@ fn is_upload<R: Source, K: Sink, C: Read + Write + Drop>(job: &LaneJob<R, K, C>)
 }
 
 // Returns whether no rate is a limit of a user's uploads, and nobody holds a round now.
-fn is_free<B: PartsName>(engine: &Engine<B>, user: u32) -> bool {
+fn is_free<B: PartsName, N>(engine: &Engine<B, N>, user: u32) -> bool {
     match engine.rounds.try_lock() {
         Some(rounds) => rounds.is_free(Way::Up, user),
         None => false,
@@ -43,9 +41,9 @@ fn is_free<B: PartsName>(engine: &Engine<B>, user: u32) -> bool {
 }
 
 // The looks of an upload, if there is memory for them. Its lane's sign has from then on whether a rate limits it.
-fn looks_of<R: Source, K: Sink, B: PartsName>(
+fn looks_of<R: Source, K: Sink, B: PartsName, N>(
     alloc: Global,
-    engine: &Engine<B>,
+    engine: &Engine<B, N>,
     sign: &LaneSign,
     job: &LaneJob<R, K, DataConnection>,
 ) -> Option<UploadLooks> {
@@ -81,11 +79,11 @@ fn sign<R: Source, K: Sink, C: Read + Write + Drop>(sign: &LaneSign, job: &LaneJ
 }
 
 /// Runs the transfer that waits on a ticket to its end, and reports that; nothing if it was taken back.
-pub(crate) fn run_transfer<'h, R, S, H, B>(
+pub(crate) fn run_transfer<'h, R, S, H, B, N>(
     rt: &R,
     house: &'h House<S, H, B>,
-    engine: &Engine<B>,
-    worker: &mut LentWorker<B>,
+    engine: &Engine<B, N>,
+    worker: &mut LentWorker<B, N>,
     ticket: &'h SessionTicket<S>,
 )
 where
@@ -93,7 +91,6 @@ where
     S: Store<Global>,
     H: Drop,
     B: PartsName,
-    requires clock { IsTestOf R.when B.when }
     requires free { (seat_view worker.old.seat).state ≡ Free }
 {
     let Ok((job, run)) = TicketRun::take(ticket) else {
@@ -119,11 +116,11 @@ where
 }
 
 // Runs the transfer of the next ticket whose number is on the board. Returns whether there was a number.
-fn run_next<R, S, H, B>(
+fn run_next<R, S, H, B, N>(
     rt: &R,
     house: &House<S, H, B>,
-    engine: &Engine<B>,
-    worker: &mut LentWorker<B>,
+    engine: &Engine<B, N>,
+    worker: &mut LentWorker<B, N>,
     pass: &mut LentPass<B, u32>,
 ) -> bool
 where
@@ -131,7 +128,6 @@ where
     S: Store<Global>,
     H: Drop,
     B: PartsName,
-    requires clock { IsTestOf R.when B.when }
     requires free { (seat_view worker.old.seat).state ≡ Free }
 {
     match house.board.pop(rt, pass) {
@@ -149,14 +145,13 @@ where
 /// Takes transfers from the tickets whose numbers are on the board, and runs each to its end, until the lanes are to end:
 /// no session is left then. A transfer that its session wants to end is stopped before its next ask, and the lane takes
 /// the next one. The lock of the lane's seat is free between two transfers, so that a session may use it ([`run_here`]).
-/// The moments of the clock pass the test of the name.
 ///
 /// [`run_here`]: crate::run_here
-pub fn work_lane<R, S, H, B>(
+pub fn work_lane<R, S, H, B, N>(
     rt: &R,
     house: &House<S, H, B>,
-    engine: &Engine<B>,
-    seat: &Mutex<LentWorker<B>>,
+    engine: &Engine<B, N>,
+    seat: &Mutex<LentWorker<B, N>>,
     mut pass: LentPass<B, u32>,
 )
 where
@@ -164,7 +159,6 @@ where
     S: Store<Global>,
     H: Drop,
     B: PartsName,
-    requires clock { IsTestOf R.when B.when }
 {
     for _ in rt.forever() {
         let seen = house.jobs.seen();

@@ -7,12 +7,11 @@
 //! A session may run a short download itself, at the seat of a lane that runs none ([`run_here`]).
 //! An upload asks for the octets that have come, and waits for some.
 //! [`keep_rounds`] is the fallback: it holds a round when no lane does. The pace says when a round may be held and what
-//! it may grant. The moments of rounds are read from a [`RoundClock`]. The rounds tally what they grant to each transfer,
+//! it may grant. The moments of rounds are read from a `RoundClock`. The rounds tally what they grant to each transfer,
 //! and what holds it back in them, for a [`look`].
 #![tactic(auto)]
 
 mod asking;
-mod clock;
 mod ends;
 mod engine;
 mod gate;
@@ -22,7 +21,6 @@ mod looking;
 mod own_run;
 mod rounds;
 
-pub use clock::RoundClock;
 pub use engine::Engine;
 pub use keeper::keep_rounds;
 pub use lane::work_lane;

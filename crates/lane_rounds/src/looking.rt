@@ -30,7 +30,11 @@ fn running_on(lanes: &[LaneSign]) -> [u64; MAX_LANES] {
 
 /// Looks at the rounds, if nobody holds one at one of several tries. The lock of the rounds is only tried, here too: who
 /// could not get it meanwhile relies on the waker, which is raised.
-pub fn look<R, S, H, B>(rt: &R, house: &House<S, H, B>, engine: &Engine<B>) -> Option<RoundLook>
+pub fn look<R, S, H, B, N>(
+    rt: &R,
+    house: &House<S, H, B>,
+    engine: &Engine<B, N>,
+) -> Option<RoundLook>
 where
     R: Wait + Clock,
     S: Store<Global>,

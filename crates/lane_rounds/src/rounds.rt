@@ -6,7 +6,7 @@ ghost use Rattle.lane_rounds.specs.Dues.{sooner};
 use crate::engine::Engine;
 use grant_ledger::MAX_LANES;
 use lane_desk::RoundRecord;
-use lent_parts::{LentDesk, LentRounds, PartsName};
+use lent_parts::{LentDesk, LentRounds, Moment, PartsName};
 use line_rates::Way;
 use round_pace::{Due, TICK_MICROS};
 use server_house::{House, LaneSign};
@@ -41,9 +41,9 @@ fn wake_lanes(lanes: &[LaneSign], answered: u64, is_refused: bool) {
 // The lanes that a round is of: those with a transfer whose rows are open, or which is to stop. The ask of one that is to
 // stop is answered too, so that its lane can leave it. A lane without a transfer is not tried. The signs are hints, as for
 // `due_by`: a lane whose sign is stale is left out, or asked too early, in one round.
-fn open_lanes<S: Store<Global>, H: Drop, B: PartsName>(
+fn open_lanes<S: Store<Global>, H: Drop, B: PartsName, N>(
     house: &House<S, H, B>,
-    rounds: &LentRounds<B>,
+    rounds: &LentRounds<B, N>,
     now: u64,
 ) -> [bool; MAX_LANES] {
     let mut given = [false; MAX_LANES];
@@ -68,9 +68,9 @@ fn transfers_of(lanes: &[LaneSign]) -> [u64; MAX_LANES] {
 
 // Tells each lane that a round has answered whether it was granted all that it asked for, and one that receives whether
 // its rates have plenty left, and whether none is a limit.
-fn report_grants<B: PartsName>(
+fn report_grants<B: PartsName, N>(
     lanes: &[LaneSign],
-    rounds: &LentRounds<B>,
+    rounds: &LentRounds<B, N>,
     record: &RoundRecord,
     now: u64,
 ) {
@@ -87,20 +87,18 @@ fn report_grants<B: PartsName>(
 }
 
 // Holds one round of the lanes whose transfers' rows are open. A refused one has answered each lane too, with 0 octets.
-fn hold_one<S: Store<Global>, H: Drop, B: PartsName>(
+fn hold_one<S: Store<Global>, H: Drop, B: PartsName, N>(
     alloc: Global,
     house: &House<S, H, B>,
-    desk: &LentDesk<B>,
-    rounds: &mut LentRounds<B>,
-    now: u64,
-)
-    requires when { B.when now ≡ true }
-{
-    let given = open_lanes(house, &*rounds, now);
+    desk: &LentDesk<B, N>,
+    rounds: &mut LentRounds<B, N>,
+    now: Moment,
+) {
+    let given = open_lanes(house, &*rounds, now.micros());
     let transfers = transfers_of(&house.lanes);
     match rounds.hold(alloc, desk, now, &given, &transfers) {
         Ok(record) => {
-            report_grants(&house.lanes, &*rounds, &record, now);
+            report_grants(&house.lanes, &*rounds, &record, now.micros());
             wake_lanes(&house.lanes, record.answered, false);
         }
         Err(fault) => wake_lanes(&house.lanes, fault.answered, true),
@@ -120,9 +118,9 @@ fn sooner(one: Due, other: Due) -> Due
 // The earliest moment of a round for the worker of a lane: at once, if its transfer is to stop, and never without a
 // transfer. The lane's sign is a hint: it may have the name of the worker's next transfer by now, and then a round is
 // held too early or too late for this one.
-fn due_at<S: Store<Global>, H: Drop, B: PartsName>(
+fn due_at<S: Store<Global>, H: Drop, B: PartsName, N>(
     house: &House<S, H, B>,
-    rounds: &LentRounds<B>,
+    rounds: &LentRounds<B, N>,
     sign: &LaneSign,
     now: u64,
 ) -> Due {
@@ -136,9 +134,9 @@ fn due_at<S: Store<Global>, H: Drop, B: PartsName>(
 }
 
 // The earliest moment of a round for the worker of a lane, or for that of any.
-fn due_by<S: Store<Global>, H: Drop, B: PartsName>(
+fn due_by<S: Store<Global>, H: Drop, B: PartsName, N>(
     house: &House<S, H, B>,
-    rounds: &LentRounds<B>,
+    rounds: &LentRounds<B, N>,
     sign: Option<&LaneSign>,
     now: u64,
 ) -> Due {
@@ -154,20 +152,18 @@ fn due_by<S: Store<Global>, H: Drop, B: PartsName>(
     }
 }
 
-/// Holds one round at a moment in microseconds, if none is being held and one is due: for the worker of the lane with
+/// Holds one round at a moment, if none is being held and one is due: for the worker of the lane with
 /// this sign, or for that of any lane.
-pub(crate) fn try_one<S: Store<Global>, H: Drop, B: PartsName>(
+pub(crate) fn try_one<S: Store<Global>, H: Drop, B: PartsName, N>(
     alloc: Global,
     house: &House<S, H, B>,
-    engine: &Engine<B>,
+    engine: &Engine<B, N>,
     sign: Option<&LaneSign>,
-    now: u64,
-) -> Tried
-    requires when { B.when now ≡ true }
-{
+    now: Moment,
+) -> Tried {
     match engine.rounds.try_lock() {
         None => Tried::ByAnother,
-        Some(mut guard) => match due_by(house, &*guard, sign, now) {
+        Some(mut guard) => match due_by(house, &*guard, sign, now.micros()) {
             Due::At(moment) => Tried::NotBefore(moment),
             Due::Now => {
                 let seen = house.waker.seen();
@@ -184,19 +180,17 @@ pub(crate) fn try_one<S: Store<Global>, H: Drop, B: PartsName>(
 /// The waker is raised before the try. So if another thread has the lock, it sees that after it has released the lock,
 /// and holds a round for whoever is due. The lane itself looks again a tick later: its rows may not have been open in
 /// that round.
-pub(crate) fn help<S: Store<Global>, H: Drop, B: PartsName>(
+pub(crate) fn help<S: Store<Global>, H: Drop, B: PartsName, N>(
     alloc: Global,
     house: &House<S, H, B>,
-    engine: &Engine<B>,
+    engine: &Engine<B, N>,
     sign: &LaneSign,
-    now: u64,
-) -> Option<u64>
-    requires when { B.when now ≡ true }
-{
+    now: Moment,
+) -> Option<u64> {
     house.waker.raise();
     let mut seen = match try_one(alloc, house, engine, Some(sign), now) {
         Tried::Held(seen) => seen,
-        Tried::ByAnother => return Some(now.saturating_add(TICK_MICROS)),
+        Tried::ByAnother => return Some(now.micros().saturating_add(TICK_MICROS)),
         Tried::NotBefore(moment) => return Some(moment),
     };
     for _ in 1..IN_A_ROW {

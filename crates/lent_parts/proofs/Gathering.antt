@@ -17,8 +17,8 @@ module _ {N : Type 0} where
   )
 
 -- what they tell as moved is passed on with them
-module _ {B : Type 0} {names : Ghosts B} where
-  pub moved_passed : (gs gs' : List (Worked (Unit {0}))) (g : Worked (Unit {0})) (ws ws' : List (LentWorker B names)) (w : LentWorker B names) (all : ℕ)
+module _ {B N : Type 0} {names : Ghosts B} where
+  pub moved_passed : (gs gs' : List (Worked N)) (g : Worked N) (ws ws' : List (LentWorker B N names)) (w : LentWorker B N names) (all : ℕ)
       → gs' ≡ gs ++ g ∷ [] → ws ≡ ws' ++ w ∷ [] → g.tally.moved ≡ w.tally.moved → moved_by_all gs + moved_by_lent ws ≡ all → moved_by_all gs' + moved_by_lent ws' ≡ all
   moved_passed gs gs' g ws ws' w all more fewer same before =
-      omega (arith, ap moved_by_all more, sum_by_push (λ (x : Worked (Unit {0})). x.tally.moved) gs g, ap moved_by_lent fewer, sum_by_push (λ (x : LentWorker B names). x.tally.moved) ws' w, same, before)
+      omega (arith, ap moved_by_all more, sum_by_push (λ (x : Worked N). x.tally.moved) gs g, ap moved_by_lent fewer, sum_by_push (λ (x : LentWorker B N names). x.tally.moved) ws' w, same, before)

@@ -11,14 +11,14 @@ use round_tally::{RoundGrant, Tallies, held_back};
 
 /// The limits of a round that was held at a moment, and what it left of their rows.
 #[derive(Drop)]
-pub(crate) struct RoundLimits<'a> {
+pub(crate) struct RoundLimits<'a, N> {
     pub names: &'a HeldNames,
-    pub rounds: &'a PacedRounds<()>,
+    pub rounds: &'a PacedRounds<N>,
     pub asks: &'a [Ask],
     pub moment: u64,
 }
 
-impl<'a> RoundLimits<'a> {
+impl<'a, N> RoundLimits<'a, N> {
     // The limit that held back a leaf: that which was used up, or an inner one whose row the round left closed.
     fn held(&self, leaf: usize) -> Option<Name>
         ensures held { result ≡ held_of (slice_index_or self.now.names.now.names leaf None)
@@ -47,11 +47,11 @@ fn lane_of(lanes: &[u8], leaf: usize) -> usize
 
 /// Adds the grant of each leaf of a round to the tally of the transfer of its lane. A leaf that was granted nothing is not
 /// counted: its round came when others had taken what a limit had, and says nothing of what holds it back.
-pub(crate) fn count_all(
+pub(crate) fn count_all<N>(
     tallies: &mut Tallies,
     lanes: &[u8],
     grants: &[u64],
-    limits: &RoundLimits,
+    limits: &RoundLimits<N>,
     transfers: &[u64; MAX_LANES],
     window: u64,
 )

@@ -8,16 +8,16 @@ use lane_desk::Desk;
 use std::alloc::{Allocator, Global};
 use std::marker::PhantomData;
 
-/// The desk with a name.
-pub struct LentDesk<B: PartsName, A: Allocator = Global> {
-    desk: Desk<(), A>,
+/// The desk with a name, of the book with the name `N`.
+pub struct LentDesk<B: PartsName, N, A: Allocator = Global> {
+    desk: Desk<N, A>,
     name: PhantomData<B>,
     ghost named: { IsNamed B.desk B.lanes desk },
 }
 
-impl<B: PartsName, A: Allocator> LentDesk<B, A> {
+impl<B: PartsName, N, A: Allocator> LentDesk<B, N, A> {
     /// The desk with this name.
-    pub fn new(desk: Desk<(), A>) -> LentDesk<B, A>
+    pub fn new(desk: Desk<N, A>) -> LentDesk<B, N, A>
         requires named { IsNamed B.desk B.lanes desk }
         ensures desk { result.desk ≡ desk }
     {
@@ -28,7 +28,7 @@ impl<B: PartsName, A: Allocator> LentDesk<B, A> {
     }
 
     /// The desk, for calls with its seats.
-    pub fn desk(&self) -> &Desk<(), A>
+    pub fn desk(&self) -> &Desk<N, A>
         ensures desk { result.now ≡ self.now.desk }
         ensures named { IsNamed B.desk B.lanes result.now }
     {
@@ -36,7 +36,7 @@ impl<B: PartsName, A: Allocator> LentDesk<B, A> {
     }
 
     /// Returns the desk, once no thread has it any more.
-    pub fn into_desk(self) -> Desk<(), A>
+    pub fn into_desk(self) -> Desk<N, A>
         ensures desk { result ≡ self.desk }
         ensures named { IsNamed B.desk B.lanes result }
     {

@@ -8,6 +8,7 @@
 #![tactic(auto)]
 
 mod board;
+mod clock;
 mod counting;
 mod desk;
 mod look;
@@ -18,6 +19,7 @@ mod settlement;
 mod worker;
 
 pub use board::{LentBoard, LentPass};
+pub use clock::{Moment, RoundClock};
 pub use desk::LentDesk;
 pub use look::RoundLook;
 pub use name::PartsName;

@@ -8,8 +8,8 @@ ghost use Rattle.lent_parts.specs.Names.{no_table};
 use std::marker::Brand;
 
 /// Names the parts of one server in the types of what its threads are lent: the table of its desk with the number of
-/// its lanes; a test that the rates of its rounds pass, the octets issued before the first of them, and a test that their
-/// moments pass; and the tables of its boards, that of jobs that go first and that of all others.
+/// its lanes; a test that the rates of its rounds pass, and the octets issued before the first of them; and the tables of
+/// its boards, that of jobs that go first and that of all others.
 pub trait PartsName {
     ghost desk: { TableId };
 
@@ -18,8 +18,6 @@ pub trait PartsName {
     ghost rates: { Rates → Bool };
 
     ghost carried: { ℕ };
-
-    ghost when: { ℕ → Bool };
 
     ghost first: { TableId };
 
@@ -35,8 +33,6 @@ impl PartsName for Brand {
     ghost rates = { λ _. true };
 
     ghost carried = { 0 };
-
-    ghost when = { λ _. true };
 
     ghost first = { no_table };
 

@@ -11,13 +11,16 @@ ghost use Rattle.round_pace.specs.Changed.{IsChangedTo};
 ghost use Rattle.round_pace.specs.Earned.{tick_of};
 ghost use Rattle.round_pace.specs.Histories.{rates_of, after};
 ghost use Rattle.round_pace.specs.Offered.{offer_round};
+ghost use Rattle.line_rates.specs.Rates.{Rates};
+ghost use Rattle.round_pace.specs.Paced.{IsPacedFrom};
 ghost use Rattle.round_pace.specs.Rows.{are_free, rows_of};
 ghost use Rattle.round_tally.specs.Counts.{tallied};
 ghost use Rattle.paced_rounds.specs.History.{round_at, history, ended_in, stretch_under, stretches};
 ghost use Rattle.paced_rounds.specs.HeldLeaves.{AreHeld};
 ghost use Rattle.paced_rounds.specs.Beating.{has_plenty, is_open, due_open};
-ghost use Rattle.paced_rounds.specs.Seconds.{AreAt, AreAllowed, HasKept};
+ghost use Rattle.paced_rounds.specs.Allowed.{AreAllowed};
 
+use crate::clock::Moment;
 use crate::counting::{RoundLimits, count_all};
 use crate::desk::LentDesk;
 use crate::look::RoundLook;
@@ -27,7 +30,7 @@ use lane_desk::{RoundFault, RoundRecord, Rounds};
 use line_rates::{Limits, Way};
 use paced_rounds::{HeldNames, PacedRounds, RoundsAccount};
 use round_cadence::Cadence;
-use round_pace::{Due, TICK_MICROS};
+use round_pace::{Due, Pace, TICK_MICROS};
 use round_tally::Tallies;
 use std::alloc::{AllocError, Allocator, Global};
 use std::marker::PhantomData;
@@ -35,11 +38,11 @@ use std::marker::PhantomData;
 /// The length of a window of the tallies, in microseconds: the longest interval between two fillings of a row.
 const WINDOW: u64 = 32 * TICK_MICROS;
 
-/// The rounds of the desk with a name, with its book, at a pace whose rates pass the test of the name, and the tallies of
-/// the transfers that they granted to. Each was held under such rates, and at a moment that passes the name's test of
-/// moments, and all that they have issued is in a tally. They cannot be dropped.
-pub struct LentRounds<B: PartsName> {
-    rounds: PacedRounds<()>,
+/// The rounds of the desk with a name, with the book of the name `N`, at a pace whose rates pass the test of the name, and
+/// the tallies of the transfers that they granted to. Each was held under such rates, at a moment that was read from a
+/// clock, and all that they have issued is in a tally. They cannot be dropped.
+pub struct LentRounds<B: PartsName, N> {
+    rounds: PacedRounds<N>,
     tallies: Tallies,
     names: HeldNames,
     // the octets that were issued before
@@ -48,24 +51,31 @@ pub struct LentRounds<B: PartsName> {
     ghost named: { RoundsAt B.desk B.lanes rounds.rounds.desk },
     ghost rated: { B.rates (rates_of rounds.pace) ≡ true },
     ghost carried: { rounds.carried ≡ B.carried },
-    ghost moments: { AreAt B.when (history rounds.log.items) },
-    ghost ended: { AreAllowed B.rates B.when (ended_in rounds.ended.items) },
-    ghost last: { B.when rounds.latest ≡ true },
+    ghost ended: { AreAllowed B.rates (ended_in rounds.ended.items) },
     ghost counted: { rounds.rounds.book.issued ≡ tallied tallies + before },
 }
 
-impl<B: PartsName> LentRounds<B> {
-    /// The rounds of the desk, before any seat was returned, with nothing tallied. What holds transfers back is counted
-    /// if that is wanted.
-    pub fn new(rounds: PacedRounds<()>, is_wanted: bool) -> LentRounds<B>
-        requires named { RoundsAt B.desk B.lanes rounds.rounds.desk }
-        requires rated { B.rates (rates_of rounds.pace) ≡ true }
-        requires carried { rounds.carried ≡ B.carried }
-        requires moments { AreAt B.when (history rounds.log.items) }
-        requires ended { AreAllowed B.rates B.when (ended_in rounds.ended.items) }
-        requires last { B.when rounds.latest ≡ true }
-        ensures rounds { result.rounds ≡ rounds }
+impl<B: PartsName, N> LentRounds<B, N> {
+    /// The rounds of the desk, before any seat was returned, at a new pace that was made at this moment, with the beats of
+    /// its rows and with nothing tallied. What holds transfers back is counted if that is wanted.
+    pub fn new(
+        rounds: Rounds<N>,
+        pace: Pace,
+        cadence: Cadence,
+        begun: Moment,
+        is_wanted: bool,
+    ) -> LentRounds<B, N>
+        requires named { RoundsAt B.desk B.lanes rounds.desk }
+        requires new { (rates : Rates) × IsPacedFrom (tick_of begun.micros) rates pace }
+        requires rated { B.rates (rates_of pace) ≡ true }
+        requires carried { rounds.book.issued ≡ B.carried }
+        ensures rounds { result.rounds.rounds ≡ rounds }
+        ensures pace { (result.rounds.pace ≡ pace) × (result.rounds.cadence ≡ cadence) }
+        ensures moments { (result.rounds.opened ≡ begun.micros)
+            × (result.rounds.latest ≡ begun.micros) }
+        ensures before { result.before ≡ rounds.book.issued }
     {
+        let rounds = PacedRounds::new(rounds, pace, cadence, begun.micros);
         let before = rounds.issued();
         LentRounds {
             rounds,
@@ -111,16 +121,15 @@ impl<B: PartsName> LentRounds<B> {
     pub fn hold<A: Allocator + Clone, D: Allocator>(
         &mut self,
         alloc: A,
-        desk: &LentDesk<B, D>,
-        now: u64,
+        desk: &LentDesk<B, N, D>,
+        now: Moment,
         given: &[bool; MAX_LANES],
         transfers: &[u64; MAX_LANES],
     ) -> Result<RoundRecord<A>, RoundFault>
-        requires when { B.when now ≡ true }
         ensures tally { self.new.rounds.rounds.tally ≡ self.old.rounds.rounds.tally }
-        ensures tick { let p = offer_round (tick_of (max now self.old.rounds.latest))
+        ensures tick { let p = offer_round (tick_of (max now.micros self.old.rounds.latest))
             self.old.rounds.pace in IfOk result (λ r. r.tick ≡ p.moment / 100) }
-        ensures round { let p = offer_round (tick_of (max now self.old.rounds.latest))
+        ensures round { let p = offer_round (tick_of (max now.micros self.old.rounds.latest))
             self.old.rounds.pace in IfOk result (λ r. IsRoundOver (is_given given.now) p.offered
             (p.moment / 100) (traces self.old.rounds.rounds.desk)
             (traces self.new.rounds.rounds.desk) r.answered (seen r.sealed.tree) r.lanes.items
@@ -128,10 +137,10 @@ impl<B: PartsName> LentRounds<B> {
         ensures best { IfOk result (λ r. IsBest (seen r.sealed.tree) r.sealed.grants) }
         ensures issued { IfOk result (λ r. self.new.rounds.rounds.book.issued
             ≡ self.old.rounds.rounds.book.issued + sum r.sealed.grants) }
-        ensures last_tick { let p = offer_round (tick_of (max now self.old.rounds.latest))
+        ensures last_tick { let p = offer_round (tick_of (max now.micros self.old.rounds.latest))
             self.old.rounds.pace in OnOk result
             (self.new.rounds.rounds.book.last_tick ≡ Some (p.moment / 100)) }
-        ensures refused { let p = offer_round (tick_of (max now self.old.rounds.latest))
+        ensures refused { let p = offer_round (tick_of (max now.micros self.old.rounds.latest))
             self.old.rounds.pace in IfErr result (λ f. IsRefusedRoundOver A (is_given given.now)
             p.offered (p.moment / 100) self.old.rounds.rounds.book
             (traces self.old.rounds.rounds.desk) (traces self.new.rounds.rounds.desk) f.answered
@@ -139,11 +148,11 @@ impl<B: PartsName> LentRounds<B> {
         ensures unchanged { OnErr result
             (self.new.rounds.rounds.book ≡ self.old.rounds.rounds.book) }
         ensures grows { history self.new.rounds.log.items ≡ history self.old.rounds.log.items
-            ++ round_at (max now self.old.rounds.latest) result ∷ [] }
+            ++ round_at (max now.micros self.old.rounds.latest) result ∷ [] }
         ensures left { self.new.rounds.pace
-            ≡ after self.old.rounds.pace (round_at (max now self.old.rounds.latest) result) }
+            ≡ after self.old.rounds.pace (round_at (max now.micros self.old.rounds.latest) result) }
         ensures wanted { self.new.names.is_wanted ≡ self.old.names.is_wanted }
-        ensures held { let p = offer_round (tick_of (max now self.old.rounds.latest))
+        ensures held { let p = offer_round (tick_of (max now.micros self.old.rounds.latest))
             self.old.rounds.pace in self.old.names.is_wanted ≡ true
             → IfOk result (λ r. AreHeld p.offered r.tick r.asks.items (seen r.sealed.tree)
             r.sealed.grants self.new.names.names) }
@@ -152,6 +161,7 @@ impl<B: PartsName> LentRounds<B> {
         ensures uncounted { OnErr result (self.new.tallies ≡ self.old.tallies) }
         ensures before { self.new.before ≡ self.old.before }
     {
+        let now = now.micros;
         let result = self
             .rounds
             .hold(alloc, desk.desk(), now, given, &mut self.names);
@@ -223,14 +233,13 @@ impl<B: PartsName> LentRounds<B> {
         self.rounds.change(alloc, limits, cadence)
     }
 
-    /// Returns the rounds and their account, once no thread has them any more: there is a history of rounds, under rates
-    /// and at moments that pass the tests of the name, in which each rate was kept, and which granted the octets issued
-    /// beyond those carried.
-    pub fn into_rounds(self) -> (Rounds<()>, RoundsAccount<()>)
+    /// Returns the rounds and their account, once no thread has them any more. The rates of its history pass the test of the
+    /// name.
+    pub fn into_rounds(self) -> (Rounds<N>, RoundsAccount<N>)
         ensures rounds { (result.0 ≡ self.rounds.rounds) × RoundsAt B.desk B.lanes result.0.desk }
-        ensures kept { HasKept B.rates B.when B.carried result.0.book.issued }
+        ensures rates { AreAllowed B.rates (ended_in result.1.rounds.items) }
         ensures account { (result.1.issued ≡ result.0.book.issued)
-            × (result.1.carried ≡ self.rounds.carried) }
+            × (result.1.carried ≡ B.carried) }
         ensures moments { (result.1.opened ≡ self.rounds.opened)
             × (result.1.latest ≡ self.rounds.latest) }
         ensures history { ended_in result.1.rounds.items ≡ stretches self.rounds.ended.items

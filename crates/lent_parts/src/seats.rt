@@ -2,23 +2,26 @@
 
 ghost use Rattle.std.specs.Prelude.{◌≡◌, ◌+◌, ◌≤◌, [], IfOk, MatchOption, Some, length, slice_get, vec_capacity};
 ghost use Rattle.lane_desk.specs.Open.{AreFresh};
-ghost use Rattle.paced_rounds.specs.Seconds.{HasKept};
+ghost use Rattle.paced_rounds.specs.Allowed.{AreAllowed};
+ghost use Rattle.paced_rounds.specs.History.{stretches};
+ghost use Rattle.paced_rounds.specs.Settled.{rounds_of};
 
 use crate::desk::LentDesk;
 use crate::name::PartsName;
 use crate::rounds::LentRounds;
 use crate::settlement::{MisplacedParts, settle_lent, tell_misplaced};
 use crate::worker::LentWorker;
-use grant_ledger::{SettledNumbers as Settled, Tally};
+use grant_ledger::Tally;
 use lane_desk::{LaneSeat, Worked};
+use paced_rounds::Settlement;
 use std::alloc::{AllocError, Global};
 use std::sync::{Mutex, Wait};
 
 /// Room to gather this many seats. It cannot be dropped.
-struct SeatRoom<B: PartsName> {
+struct SeatRoom<B: PartsName, N> {
     lanes: usize,
-    gathered: Vec<LentWorker<B>>,
-    worked: Vec<Worked<()>>,
+    gathered: Vec<LentWorker<B, N>>,
+    worked: Vec<Worked<N>>,
     ghost none: { (gathered.items ≡ []) × (worked.items ≡ []) },
     ghost gathers: { lanes ≤ vec_capacity gathered },
     ghost works: { lanes ≤ vec_capacity worked },
@@ -26,16 +29,16 @@ struct SeatRoom<B: PartsName> {
 
 /// The seats of the desk with a name, in the order of their lanes, each with a lock of its own; and room to gather them,
 /// which nobody locks: a seat may not be seen by two threads, so what could hold one needs a lock. They cannot be dropped.
-pub struct LentSeats<B: PartsName> {
-    seats: Vec<Mutex<LentWorker<B>>>,
-    room: Mutex<SeatRoom<B>>,
+pub struct LentSeats<B: PartsName, N> {
+    seats: Vec<Mutex<LentWorker<B, N>>>,
+    room: Mutex<SeatRoom<B, N>>,
 }
 
 // Two lists of seats, which cannot be dropped.
-fn new_lists<B: PartsName>(
+fn new_lists<B: PartsName, N>(
     alloc: Global,
     lanes: usize,
-) -> Result<(Vec<Mutex<LentWorker<B>>>, Vec<LentWorker<B>>), AllocError>
+) -> Result<(Vec<Mutex<LentWorker<B, N>>>, Vec<LentWorker<B, N>>), AllocError>
     ensures seats { IfOk result (λ l. (l.0.items ≡ []) × (lanes ≤ vec_capacity l.0)) }
     ensures gathered { IfOk result (λ l. (l.1.items ≡ []) × (lanes ≤ vec_capacity l.1)) }
 {
@@ -50,10 +53,10 @@ fn new_lists<B: PartsName>(
 }
 
 // Lends each seat with a tally of its own.
-fn lend_seats<B: PartsName>(
-    seats: Vec<LaneSeat<()>>,
-    tally: &mut Tally<()>,
-    workers: &mut Vec<Mutex<LentWorker<B>>>,
+fn lend_seats<B: PartsName, N>(
+    seats: Vec<LaneSeat<N>>,
+    tally: &mut Tally<N>,
+    workers: &mut Vec<Mutex<LentWorker<B, N>>>,
 )
     requires seats { AreFresh B.desk B.lanes seats.items }
     requires room { length workers.old.items + length seats.items ≤ vec_capacity workers.old }
@@ -67,10 +70,10 @@ fn lend_seats<B: PartsName>(
 }
 
 // Takes each seat out of its lock, in order.
-fn unlocked<B: PartsName>(
-    mut seats: Vec<Mutex<LentWorker<B>>>,
-    gathered: Vec<LentWorker<B>>,
-) -> Vec<LentWorker<B>>
+fn unlocked<B: PartsName, N>(
+    mut seats: Vec<Mutex<LentWorker<B, N>>>,
+    gathered: Vec<LentWorker<B, N>>,
+) -> Vec<LentWorker<B, N>>
     requires none { gathered.items ≡ [] }
     requires room { length seats.items ≤ vec_capacity gathered }
     ensures all { length result.items ≡ length seats.items }
@@ -84,9 +87,9 @@ fn unlocked<B: PartsName>(
     all
 }
 
-impl<B: PartsName> LentSeats<B> {
+impl<B: PartsName, N> LentSeats<B, N> {
     /// Room for the seats of this many lanes, and none yet.
-    pub fn open(alloc: Global, lanes: usize) -> Result<LentSeats<B>, AllocError>
+    pub fn open(alloc: Global, lanes: usize) -> Result<LentSeats<B, N>, AllocError>
         ensures room { IfOk result (λ s. (s.seats.items ≡ []) × (lanes ≤ vec_capacity s.seats)) }
     {
         let (seats, gathered) = new_lists(alloc, lanes)?;
@@ -111,7 +114,7 @@ impl<B: PartsName> LentSeats<B> {
     }
 
     /// Lends the seats of a desk that was just opened, each with a tally of its own.
-    pub fn lend(&mut self, seats: Vec<LaneSeat<()>>, tally: &mut Tally<()>)
+    pub fn lend(&mut self, seats: Vec<LaneSeat<N>>, tally: &mut Tally<N>)
         requires seats { AreFresh B.desk B.lanes seats.items }
         requires room { (self.old.seats.items ≡ [])
             × (length seats.items ≤ vec_capacity self.old.seats) }
@@ -129,7 +132,7 @@ impl<B: PartsName> LentSeats<B> {
     }
 
     /// The seat of a lane, behind its lock; none if there is no such lane.
-    pub fn seat(&self, lane: usize) -> Option<&Mutex<LentWorker<B>>>
+    pub fn seat(&self, lane: usize) -> Option<&Mutex<LentWorker<B, N>>>
         ensures seat { MatchOption result (length self.now.seats.items ≤ lane)
             (λ s. slice_get self.now.seats.items lane ≡ Some s.now) }
     {
@@ -142,12 +145,17 @@ impl<B: PartsName> LentSeats<B> {
         self,
         rt: &R,
         told: &mut M,
-        desk: LentDesk<B>,
-        rounds: LentRounds<B>,
-    ) -> Settled
-        ensures issued { result.issued ≡ rounds.rounds.rounds.book.issued }
+        desk: LentDesk<B, N>,
+        rounds: LentRounds<B, N>,
+    ) -> Settlement<N>
+        ensures issued { (result.issued ≡ rounds.rounds.rounds.book.issued)
+            × (result.carried ≡ B.carried) }
         ensures sum { result.issued ≡ result.moved + result.back }
-        ensures kept { HasKept B.rates B.when B.carried result.issued }
+        ensures moments { (result.opened ≡ rounds.rounds.opened)
+            × (result.latest ≡ rounds.rounds.latest) }
+        ensures history { rounds_of result
+            ≡ stretches rounds.rounds.ended.items rounds.rounds.pace rounds.rounds.log.items }
+        ensures rates { AreAllowed B.rates (rounds_of result) }
     {
         let LentSeats { seats, room } = self;
         let SeatRoom {

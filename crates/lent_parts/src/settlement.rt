@@ -2,15 +2,17 @@
 
 ghost use Rattle.std.specs.Prelude.{◌≡◌, ◌+◌, ◌≤◌, [], length, vec_capacity};
 ghost use Rattle.lane_desk.specs.Workers.{AreWorkers, moved_by_all};
-ghost use Rattle.paced_rounds.specs.Seconds.{HasKept};
+ghost use Rattle.paced_rounds.specs.Allowed.{AreAllowed};
+ghost use Rattle.paced_rounds.specs.History.{stretches};
+ghost use Rattle.paced_rounds.specs.Settled.{rounds_of};
 ghost use Rattle.lent_parts.specs.Reported.{moved_by_lent};
 
 use crate::desk::LentDesk;
 use crate::name::PartsName;
 use crate::rounds::LentRounds;
 use crate::worker::LentWorker;
-use grant_ledger::SettledNumbers as Settled;
 use lane_desk::{Worked, settle_all};
+use paced_rounds::Settlement;
 use std::alloc::Allocator;
 use std::sync::Wait;
 
@@ -31,11 +33,11 @@ pub(crate) fn tell_misplaced<R: Wait, M: MisplacedParts>(rt: &R, told: &mut M, l
 
 // Gathers workers in the order of their lanes. The type of a worker does not contain its lane: one that is not in its
 // lane's place is reported for ever.
-fn gather<R: Wait, B: PartsName, M: MisplacedParts, A: Allocator>(
+fn gather<R: Wait, B: PartsName, N, M: MisplacedParts, A: Allocator>(
     rt: &R,
     told: &mut M,
-    mut workers: Vec<LentWorker<B>, A>,
-    gathered: &mut Vec<Worked<()>, A>,
+    mut workers: Vec<LentWorker<B, N>, A>,
+    gathered: &mut Vec<Worked<N>, A>,
 )
     requires room { length workers.items ≤ vec_capacity gathered.old }
     requires none { gathered.old.items ≡ [] }
@@ -56,34 +58,39 @@ fn gather<R: Wait, B: PartsName, M: MisplacedParts, A: Allocator>(
 /// Gathers everything lent of a desk, closes it, and settles the book: the octets issued are those moved and those
 /// given back in the tallies. The workers are in the order of their lanes, and there is room for as many.
 ///
-/// There is a history of rounds, under rates and at moments that pass the tests of the name, in which each rate was kept,
-/// and which granted the octets issued beyond those carried.
+/// The settlement has the history of the rounds, whose rates pass the test of the name, and the moments of the first and
+/// the last of them.
 ///
 /// The types of the workers say that they are of this desk. That each lane's worker is there, and in its place, is checked:
 /// otherwise this waits for ever, as a caller would have to that got all parts back, which cannot be dropped, and reports
 /// it to `told`.
-pub fn settle_lent<R: Wait, B: PartsName, M: MisplacedParts, A: Allocator, D: Allocator>(
+pub fn settle_lent<R: Wait, B: PartsName, N, M: MisplacedParts, A: Allocator, D: Allocator>(
     rt: &R,
     told: &mut M,
-    desk: LentDesk<B, D>,
-    rounds: LentRounds<B>,
-    workers: Vec<LentWorker<B>, A>,
-    room: Vec<Worked<()>, A>,
-) -> Settled
+    desk: LentDesk<B, N, D>,
+    rounds: LentRounds<B, N>,
+    workers: Vec<LentWorker<B, N>, A>,
+    room: Vec<Worked<N>, A>,
+) -> Settlement<N>
     requires room { length workers.items ≤ vec_capacity room }
     requires none { room.items ≡ [] }
-    ensures issued { result.issued ≡ rounds.rounds.rounds.book.issued }
+    ensures issued { (result.issued ≡ rounds.rounds.rounds.book.issued)
+        × (result.carried ≡ B.carried) }
     ensures moved { result.moved
         ≡ rounds.rounds.rounds.tally.moved + moved_by_lent workers.items }
     ensures sum { result.issued ≡ result.moved + result.back }
-    ensures kept { HasKept B.rates B.when B.carried result.issued }
+    ensures moments { (result.opened ≡ rounds.rounds.opened)
+        × (result.latest ≡ rounds.rounds.latest) }
+    ensures history { rounds_of result
+        ≡ stretches rounds.rounds.ended.items rounds.rounds.pace rounds.rounds.log.items }
+    ensures rates { AreAllowed B.rates (rounds_of result) }
 {
     let mut gathered = room;
     gather(rt, told, workers, &mut gathered);
     let desk = desk.into_desk();
     if gathered.len() == desk.lanes() {
         let (rounds, account) = rounds.into_rounds();
-        account.settle(settle_all(desk, rounds, gathered)).numbers()
+        account.settle(settle_all(desk, rounds, gathered))
     } else {
         tell_misplaced(rt, told, gathered.len())
     }

@@ -21,17 +21,17 @@ use virtual_tree::{Sink, Source};
 
 /// A seat of the desk with a name, with the tally of everything that it took: the octets moved and given back add up to
 /// that. It cannot be dropped.
-pub struct LentWorker<B: PartsName> {
-    pub(crate) seat: LaneSeat<()>,
-    pub(crate) tally: Tally<()>,
+pub struct LentWorker<B: PartsName, N> {
+    pub(crate) seat: LaneSeat<N>,
+    pub(crate) tally: Tally<N>,
     name: PhantomData<B>,
     ghost named: { SitsAt B.desk B.lanes seat },
     ghost reported: { tally.moved + tally.back ≡ sum (seat_view seat).taken },
 }
 
-impl<B: PartsName> LentWorker<B> {
+impl<B: PartsName, N> LentWorker<B, N> {
     /// A seat of the desk, with a tally of everything that it took.
-    pub fn new(seat: LaneSeat<()>, tally: Tally<()>) -> LentWorker<B>
+    pub fn new(seat: LaneSeat<N>, tally: Tally<N>) -> LentWorker<B, N>
         requires named { SitsAt B.desk B.lanes seat }
         requires reported { tally.moved + tally.back ≡ sum (seat_view seat).taken }
         ensures parts { (result.seat ≡ seat) × (result.tally ≡ tally) }
@@ -70,7 +70,7 @@ impl<B: PartsName> LentWorker<B> {
         &mut self,
         rt: &W,
         alloc: A,
-        desk: &LentDesk<B, D>,
+        desk: &LentDesk<B, N, D>,
         job: LaneJob<R, K, C>,
         gate: &mut G,
     ) -> bool
@@ -103,7 +103,7 @@ impl<B: PartsName> LentWorker<B> {
     }
 
     /// Returns the seat and the tally, once no thread has them any more.
-    pub fn into_worked(self) -> Worked<()>
+    pub fn into_worked(self) -> Worked<N>
         ensures seat { (result.seat ≡ self.seat) × SitsAt B.desk B.lanes result.seat }
         ensures tally { result.tally ≡ self.tally }
     {

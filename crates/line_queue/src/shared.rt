@@ -1,6 +1,6 @@
 //! Queues among threads.
 
-ghost use Rattle.std.specs.Prelude.{◌≡◌, ◌+◌, ◌<◌, ◌^◌, IfOk, MatchResult, string_bytes};
+ghost use Rattle.std.specs.Prelude.{◌≡◌, ◌+◌, ◌<◌, ◌^◌, IfOk, MatchResult, nat_eq, not, string_bytes};
 ghost use Rattle.line_queue.specs.Queues.{empty, lines_lost, offered, one_dropped, settled, settled_count, transfers_text};
 
 use crate::queue::LineQueue;
@@ -19,6 +19,8 @@ pub struct SharedLines {
     pub(crate) waker: EventCount,
     // 1 once no more lines come
     closed: AtomicU64,
+    // number of the lines that were dropped
+    lost: AtomicU64,
 }
 
 // Offers a line, or counts it if it could not be made.
@@ -31,6 +33,18 @@ fn offer(queue: &mut LineQueue, line: Result<String, AllocError>)
         Ok(line) => queue.offer(line),
         Err(_) => queue.miss(),
     }
+}
+
+// The same. Returns whether a line was dropped.
+fn offer_and_look(queue: &mut LineQueue, line: Result<String, AllocError>) -> bool
+    ensures offered { queue.old.dropped + 1 < 2 ^ 64 → MatchResult line
+        (λ line. queue.new ≡ offered queue.old (string_bytes line))
+        (λ _. queue.new ≡ one_dropped queue.old) }
+    ensures dropped { result ≡ not (nat_eq queue.new.dropped queue.old.dropped) }
+{
+    let before = queue.dropped();
+    offer(queue, line);
+    queue.dropped() != before
 }
 
 // Takes the count of dropped lines once the others are written; 0 before.
@@ -76,19 +90,34 @@ impl SharedLines {
             transfers: Mutex::new(transfers),
             waker: EventCount::new(),
             closed: AtomicU64::new(0),
+            lost: AtomicU64::new(0),
         })
     }
 
     /// Offers a note, with its end. One that could not be made is counted as a line that is dropped.
     pub fn note<R: Wait>(&self, rt: &R, line: Result<String, AllocError>) {
-        offer(&mut self.notes.lock(rt), line);
+        let dropped = offer_and_look(&mut self.notes.lock(rt), line);
+        self.count(dropped);
         self.waker.signal();
     }
 
     /// Offers a line of the transfer log, with its end. One that could not be made is counted as a line that is dropped.
     pub fn transfer<R: Wait>(&self, rt: &R, line: Result<String, AllocError>) {
-        offer(&mut self.transfers.lock(rt), line);
+        let dropped = offer_and_look(&mut self.transfers.lock(rt), line);
+        self.count(dropped);
         self.waker.signal();
+    }
+
+    // Counts a line that was dropped.
+    fn count(&self, is_dropped: bool) {
+        if is_dropped {
+            self.lost.fetch_add(1, Ordering::SeqCst);
+        }
+    }
+
+    /// Number of the lines that were offered and dropped so far, of both kinds.
+    pub fn lost(&self) -> u64 {
+        self.lost.load(Ordering::SeqCst)
     }
 
     /// Ends the thread that writes, once it has written what is left or has waited long enough for its readers.

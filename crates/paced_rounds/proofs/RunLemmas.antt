@@ -142,14 +142,14 @@ sum_changed ss new q e = ap (sum_by octets_in) e ∙ (sum_by_push octets_in ss (
     none x = omega arith
 
 -- a run keeps the rates that are in force in it
-windowed-prop : (ss : List Stretch) → IsProp (AreWindowed ss)
+pub windowed-prop : (ss : List Stretch) → IsProp (AreWindowed ss)
 windowed-prop [] = λ x y. refl
 windowed-prop (s ∷ ss) = λ x y i. (one s x.0 y.0 i, windowed-prop ss x.1 y.1 i)
   where
     one : (s : Stretch) → IsProp (IsWindowed s)
     one s = hlevel props
 
-run-seconds : (ss : List Stretch) → IsProp ((n : Name) (second bound : ℕ) → AreWithin bound (rates_where (is_in second) (rated_under n ss)) → granted_where (is_in second) (map round_of (rated_under n ss)) ≤ bound + changes (rates_where (is_in second) (rated_under n ss)))
+pub run-seconds : (ss : List Stretch) → IsProp ((n : Name) (second bound : ℕ) → AreWithin bound (rates_where (is_in second) (rated_under n ss)) → granted_where (is_in second) (map round_of (rated_under n ss)) ≤ bound + changes (rates_where (is_in second) (rated_under n ss)))
 run-seconds ss = hlevel props
 
 pub keeps_rates : StretchesKeepRates → (p : Paced) (latest : ℕ) (ss : List Stretch) → ∥ IsRun p latest ss ∥₁ → StretchesKeep ss

@@ -13,6 +13,7 @@ use Rattle.round_pace.specs.Rounds.{Round, granted_where, is_in}
 use Rattle.round_pace.specs.Stretches.{Stretch, RatedRound, rated, rated_under, round_of, rates_where, changes, AreWithin, StretchesKeep}
 use Rattle.paced_rounds.specs.History.{octets_in, stretch_under}
 use Rattle.paced_rounds.specs.Spans.{AreBetween, AllBetween, HasRate, HasRates, IsWithinRates, SpansAreKept, allowed_at, allowed_from, allowed_in, granted_to, greatest, seconds_from}
+use Rattle.paced_rounds.proofs.RunLemmas.{run-seconds, windowed-prop}
 use Rattle.paced_rounds.proofs.SecondLemmas.{Each, before, before_all, before_none, granted_plain, next, octets, octets_all, same_rate}
 
 -- ---- the moments of a history
@@ -190,4 +191,10 @@ within_by law ss first last hidden = record {
   allowed = λ n rates. ∥∥₁_elim hidden (le_prop (granted_to n ss) (allowed_from n ss first last)) (λ p. (law ss first last p.0 p.1).allowed n rates);
   one_rate = λ n rate ne has. ∥∥₁_elim hidden (le_prop (granted_to n ss) (seconds_from first last * rate)) (λ p. (law ss first last p.0 p.1).one_rate n rate ne has);
   server = granted_plain (rated_under Server ss) ∙ octets_all ss;
+}
+
+pub kept_by : (ss : List Stretch) (first last : ℕ) → ∥ StretchesKeep ss × AllBetween first last ss ∥₁ → StretchesKeep ss
+kept_by ss first last hidden = record {
+  seconds = ∥∥₁_elim hidden (run-seconds ss) (λ p. p.0.seconds);
+  windows = ∥∥₁_elim hidden (windowed-prop ss) (λ p. p.0.windows);
 }

@@ -1,9 +1,10 @@
 //! The account of the rounds of a book, and its settlement.
 
-ghost use Rattle.std.specs.Prelude.{◌≡◌, ◌+◌, ◌≤◌, sum_by};
+ghost use Rattle.std.specs.Prelude.{◌≡◌, ◌+◌, ◌≤◌, [], sum_by};
+ghost use Rattle.line_rates.specs.declared.ask.Name.TheVariants.{Server};
 ghost use Rattle.round_pace.specs.Stretches.{StretchesKeep};
 ghost use Rattle.paced_rounds.specs.History.{ended_in, octets_in};
-ghost use Rattle.paced_rounds.specs.Spans.{AllBetween, IsWithinRates};
+ghost use Rattle.paced_rounds.specs.Spans.{AllBetween, IsWithinRates, granted_to};
 
 use crate::laws::spans_are_kept;
 use grant_ledger::{Settled, SettledNumbers};
@@ -58,34 +59,102 @@ impl<N, A: Allocator> RoundsAccount<N, A> {
     pub fn settle(self, settled: Settled<N>) -> Settlement<N, A>
         requires book { settled.issued ≡ self.issued }
         requires sum { self.issued ≡ settled.moved + settled.back }
-        ensures account { result.account ≡ self }
+        ensures account { (result.issued ≡ self.issued) × (result.carried ≡ self.carried) }
+        ensures moments { (result.opened ≡ self.opened) × (result.latest ≡ self.latest) }
+        ensures rounds { result.rounds ≡ self.rounds }
         ensures settled { (result.moved ≡ settled.moved) × (result.back ≡ settled.back) }
     {
         let numbers = settled.numbers();
+        let RoundsAccount {
+            name: _,
+            issued,
+            carried,
+            opened,
+            latest,
+            rounds,
+        } = self;
         Settlement {
-            account: self,
+            name: PhantomData,
+            issued,
             moved: numbers.moved,
             back: numbers.back,
+            carried,
+            opened,
+            latest,
+            rounds,
         }
     }
 }
 
-/// The settlement of the book with a name and of its rounds. It cannot be dropped: it is handed on, or read by
-/// [`Settlement::numbers`].
+/// The settlement of the book with a name and of its rounds: what [`RoundsAccount`] has, and the octets moved and given
+/// back. Only [`RoundsAccount::settle`] and [`Settlement::unheld`] make one, of a book that was settled, and it cannot be
+/// dropped: it is handed on, or read by [`Settlement::read`].
 pub struct Settlement<N, A: Allocator = Global> {
-    account: RoundsAccount<N, A>,
+    name: PhantomData<N>,
+    issued: u64,
     moved: u64,
     back: u64,
-    ghost sum: { account.issued ≡ moved + back },
+    carried: u64,
+    opened: u64,
+    latest: u64,
+    rounds: ProofLog<Pace<A>, ProofLog<u64, ProofLog<Ask, u64>>>,
+    ghost sum: { issued ≡ moved + back },
+    ghost spanned: { ∥ StretchesKeep (ended_in rounds.items)
+        × AllBetween opened latest (ended_in rounds.items) ∥₁ },
+    ghost granted: { issued ≡ carried + sum_by octets_in (ended_in rounds.items) },
+}
+
+/// A settlement that was read: its numbers, and the history of its rounds, which only proofs read. Only
+/// [`Settlement::read`] makes one.
+#[derive(Drop)]
+pub struct SettledRounds<A: Allocator = Global> {
+    /// The octets issued, with those carried.
+    pub issued: u64,
+    /// The octets moved.
+    pub moved: u64,
+    /// The octets given back.
+    pub back: u64,
+    /// The octets issued before the first round.
+    pub carried: u64,
+    /// The moment at which the rounds were opened, in microseconds.
+    pub opened: u64,
+    /// The moment of the last round, in microseconds; that of the opening if there was none.
+    pub latest: u64,
+    rounds: ProofLog<Pace<A>, ProofLog<u64, ProofLog<Ask, u64>>>,
 }
 
 impl<N, A: Allocator> Settlement<N, A> {
+    /// The settlement of a book under which no round was held, at a moment in microseconds.
+    pub fn unheld(settled: Settled<N>, moment: u64) -> Settlement<N, A>
+        requires sum { settled.issued ≡ settled.moved + settled.back }
+        ensures book { (result.issued ≡ settled.issued) × (result.carried ≡ settled.issued) }
+        ensures settled { (result.moved ≡ settled.moved) × (result.back ≡ settled.back) }
+        ensures moments { (result.opened ≡ moment) × (result.latest ≡ moment) }
+        ensures none { ended_in result.rounds.items ≡ [] }
+    {
+        let SettledNumbers {
+            issued,
+            moved,
+            back,
+        } = settled.numbers();
+        Settlement {
+            name: PhantomData,
+            issued,
+            moved,
+            back,
+            carried: issued,
+            opened: moment,
+            latest: moment,
+            rounds: ProofLog::new(),
+        }
+    }
+
     /// The octets issued, with those carried.
     pub fn issued(&self) -> u64
-        ensures issued { result ≡ self.now.account.issued }
+        ensures issued { result ≡ self.now.issued }
         ensures sum { result ≡ self.now.moved + self.now.back }
     {
-        self.account.issued
+        self.issued
     }
 
     /// The octets moved.
@@ -104,59 +173,84 @@ impl<N, A: Allocator> Settlement<N, A> {
 
     /// The octets issued before the first round.
     pub fn carried(&self) -> u64
-        ensures carried { result ≡ self.now.account.carried }
+        ensures carried { result ≡ self.now.carried }
     {
-        self.account.carried
+        self.carried
     }
 
     /// The moment at which the rounds were opened, in microseconds.
     pub fn opened(&self) -> u64
-        ensures opened { result ≡ self.now.account.opened }
+        ensures opened { result ≡ self.now.opened }
     {
-        self.account.opened
+        self.opened
     }
 
     /// The moment of the last round, in microseconds; that of the opening if there was none.
     pub fn latest(&self) -> u64
-        ensures latest { result ≡ self.now.account.latest }
+        ensures latest { result ≡ self.now.latest }
     {
-        self.account.latest
+        self.latest
     }
 
-    /// Reads the numbers, at the end.
+    /// Reads the settlement, at the end.
+    pub fn read(self) -> SettledRounds<A>
+        ensures issued { (result.issued ≡ self.issued) × (result.carried ≡ self.carried) }
+        ensures settled { (result.moved ≡ self.moved) × (result.back ≡ self.back) }
+        ensures sum { result.issued ≡ result.moved + result.back }
+        ensures moments { (result.opened ≡ self.opened) × (result.latest ≡ self.latest) }
+        ensures rounds { result.rounds ≡ self.rounds }
+        ensures every_second { StretchesKeep (ended_in result.rounds.items) }
+        ensures kept { IsWithinRates (ended_in result.rounds.items) result.opened result.latest }
+        ensures server { result.issued
+            ≡ result.carried + granted_to Server (ended_in result.rounds.items) }
+    {
+        self.rates_are_kept();
+        let Settlement {
+            name: _,
+            issued,
+            moved,
+            back,
+            carried,
+            opened,
+            latest,
+            rounds,
+        } = self;
+        SettledRounds {
+            issued,
+            moved,
+            back,
+            carried,
+            opened,
+            latest,
+            rounds,
+        }
+    }
+
+    /// Reads the numbers alone, at the end.
     pub fn numbers(self) -> SettledNumbers
-        ensures issued { result.issued ≡ self.account.issued }
+        ensures issued { result.issued ≡ self.issued }
         ensures moved { result.moved ≡ self.moved }
         ensures back { result.back ≡ self.back }
         ensures sum { result.issued ≡ result.moved + result.back }
     {
-        let Settlement {
-            account,
-            moved,
-            back,
-        } = self;
-        let RoundsAccount {
-            name: _,
-            issued,
-            carried: _,
-            opened: _,
-            latest: _,
-            rounds: _,
-        } = account;
+        let read = self.read();
         SettledNumbers {
-            issued,
-            moved,
-            back,
+            issued: read.issued,
+            moved: read.moved,
+            back: read.back,
         }
     }
 
-    /// A law of the type: the rounds granted what was issued beyond the octets carried, and under each name at most what its
-    /// rates allow from the second of the opening to that of the last round.
+    /// A law of the type: the rounds granted what was issued beyond the octets carried, in each second under each name at most
+    /// its rate, and in all at most what its rates allow from the second of the opening to that of the last round.
     pub fn rates_are_kept(&self)
-        ensures kept { IsWithinRates (ended_in self.now.account.rounds.items)
-            self.now.account.opened self.now.account.latest }
-        ensures issued { self.now.account.issued ≡ self.now.account.carried
-            + sum_by octets_in (ended_in self.now.account.rounds.items) }
+        ensures every_second { StretchesKeep (ended_in self.now.rounds.items) }
+        ensures kept { IsWithinRates (ended_in self.now.rounds.items)
+            self.now.opened self.now.latest }
+        ensures issued { self.now.issued ≡ self.now.carried
+            + sum_by octets_in (ended_in self.now.rounds.items) }
+        ensures server { self.now.issued ≡ self.now.carried
+            + granted_to Server (ended_in self.now.rounds.items) }
     {
         spans_are_kept();
     }

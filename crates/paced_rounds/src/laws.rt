@@ -7,20 +7,11 @@ ghost use Rattle.paced_rounds.specs.History.{stretches, WereGuaranteed};
 ghost use Rattle.paced_rounds.specs.Evenness.{EvenByTurns};
 ghost use Rattle.paced_rounds.specs.LaneTurns.{turns_in, RoundsAreEven, LanesAreEven};
 ghost use Rattle.paced_rounds.specs.PeerKinds.{SessionsArePeers, UsersArePeers};
-ghost use Rattle.paced_rounds.specs.Seconds.{SecondsAreKept, ChangesAreKept};
 ghost use Rattle.paced_rounds.specs.Spans.{SpansAreKept};
 
 use crate::rounds::PacedRounds;
 use round_pace::guarantees_are_offered;
 use std::alloc::Allocator;
-
-/// If there is a history in which all rates are kept, and its moments are in some seconds of the clock, then at most the
-/// rate of the server is issued for each of these seconds; with an octet for each change of it between two rounds of one
-/// second, if it may be changed.
-pub fn seconds_are_kept()
-    ensures kept { SecondsAreKept }
-    ensures changes { ChangesAreKept }
-{}
 
 /// Rounds that keep the rates, from one moment to another, granted under each name at most what its rates allow from the
 /// second of the one to that of the other.

@@ -19,7 +19,7 @@ mod laws;
 mod rounds;
 mod turns;
 
-pub use account::{RoundsAccount, Settlement};
+pub use account::{RoundsAccount, SettledRounds, Settlement};
 pub use held::HeldNames;
-pub use laws::{seconds_are_kept, sessions_and_users_are_peers, spans_are_kept, turns_are_even};
+pub use laws::{sessions_and_users_are_peers, spans_are_kept, turns_are_even};
 pub use rounds::{MOST_ASKED, PacedRounds};

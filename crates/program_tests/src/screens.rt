@@ -3,23 +3,23 @@
 use crate::expect::{holds, same};
 use ftpd_program::{StatusSource, watch};
 use server_status::read_status;
-use status_table::{Status, table_lines};
+use status_table::{Status, looks_lines, table_lines};
 use std::alloc::{AllocError, Global};
 use std::process::Abort;
 
 /// A status with one transfer, which began with the server and has been granted 100,000 octets in a tenth of a second.
 const EARLY: &str =
-    "{\"version\":1,\"unit\":\"octets\",\"started\":5,\"micros\":100000,\"line\":{\"both\":null,\"down\":null,\"up\":null},\"groups\":[],\"users\":1,\"sessions\":1,\"max_sessions\":8,\"lanes\":8,\"issued\":100000,\"ended\":0,\"ended_granted\":0,\"ended_moved\":0,\"held\":{\"server\":0,\"direction\":0,\"group\":0,\"user\":0,\"session\":0,\"nothing\":1},\"failed_logins\":0,\"refused\":0,\"waits\":0,\"transfers\":[{\"session\":1,\"user\":\"ann\",\"group\":null,\"peer\":\"127.0.0.1\",\"direction\":\"down\",\"path\":\"/a\",\"size\":200000,\"begun\":0,\"waiting\":false,\"granted\":100000,\"moved\":100000,\"held\":{\"server\":0,\"direction\":0,\"group\":0,\"user\":0,\"session\":0,\"nothing\":1},\"guaranteed\":null,\"session_rate\":null,\"user_rate\":null}]}\n";
+    "{\"version\":1,\"unit\":\"octets\",\"started\":5,\"micros\":100000,\"line\":{\"both\":null,\"down\":null,\"up\":null},\"groups\":[],\"users\":1,\"sessions\":1,\"max_sessions\":8,\"lanes\":8,\"issued\":100000,\"ended\":0,\"ended_granted\":0,\"ended_moved\":0,\"held\":{\"server\":0,\"direction\":0,\"group\":0,\"user\":0,\"session\":0,\"nothing\":1},\"failed_logins\":0,\"refused\":0,\"waits\":0,\"guaranteed_down\":null,\"guaranteed_up\":null,\"logins\":1,\"refused_logins\":0,\"refused_guarantees\":0,\"lost_lines\":0,\"endings\":{\"aborted\":0,\"file\":0,\"lost\":0,\"memory\":0,\"owner\":0,\"unconnected\":0,\"whole\":0},\"sessions_now\":[{\"session\":1,\"user\":\"ann\",\"group\":null,\"peer\":\"127.0.0.1\",\"begun\":0,\"active\":100000,\"guaranteed_down\":null,\"guaranteed_up\":null}],\"accounts\":[{\"user\":\"ann\",\"group\":null,\"granted_down\":100000,\"granted_up\":0,\"unmet_down\":0,\"unmet_up\":0}],\"transfers\":[{\"session\":1,\"user\":\"ann\",\"group\":null,\"peer\":\"127.0.0.1\",\"direction\":\"down\",\"path\":\"/a\",\"size\":200000,\"begun\":0,\"waiting\":false,\"granted\":100000,\"moved\":100000,\"held\":{\"server\":0,\"direction\":0,\"group\":0,\"user\":0,\"session\":0,\"nothing\":1},\"guaranteed\":null,\"session_rate\":null,\"user_rate\":null}]}\n";
 
 /// The same transfer a second later: 50,000 octets more.
 const LATE: &str =
-    "{\"version\":1,\"unit\":\"octets\",\"started\":5,\"micros\":1100000,\"line\":{\"both\":null,\"down\":null,\"up\":null},\"groups\":[],\"users\":1,\"sessions\":1,\"max_sessions\":8,\"lanes\":8,\"issued\":150000,\"ended\":0,\"ended_granted\":0,\"ended_moved\":0,\"held\":{\"server\":0,\"direction\":0,\"group\":0,\"user\":9,\"session\":0,\"nothing\":2},\"failed_logins\":0,\"refused\":0,\"waits\":0,\"transfers\":[{\"session\":1,\"user\":\"ann\",\"group\":null,\"peer\":\"127.0.0.1\",\"direction\":\"down\",\"path\":\"/a\",\"size\":200000,\"begun\":0,\"waiting\":false,\"granted\":150000,\"moved\":150000,\"held\":{\"server\":0,\"direction\":0,\"group\":0,\"user\":9,\"session\":0,\"nothing\":2},\"guaranteed\":null,\"session_rate\":null,\"user_rate\":null}]}\n";
+    "{\"version\":1,\"unit\":\"octets\",\"started\":5,\"micros\":1100000,\"line\":{\"both\":null,\"down\":null,\"up\":null},\"groups\":[],\"users\":1,\"sessions\":1,\"max_sessions\":8,\"lanes\":8,\"issued\":150000,\"ended\":0,\"ended_granted\":0,\"ended_moved\":0,\"held\":{\"server\":0,\"direction\":0,\"group\":0,\"user\":9,\"session\":0,\"nothing\":2},\"failed_logins\":0,\"refused\":0,\"waits\":0,\"guaranteed_down\":null,\"guaranteed_up\":null,\"logins\":1,\"refused_logins\":0,\"refused_guarantees\":0,\"lost_lines\":0,\"endings\":{\"aborted\":0,\"file\":0,\"lost\":0,\"memory\":0,\"owner\":0,\"unconnected\":0,\"whole\":0},\"sessions_now\":[{\"session\":1,\"user\":\"ann\",\"group\":null,\"peer\":\"127.0.0.1\",\"begun\":0,\"active\":1100000,\"guaranteed_down\":null,\"guaranteed_up\":null}],\"accounts\":[{\"user\":\"ann\",\"group\":null,\"granted_down\":150000,\"granted_up\":0,\"unmet_down\":0,\"unmet_up\":0}],\"transfers\":[{\"session\":1,\"user\":\"ann\",\"group\":null,\"peer\":\"127.0.0.1\",\"direction\":\"down\",\"path\":\"/a\",\"size\":200000,\"begun\":0,\"waiting\":false,\"granted\":150000,\"moved\":150000,\"held\":{\"server\":0,\"direction\":0,\"group\":0,\"user\":9,\"session\":0,\"nothing\":2},\"guaranteed\":null,\"session_rate\":null,\"user_rate\":null}]}\n";
 
 const EARLY_TABLE: &str =
-    "ftpd  up 0 h 0 min   1 users, 1 of 8 sessions, 1 transfers, 0 waiting\ndown 1.00M   up 0.00K   both 1.00M\n       user       group    from            way       1 s    10 s   least    most\n       held by, parts of the rounds of 1 s    done  file\n#1     ann        -        127.0.0.1       down    1.00M   1.00M       -       -\n       client 100%                             50%  /a\n";
+    "ftpd  up 0 h 0 min   1 users, 1 of 8 sessions, 1 transfers, 0 waiting\ndown 1.00M   up 0.00K   both 1.00M\n0 idle   guaranteed down 0.00K   up 0.00K\n       user       group    from            way       1 s    10 s   least    most\n       held by, parts of the rounds of 1 s    done  file\n#1     ann        -        127.0.0.1       down    1.00M   1.00M       -       -\n       client 100%                             50%  /a\n";
 
 const LATE_TABLE: &str =
-    "ftpd  up 0 h 0 min   1 users, 1 of 8 sessions, 1 transfers, 0 waiting\ndown 50.00K   up 0.00K   both 50.00K\n       user       group    from            way       1 s    10 s   least    most\n       held by, parts of the rounds of 1 s    done  file\n#1     ann        -        127.0.0.1       down   50.00K  50.00K       -       -\n       user 90% client 10%                     75%  /a\n";
+    "ftpd  up 0 h 0 min   1 users, 1 of 8 sessions, 1 transfers, 0 waiting\ndown 50.00K   up 0.00K   both 50.00K\n0 idle   guaranteed down 0.00K   up 0.00K\n       user       group    from            way       1 s    10 s   least    most\n       held by, parts of the rounds of 1 s    done  file\n#1     ann        -        127.0.0.1       down   50.00K  50.00K       -       -\n       user ann down 90% client 10%            75%  /a\n";
 
 /// A status file that has these texts, one at each look.
 #[derive(Drop)]
@@ -67,6 +67,23 @@ fn status_table(rt: &(impl Abort + AllocGlobal), status: Status) -> Result<(), A
 fn a_table_is_of_one_status(rt: HostRuntime) {
     let status = read_status(rt.alloc(), EARLY.as_bytes()).expect(&rt, "a status");
     status_table(&rt, status).expect(&rt, "memory");
+}
+
+fn looks(rt: &(impl Abort + AllocGlobal), early: Status, late: Status) -> Result<(), AllocError> {
+    let both = looks_lines(rt.alloc(), &early, Some(&late), 24)?;
+    same(rt, both.as_str().as_bytes(), LATE_TABLE);
+    let turned = looks_lines(rt.alloc(), &late, Some(&early), 24)?;
+    same(rt, turned.as_str().as_bytes(), EARLY_TABLE);
+    let alone = looks_lines(rt.alloc(), &early, None, 24)?;
+    same(rt, alone.as_str().as_bytes(), EARLY_TABLE);
+    Ok(())
+}
+
+#[test]
+fn two_looks_show_the_rates_between_them(rt: HostRuntime) {
+    let early = read_status(rt.alloc(), EARLY.as_bytes()).expect(&rt, "a status");
+    let late = read_status(rt.alloc(), LATE.as_bytes()).expect(&rt, "a status");
+    looks(&rt, early, late).expect(&rt, "memory");
 }
 
 #[test]

@@ -4,8 +4,9 @@ use crate::ends::{Files, Given};
 use crate::expect::{holds, reports, same};
 use crate::texts::SMALL;
 use ftpd_program::{
-    FtpdErrorText, FtpdExit, Patience, ReadConfig, ServeFault, ServeFiles, Server, StartFault,
-    is_for_nothing, run_words, stated_sessions,
+    FtpdErrorText, FtpdExit, IdleOption, Patience, ReadConfig, ServeFault, ServeFiles, Server,
+    StartFault, idle_sessions, idle_sync, is_for_nothing, reads_input_again, run_words,
+    stated_sessions,
 };
 use std::alloc::Global;
 use std::io;
@@ -387,6 +388,26 @@ fn a_time_for_nothing_is_explained(rt: HostRuntime) {
     };
     holds(&rt, is_for_nothing(stated, false));
     holds(&rt, !is_for_nothing(stated, true));
+}
+
+#[test]
+fn options_without_effect_are_explained(rt: HostRuntime) {
+    starts_not(
+        &rt,
+        ServeFault::ReloadFile,
+        &StartFault::InputAgain,
+        "--reload-file has no effect with a configuration from standard input, which is read once: state a file, or leave it out\nftpd: ReloadFile\n",
+    );
+    holds(&rt, reads_input_again("-", true));
+    holds(&rt, !reads_input_again("ftpd.toml", true));
+    holds(&rt, idle_sync(true, true) == Some(IdleOption::Sync));
+    let option = idle_sessions(64, 64).expect(&rt, "no effect");
+    reports(
+        &rt,
+        &option,
+        "--user-sessions 64 has no effect: max_cons is 64",
+    );
+    holds(&rt, idle_sessions(63, 64).is_none());
 }
 
 #[test]

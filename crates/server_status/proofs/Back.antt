@@ -14,15 +14,17 @@ use Rattle.server_status.specs.declared.member.Kind.TheVariants as kind
 use Rattle.server_status.specs.declared.member.Kind.{Kind}
 use Rattle.server_status.specs.declared.status.Direction.{Direction}
 use Rattle.server_status.specs.declared.status.Direction.TheVariants.{Down, Up}
+use Rattle.server_status.specs.declared.status.AccountStatus.{AccountStatus}
 use Rattle.server_status.specs.declared.status.GroupStatus.{GroupStatus}
+use Rattle.server_status.specs.declared.status.SessionStatus.{SessionStatus}
 use Rattle.server_status.specs.declared.status.LineRates.{LineRates}
 use Rattle.server_status.specs.declared.status.Status.{Status}
 use Rattle.server_status.specs.declared.status.TransferStatus.{TransferStatus}
 use Rattle.server_status.specs.Fits.{AllHave, Fits, MemberRow, Has, HasAll, IsAddress, IsFirstFault, IsFirstFaultIn, IsFound, IsMemberFault, IsOtherKind, count_of, direction_of, found}
-use Rattle.server_status.specs.ReadBack.{AreSame, HavePeers, IsPeer, IsSame, IsSameGroup, IsSameTransfer}
-use Rattle.server_status.specs.StatusData.{count_if_data, direction_text, group_data, line_data, rate_data, status_data, text_if_data, transfer_data}
-use Rattle.server_status.specs.StatusRead.{AreOf, HasMembers, IsFaultOf, IsFine, IsGroupOf, IsListFault, IsOtherVersion, IsTransferOf, IsVersionFault, count_if_in, line_in, list_in, listed}
-use Rattle.server_status.specs.Tables.{group_rows, status_rows, transfer_rows, version_rows}
+use Rattle.server_status.specs.ReadBack.{AreSame, HavePeers, IsPeer, IsSame, IsSameAccount, IsSameGroup, IsSameSession, IsSameTransfer}
+use Rattle.server_status.specs.StatusData.{account_data, count_if_data, direction_text, group_data, line_data, rate_data, session_data, status_data, text_if_data, transfer_data}
+use Rattle.server_status.specs.StatusRead.{AreOf, HasMembers, IsAccountOf, IsFaultOf, IsFine, IsGroupOf, IsListFault, IsOtherVersion, IsPeopleFault, IsSessionOf, IsTrafficFault, IsTransferOf, IsVersionFault, count_if_in, line_in, list_in, listed}
+use Rattle.server_status.specs.Tables.{account_rows, group_rows, session_rows, status_rows, transfer_rows, version_rows}
 
 -- ---- members that a written status has
 
@@ -46,7 +48,7 @@ direction_fits Down = refl
 direction_fits Up = refl
 
 group_has : (g : GroupStatus) → HasAll group_rows (group_data g)
-group_has g = (refl, (rate_fits g.down, (rate_fits g.up, tt)))
+group_has g = (refl, (rate_fits g.down, (rate_fits g.up, (rate_fits g.guaranteed_down, (rate_fits g.guaranteed_up, tt)))))
 
 groups_have : (gs : List GroupStatus) → AllHave group_rows (listed (items_of (map group_data gs)))
 groups_have [] = tt
@@ -112,66 +114,34 @@ transfers_have : (ts : List TransferStatus) → ((i : ℕ) (t : TransferStatus) 
 transfers_have [] peers = tt
 transfers_have (t ∷ ts) peers = (transfer_has t (peers 0 t refl), transfers_have ts (λ i u e. peers (suc i) u e))
 
+session_has : (s : SessionStatus) → IsPeer s.peer → HasAll session_rows (session_data s)
+session_has s peer =
+    let address : Ipv4Addr = record { octets = s.peer } in
+    let dotted : Fits kind.Address (string (ipv4_text s.peer)) = (address, (ipv4_text s.peer, refl, IsDotted-ipv4_text s.peer peer.0 peer.1)) in
+    (refl, (text_fits s.user, (text_fits s.group, (dotted, (refl, (refl, (rate_fits s.guaranteed_down, (rate_fits s.guaranteed_up, tt))))))))
+
+sessions_have : (ss : List SessionStatus) → ((i : ℕ) (s : SessionStatus) → slice_get ss i ≡ Some s → IsPeer s.peer) → AllHave session_rows (listed (items_of (map session_data ss)))
+sessions_have [] peers = tt
+sessions_have (s ∷ ss) peers = (session_has s (peers 0 s refl), sessions_have ss (λ i u e. peers (suc i) u e))
+
+account_has : (a : AccountStatus) → HasAll account_rows (account_data a)
+account_has a = (refl, (text_fits a.group, (refl, (refl, (refl, (refl, tt))))))
+
+accounts_have : (xs : List AccountStatus) → AllHave account_rows (listed (items_of (map account_data xs)))
+accounts_have [] = tt
+accounts_have (a ∷ xs) = (account_has a, accounts_have xs)
+
 status_has : (s : Status) → HasAll status_rows (status_data s)
-status_has s = (
-  refl,
-  (
-    refl,
-    (
-      refl,
-      (
-        refl,
-        (
-          refl,
-          (
-            refl,
-            (
-              refl,
-              (
-                refl,
-                (
-                  refl,
-                  (
-                    refl,
-                    (
-                      refl,
-                      (
-                        refl,
-                        (
-                          refl,
-                          (
-                            refl,
-                            (
-                              rate_fits s.line.both,
-                              (
-                                rate_fits s.line.down,
-                                (
-                                  rate_fits s.line.up,
-                                  (refl, (refl, (refl, (refl, (refl, (refl, (refl, (refl, tt)))))))),
-                                ),
-                              ),
-                            ),
-                          ),
-                        ),
-                      ),
-                    ),
-                  ),
-                ),
-              ),
-            ),
-          ),
-        ),
-      ),
-    ),
-  ),
-)
+status_has s = (refl, (refl, (refl, (refl, (refl, (refl, (refl, (refl, (refl, (refl, (refl, (refl, (refl, (refl, (rate_fits s.line.both, (rate_fits s.line.down, (rate_fits s.line.up, (refl, (refl, (refl, (refl, (refl, (refl, (rate_fits s.guaranteed_down, (rate_fits s.guaranteed_up, (refl, (refl, (refl, (refl, (refl, (refl, (refl, (refl, (refl, (refl, (refl, (refl, (refl, (refl, (refl, tt))))))))))))))))))))))))))))))))))))))))
 
 pub fine : (s : Status) → HavePeers s → IsFine (status_data s)
 fine s peers = record {
   version = refl;
   members = status_has s;
   groups = groups_have s.groups.items;
-  transfers = transfers_have s.transfers.items peers;
+  transfers = transfers_have s.transfers.items peers.transfers;
+  sessions_now = sessions_have s.sessions_now.items peers.sessions;
+  accounts = accounts_have s.accounts.items;
 }
 
 -- ---- a value that is fine has no fault
@@ -216,10 +186,22 @@ not_version_fault d fault fine is = elim is [
   | inr other ↦ not_version d fault fine.version other
 ]
 
-not_list_fault : (d : Data) (fault : StatusFault) → IsFine d → IsListFault d fault → ⊥
-not_list_fault d fault fine is = elim is [
+not_people_fault : (d : Data) (fault : StatusFault) → IsFine d → IsPeopleFault d fault → ⊥
+not_people_fault d fault fine is = elim is [
+  | inl first ↦ not_in session_rows (list_in (codes "sessions_now") (Some d)) fault fine.sessions_now first
+  | inr last ↦ not_in account_rows (list_in (codes "accounts") (Some d)) fault fine.accounts last.1
+]
+
+not_traffic_fault : (d : Data) (fault : StatusFault) → IsFine d → IsTrafficFault d fault → ⊥
+not_traffic_fault d fault fine is = elim is [
   | inl first ↦ not_in group_rows (list_in (codes "groups") (Some d)) fault fine.groups first
   | inr last ↦ not_in transfer_rows (list_in (codes "transfers") (Some d)) fault fine.transfers last.1
+]
+
+not_list_fault : (d : Data) (fault : StatusFault) → IsFine d → IsListFault d fault → ⊥
+not_list_fault d fault fine is = elim is [
+  | inl first ↦ not_traffic_fault d fault fine first
+  | inr last ↦ not_people_fault d fault fine last.1
 ]
 
 not_member_fault : (d : Data) (fault : StatusFault) → IsFine d → IsFirstFault status_rows d fault ⊎ (HasAll status_rows d × IsListFault d fault) → ⊥
@@ -263,6 +245,8 @@ group_back g r is = record {
   name = sym is.name;
   down = sym (is.down ∙ rate_back g.down);
   up = sym (is.up ∙ rate_back g.up);
+  guaranteed_down = sym (is.guaranteed_down ∙ rate_back g.guaranteed_down);
+  guaranteed_up = sym (is.guaranteed_up ∙ rate_back g.guaranteed_up);
 }
 
 groups_back : (gs rs : List GroupStatus) → AreOf IsGroupOf (listed (items_of (map group_data gs))) rs → AreSame IsSameGroup gs rs
@@ -300,11 +284,51 @@ transfers_back [] (r ∷ rs) peers are = are
 transfers_back (t ∷ ts) [] peers are = are
 transfers_back (t ∷ ts) (r ∷ rs) peers are = (transfer_back t r (peers 0 t refl) are.0, transfers_back ts rs (λ i u e. peers (suc i) u e) are.1)
 
+session_back : (s r : SessionStatus) → IsPeer s.peer → IsSessionOf (session_data s) r → IsSameSession s r
+session_back s r peer is =
+    let address : Ipv4Addr = record { octets = s.peer } in
+    let dotted : IsAddress (string (ipv4_text s.peer)) address = (ipv4_text s.peer, refl, IsDotted-ipv4_text s.peer peer.0 peer.1) in
+    record {
+      session = sym is.session;
+      user = sym (is.user ∙ text_back s.user);
+      group = sym (is.group ∙ text_back s.group);
+      peer = sym (is.peer (string (ipv4_text s.peer)) address refl dotted);
+      begun = sym is.begun;
+      active = sym is.active;
+      guaranteed_down = sym (is.guaranteed_down ∙ rate_back s.guaranteed_down);
+      guaranteed_up = sym (is.guaranteed_up ∙ rate_back s.guaranteed_up);
+    }
+
+sessions_back : (ss rs : List SessionStatus) → ((i : ℕ) (s : SessionStatus) → slice_get ss i ≡ Some s → IsPeer s.peer)
+    → AreOf IsSessionOf (listed (items_of (map session_data ss))) rs → AreSame IsSameSession ss rs
+sessions_back [] [] peers are = tt
+sessions_back [] (r ∷ rs) peers are = are
+sessions_back (s ∷ ss) [] peers are = are
+sessions_back (s ∷ ss) (r ∷ rs) peers are = (session_back s r (peers 0 s refl) are.0, sessions_back ss rs (λ i u e. peers (suc i) u e) are.1)
+
+account_back : (a r : AccountStatus) → IsAccountOf (account_data a) r → IsSameAccount a r
+account_back a r is = record {
+  user = sym is.user;
+  group = sym (is.group ∙ text_back a.group);
+  granted_down = sym is.granted_down;
+  granted_up = sym is.granted_up;
+  unmet_down = sym is.unmet_down;
+  unmet_up = sym is.unmet_up;
+}
+
+accounts_back : (xs rs : List AccountStatus) → AreOf IsAccountOf (listed (items_of (map account_data xs))) rs → AreSame IsSameAccount xs rs
+accounts_back [] [] are = tt
+accounts_back [] (r ∷ rs) are = are
+accounts_back (a ∷ xs) [] are = are
+accounts_back (a ∷ xs) (r ∷ rs) are = (account_back a r are.0, accounts_back xs rs are.1)
+
 pub same : (s r : Status) → HavePeers s → HasMembers (status_data s) r → IsSame s r
 same s r peers is = record {
   started = sym is.started;
   micros = sym is.micros;
   line = sym (is.line ∙ line_back s.line);
+  guaranteed_down = sym (is.guaranteed_down ∙ rate_back s.guaranteed_down);
+  guaranteed_up = sym (is.guaranteed_up ∙ rate_back s.guaranteed_up);
   groups = groups_back s.groups.items r.groups.items is.groups;
   users = sym is.users;
   sessions = sym is.sessions;
@@ -314,9 +338,16 @@ same s r peers is = record {
   ended_granted = sym is.ended_granted;
   ended_moved = sym is.ended_moved;
   ended = sym is.ended;
+  endings = sym is.endings;
   rounds = sym is.rounds;
   failed_logins = sym is.failed_logins;
+  logins = sym is.logins;
+  refused_logins = sym is.refused_logins;
+  refused_guarantees = sym is.refused_guarantees;
   refused = sym is.refused;
+  lost_lines = sym is.lost_lines;
   waits = sym is.waits;
-  transfers = transfers_back s.transfers.items r.transfers.items peers is.transfers;
+  transfers = transfers_back s.transfers.items r.transfers.items peers.transfers is.transfers;
+  sessions_now = sessions_back s.sessions_now.items r.sessions_now.items peers.sessions is.sessions_now;
+  accounts = accounts_back s.accounts.items r.accounts.items is.accounts;
 }

@@ -3,10 +3,12 @@ use Rattle.std.proofs.Common.{◌≤◌, ℕ, Bool, true, false, cond, List, [],
 use Rattle.std.specs.List.{AllByRecursion}
 use Rattle.serde_json.specs.Data.{Data, Members, no_members, member, depth, items_depth, members_depth, null, number, object, unsigned}
 use Rattle.serde_json.specs.View.{items_of}
+use Rattle.server_status.specs.declared.status.AccountStatus.{AccountStatus}
 use Rattle.server_status.specs.declared.status.GroupStatus.{GroupStatus}
+use Rattle.server_status.specs.declared.status.SessionStatus.{SessionStatus}
 use Rattle.server_status.specs.declared.status.Status.{Status}
 use Rattle.server_status.specs.declared.status.TransferStatus.{TransferStatus}
-use Rattle.server_status.specs.StatusData.{count_if_data, group_data, line_data, rate_data, status_data, text_if_data, transfer_data}
+use Rattle.server_status.specs.StatusData.{account_data, count_if_data, group_data, line_data, rate_data, session_data, status_data, text_if_data, transfer_data}
 
 abbrev within : Data → Members
 within (object ms) = ms
@@ -45,7 +47,19 @@ one : 1 ≤ 1
 one = omega arith
 
 group_depth : (group : GroupStatus) → depth (group_data group) ≤ 1
-group_depth group = omega (arith, rate_flat group.down, rate_flat group.up)
+group_depth group = omega (arith, rate_flat group.down, rate_flat group.up, rate_flat group.guaranteed_down, rate_flat group.guaranteed_up)
+
+session_depth : (s : SessionStatus) → depth (session_data s) ≤ 2
+session_depth s =
+    let are = shallow 1 (within (session_data s))
+    (low, (low, (text_low s.group, (rate_low s.guaranteed_down, (rate_low s.guaranteed_up, (low, (low, (text_low s.user, tt)))))))) in
+    omega (arith, are)
+
+account_depth : (a : AccountStatus) → depth (account_data a) ≤ 2
+account_depth a =
+    let are = shallow 1 (within (account_data a))
+    (low, (low, (text_low a.group, (low, (low, (low, tt)))))) in
+    omega (arith, are)
 
 transfer_depth : (t : TransferStatus) → depth (transfer_data t) ≤ 2
 transfer_depth t =
@@ -65,6 +79,17 @@ transfers_low : (transfers : List TransferStatus) → AllByRecursion (λ d. dept
 transfers_low [] = tt
 transfers_low (t ∷ ts) = (transfer_depth t, transfers_low ts)
 
+sessions_low : (sessions : List SessionStatus) → AllByRecursion (λ d. depth d ≤ 2) (map session_data sessions)
+sessions_low [] = tt
+sessions_low (s ∷ ss) = (session_depth s, sessions_low ss)
+
+accounts_low : (accounts : List AccountStatus) → AllByRecursion (λ d. depth d ≤ 2) (map account_data accounts)
+accounts_low [] = tt
+accounts_low (a ∷ xs) = (account_depth a, accounts_low xs)
+
+rate_below : (rate : ℕ) → depth (rate_data rate) ≤ 3
+rate_below rate = omega (arith, rate_flat rate)
+
 line_low : (s : Status) → depth (line_data s.line) ≤ 3
 line_low s = omega (arith, rate_flat s.line.both, rate_flat s.line.down, rate_flat s.line.up)
 
@@ -78,6 +103,8 @@ pub status_depth : (s : Status) → depth (status_data s) ≤ 127
 status_depth s =
     let groups = items_low 2 (map group_data s.groups.items) (groups_low s.groups.items) in
     let transfers = items_low 2 (map transfer_data s.transfers.items) (transfers_low s.transfers.items) in
+    let sessions = items_low 2 (map session_data s.sessions_now.items) (sessions_low s.sessions_now.items) in
+    let accounts = items_low 2 (map account_data s.accounts.items) (accounts_low s.accounts.items) in
     let are = shallow 3 (within (status_data s))
-    (zero_low, (zero_low, (zero_low, (zero_low, (omega (arith, groups), (one_low, (zero_low, (zero_low, (line_low s, (zero_low, (zero_low, (zero_low, (zero_low, (zero_low, (omega (arith, transfers), (zero_low, (zero_low, (zero_low, (zero_low, tt))))))))))))))))))) in
+    (omega (arith, accounts), (zero_low, (zero_low, (zero_low, (one_low, (zero_low, (omega (arith, groups), (rate_below s.guaranteed_down, (rate_below s.guaranteed_up, (one_low, (zero_low, (zero_low, (line_low s, (zero_low, (zero_low, (zero_low, (zero_low, (zero_low, (zero_low, (zero_low, (zero_low, (omega (arith, sessions), (zero_low, (omega (arith, transfers), (zero_low, (zero_low, (zero_low, (zero_low, tt)))))))))))))))))))))))))))) in
     omega (arith, are)

@@ -2,9 +2,10 @@
 use Rattle.std.specs.Prelude.{codes, map}
 use Rattle.serde_json.specs.Data.{Members, array, boolean, put, string}
 use Rattle.serde_json.specs.View.{items_of}
+use Rattle.server_status.specs.declared.status.SessionStatus.{SessionStatus}
 use Rattle.server_status.specs.declared.status.Status.{Status}
 use Rattle.server_status.specs.declared.status.TransferStatus.{TransferStatus}
-use Rattle.server_status.specs.StatusData.{count_data, count_if_data, direction_text, group_data, held_data, line_data, peer_data, rate_data, text_data, text_if_data, transfer_data}
+use Rattle.server_status.specs.StatusData.{account_data, count_data, count_if_data, direction_text, ends_data, group_data, held_data, line_data, peer_data, rate_data, session_data, text_data, text_if_data, transfer_data}
 
 -- ---- of a transfer
 
@@ -39,6 +40,24 @@ rate_members transfer members =
     (put (codes "session_rate") (rate_data transfer.session_rate)
     (put (codes "guaranteed") (rate_data transfer.guaranteed) members))
 
+-- ---- of a session
+
+-- whose it is
+abbrev pub client_of : SessionStatus → Members → Members
+client_of session members =
+    put (codes "peer") (peer_data session.peer)
+    (put (codes "group") (text_if_data session.group)
+    (put (codes "user") (text_if_data session.user)
+    (put (codes "session") (count_data session.session) members)))
+
+-- since when, and what is guaranteed to it
+abbrev pub stay_of : SessionStatus → Members → Members
+stay_of session members =
+    put (codes "guaranteed_up") (rate_data session.guaranteed_up)
+    (put (codes "guaranteed_down") (rate_data session.guaranteed_down)
+    (put (codes "active") (count_data session.active)
+    (put (codes "begun") (count_data session.begun) members)))
+
 -- ---- of a status
 
 -- the version and the moment
@@ -63,10 +82,27 @@ client_members status members =
 -- the totals
 abbrev pub total_members : Status → Members → Members
 total_members status members =
-    put (codes "ended") (count_data status.ended)
+    put (codes "endings") (ends_data status.endings)
+    (put (codes "ended") (count_data status.ended)
     (put (codes "ended_moved") (count_data status.ended_moved)
     (put (codes "ended_granted") (count_data status.ended_granted)
-    (put (codes "issued") (count_data status.issued) members)))
+    (put (codes "issued") (count_data status.issued) members))))
+
+-- outcomes of logins, and the lines that were lost
+abbrev pub login_members : Status → Members → Members
+login_members status members =
+    put (codes "lost_lines") (count_data status.lost_lines)
+    (put (codes "refused_guarantees") (count_data status.refused_guarantees)
+    (put (codes "refused_logins") (count_data status.refused_logins)
+    (put (codes "logins") (count_data status.logins) members)))
+
+-- guarantees in all, who is inside, and what users got
+abbrev pub people_members : Status → Members → Members
+people_members status members =
+    put (codes "accounts") (array (items_of (map account_data status.accounts.items)))
+    (put (codes "sessions_now") (array (items_of (map session_data status.sessions_now.items)))
+    (put (codes "guaranteed_up") (rate_data status.guaranteed_up)
+    (put (codes "guaranteed_down") (rate_data status.guaranteed_down) members)))
 
 -- the rates, the rounds, the groups and the transfers
 abbrev pub part_members : Status → Members → Members

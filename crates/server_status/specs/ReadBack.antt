@@ -4,7 +4,9 @@ use Rattle.serde_json.specs.Data.{Data}
 use Rattle.serde_json.specs.Read.{read}
 use Rattle.server_status.specs.declared.fault.StatusFault.{StatusFault}
 use Rattle.server_status.specs.declared.fault.StatusFault.TheVariants.{Memory, NotJson}
+use Rattle.server_status.specs.declared.status.AccountStatus.{AccountStatus}
 use Rattle.server_status.specs.declared.status.GroupStatus.{GroupStatus}
+use Rattle.server_status.specs.declared.status.SessionStatus.{SessionStatus}
 use Rattle.server_status.specs.declared.status.Status.{Status}
 use Rattle.server_status.specs.declared.status.TransferStatus.{TransferStatus}
 use Rattle.server_status.specs.StatusRead.{IsFaultOf, IsStatusOf}
@@ -39,6 +41,26 @@ pub record IsSameGroup (a b : GroupStatus) : Type 0 where
   pub name : string_bytes a.name ≡ string_bytes b.name
   pub down : a.down ≡ b.down
   pub up : a.up ≡ b.up
+  pub guaranteed_down : a.guaranteed_down ≡ b.guaranteed_down
+  pub guaranteed_up : a.guaranteed_up ≡ b.guaranteed_up
+
+pub record IsSameSession (a b : SessionStatus) : Type 0 where
+  pub session : a.session ≡ b.session
+  pub user : option_map string_bytes a.user ≡ option_map string_bytes b.user
+  pub group : option_map string_bytes a.group ≡ option_map string_bytes b.group
+  pub peer : a.peer ≡ b.peer
+  pub begun : a.begun ≡ b.begun
+  pub active : a.active ≡ b.active
+  pub guaranteed_down : a.guaranteed_down ≡ b.guaranteed_down
+  pub guaranteed_up : a.guaranteed_up ≡ b.guaranteed_up
+
+pub record IsSameAccount (a b : AccountStatus) : Type 0 where
+  pub user : string_bytes a.user ≡ string_bytes b.user
+  pub group : option_map string_bytes a.group ≡ option_map string_bytes b.group
+  pub granted_down : a.granted_down ≡ b.granted_down
+  pub granted_up : a.granted_up ≡ b.granted_up
+  pub unmet_down : a.unmet_down ≡ b.unmet_down
+  pub unmet_up : a.unmet_up ≡ b.unmet_up
 
 pub record IsSameTransfer (a b : TransferStatus) : Type 0 where
   pub session : a.session ≡ b.session
@@ -67,6 +89,8 @@ pub record IsSame (a b : Status) : Type 0 where
   pub started : a.started ≡ b.started
   pub micros : a.micros ≡ b.micros
   pub line : a.line ≡ b.line
+  pub guaranteed_down : a.guaranteed_down ≡ b.guaranteed_down
+  pub guaranteed_up : a.guaranteed_up ≡ b.guaranteed_up
   pub groups : AreSame IsSameGroup a.groups.items b.groups.items
   pub users : a.users ≡ b.users
   pub sessions : a.sessions ≡ b.sessions
@@ -76,21 +100,29 @@ pub record IsSame (a b : Status) : Type 0 where
   pub ended_granted : a.ended_granted ≡ b.ended_granted
   pub ended_moved : a.ended_moved ≡ b.ended_moved
   pub ended : a.ended ≡ b.ended
+  pub endings : a.endings ≡ b.endings
   pub rounds : a.rounds ≡ b.rounds
   pub failed_logins : a.failed_logins ≡ b.failed_logins
+  pub logins : a.logins ≡ b.logins
+  pub refused_logins : a.refused_logins ≡ b.refused_logins
+  pub refused_guarantees : a.refused_guarantees ≡ b.refused_guarantees
   pub refused : a.refused ≡ b.refused
+  pub lost_lines : a.lost_lines ≡ b.lost_lines
   pub waits : a.waits ≡ b.waits
   pub transfers : AreSame IsSameTransfer a.transfers.items b.transfers.items
+  pub sessions_now : AreSame IsSameSession a.sessions_now.items b.sessions_now.items
+  pub accounts : AreSame IsSameAccount a.accounts.items b.accounts.items
 
 -- four octets
 abbrev pub IsPeer : List ℕ → Type 0
 IsPeer octets = (length octets ≡ 4) × ((k : ℕ) → slice_index octets k < 2 ^ 8)
 
 -- each address has four octets, as that of every value of the type has
-abbrev pub HavePeers : Status → Type 0
-HavePeers status =
-    (i : ℕ) (transfer : TransferStatus)
-    → slice_get status.transfers.items i ≡ Some transfer → IsPeer transfer.peer
+pub record HavePeers (status : Status) : Type 0 where
+  pub transfers : (i : ℕ) (transfer : TransferStatus)
+      → slice_get status.transfers.items i ≡ Some transfer → IsPeer transfer.peer
+  pub sessions : (i : ℕ) (session : SessionStatus)
+      → slice_get status.sessions_now.items i ≡ Some session → IsPeer session.peer
 
 -- the same status was read, unless memory ran out
 abbrev pub IsReadAs : Status → Result Status StatusFault → Type 0

@@ -5,11 +5,14 @@ use Rattle.std.specs.Net.Text.{ipv4_text}
 use Rattle.serde_json.specs.Data.{Data, array, boolean, member, no_members, null, number, object, string, unsigned}
 use Rattle.serde_json.specs.Read.{read}
 use Rattle.serde_json.specs.View.{items_of}
+use Rattle.server_status.specs.declared.status.AccountStatus.{AccountStatus}
 use Rattle.server_status.specs.declared.status.Direction.{Direction}
 use Rattle.server_status.specs.declared.status.Direction.TheVariants.{Down, Up}
+use Rattle.server_status.specs.declared.status.EndCounts.{EndCounts}
 use Rattle.server_status.specs.declared.status.GroupStatus.{GroupStatus}
 use Rattle.server_status.specs.declared.status.HeldRounds.{HeldRounds}
 use Rattle.server_status.specs.declared.status.LineRates.{LineRates}
+use Rattle.server_status.specs.declared.status.SessionStatus.{SessionStatus}
 use Rattle.server_status.specs.declared.status.Status.{Status}
 use Rattle.server_status.specs.declared.status.TransferStatus.{TransferStatus}
 
@@ -56,6 +59,18 @@ held_data rounds =
     (member (codes "session") (count_data rounds.session)
     (member (codes "user") (count_data rounds.user) no_members))))))
 
+-- numbers of transfers that have ended, by how they did
+abbrev pub ends_data : EndCounts → Data
+ends_data ends =
+    object
+    (member (codes "aborted") (count_data ends.aborted)
+    (member (codes "file") (count_data ends.file)
+    (member (codes "lost") (count_data ends.lost)
+    (member (codes "memory") (count_data ends.memory)
+    (member (codes "owner") (count_data ends.owner)
+    (member (codes "unconnected") (count_data ends.unconnected)
+    (member (codes "whole") (count_data ends.whole) no_members)))))))
+
 abbrev pub line_data : LineRates → Data
 line_data line =
     object
@@ -67,8 +82,32 @@ abbrev pub group_data : GroupStatus → Data
 group_data group =
     object
     (member (codes "down") (rate_data group.down)
+    (member (codes "guaranteed_down") (rate_data group.guaranteed_down)
+    (member (codes "guaranteed_up") (rate_data group.guaranteed_up)
     (member (codes "name") (text_data group.name)
-    (member (codes "up") (rate_data group.up) no_members)))
+    (member (codes "up") (rate_data group.up) no_members)))))
+
+abbrev pub session_data : SessionStatus → Data
+session_data session =
+    object
+    (member (codes "active") (count_data session.active)
+    (member (codes "begun") (count_data session.begun)
+    (member (codes "group") (text_if_data session.group)
+    (member (codes "guaranteed_down") (rate_data session.guaranteed_down)
+    (member (codes "guaranteed_up") (rate_data session.guaranteed_up)
+    (member (codes "peer") (peer_data session.peer)
+    (member (codes "session") (count_data session.session)
+    (member (codes "user") (text_if_data session.user) no_members))))))))
+
+abbrev pub account_data : AccountStatus → Data
+account_data account =
+    object
+    (member (codes "granted_down") (count_data account.granted_down)
+    (member (codes "granted_up") (count_data account.granted_up)
+    (member (codes "group") (text_if_data account.group)
+    (member (codes "unmet_down") (count_data account.unmet_down)
+    (member (codes "unmet_up") (count_data account.unmet_up)
+    (member (codes "user") (text_data account.user) no_members))))))
 
 abbrev pub transfer_data : TransferStatus → Data
 transfer_data transfer =
@@ -93,25 +132,34 @@ transfer_data transfer =
 abbrev pub status_data : Status → Data
 status_data status =
     object
+    (member (codes "accounts") (array (items_of (map account_data status.accounts.items)))
     (member (codes "ended") (count_data status.ended)
     (member (codes "ended_granted") (count_data status.ended_granted)
     (member (codes "ended_moved") (count_data status.ended_moved)
+    (member (codes "endings") (ends_data status.endings)
     (member (codes "failed_logins") (count_data status.failed_logins)
     (member (codes "groups") (array (items_of (map group_data status.groups.items)))
+    (member (codes "guaranteed_down") (rate_data status.guaranteed_down)
+    (member (codes "guaranteed_up") (rate_data status.guaranteed_up)
     (member (codes "held") (held_data status.rounds)
     (member (codes "issued") (count_data status.issued)
     (member (codes "lanes") (count_data status.lanes)
     (member (codes "line") (line_data status.line)
+    (member (codes "logins") (count_data status.logins)
+    (member (codes "lost_lines") (count_data status.lost_lines)
     (member (codes "max_sessions") (count_data status.max_sessions)
     (member (codes "micros") (count_data status.micros)
     (member (codes "refused") (count_data status.refused)
+    (member (codes "refused_guarantees") (count_data status.refused_guarantees)
+    (member (codes "refused_logins") (count_data status.refused_logins)
     (member (codes "sessions") (count_data status.sessions)
+    (member (codes "sessions_now") (array (items_of (map session_data status.sessions_now.items)))
     (member (codes "started") (count_data status.started)
     (member (codes "transfers") (array (items_of (map transfer_data status.transfers.items)))
     (member (codes "unit") (string (codes "octets"))
     (member (codes "users") (count_data status.users)
     (member (codes "version") (count_data 1)
-    (member (codes "waits") (count_data status.waits) no_members)))))))))))))))))))
+    (member (codes "waits") (count_data status.waits) no_members))))))))))))))))))))))))))))
 
 -- ---- texts
 

@@ -6,15 +6,18 @@ use Rattle.serde_json.specs.Data.{Data, Items, no_items, item}
 use Rattle.serde_json.specs.Find.{as_array, as_bool, as_str, get}
 use Rattle.server_status.specs.declared.fault.StatusFault.{StatusFault}
 use Rattle.server_status.specs.declared.fault.StatusFault.TheVariants.{Version}
+use Rattle.server_status.specs.declared.status.AccountStatus.{AccountStatus}
 use Rattle.server_status.specs.declared.status.Direction.{Direction}
 use Rattle.server_status.specs.declared.status.Direction.TheVariants.{Down}
+use Rattle.server_status.specs.declared.status.EndCounts.{EndCounts}
 use Rattle.server_status.specs.declared.status.GroupStatus.{GroupStatus}
 use Rattle.server_status.specs.declared.status.HeldRounds.{HeldRounds}
 use Rattle.server_status.specs.declared.status.LineRates.{LineRates}
+use Rattle.server_status.specs.declared.status.SessionStatus.{SessionStatus}
 use Rattle.server_status.specs.declared.status.Status.{Status}
 use Rattle.server_status.specs.declared.status.TransferStatus.{TransferStatus}
 use Rattle.server_status.specs.Fits.{AllHave, HasAll, IsAddress, IsFirstFault, IsFirstFaultIn, count_of, direction_of}
-use Rattle.server_status.specs.Tables.{group_rows, status_rows, transfer_rows, version_rows}
+use Rattle.server_status.specs.Tables.{account_rows, group_rows, session_rows, status_rows, transfer_rows, version_rows}
 
 -- ---- the value of a member of a record; 0, false, down, or nothing if the record has it not
 
@@ -65,6 +68,17 @@ held_in d = record {
   nothing = count_in (codes "nothing") d;
 }
 
+abbrev pub ends_in : Option Data → EndCounts
+ends_in d = record {
+  whole = count_in (codes "whole") d;
+  aborted = count_in (codes "aborted") d;
+  unconnected = count_in (codes "unconnected") d;
+  lost = count_in (codes "lost") d;
+  file = count_in (codes "file") d;
+  memory = count_in (codes "memory") d;
+  owner = count_in (codes "owner") d;
+}
+
 abbrev pub line_in : Option Data → LineRates
 line_in d = record {
   both = count_in (codes "both") d;
@@ -77,6 +91,28 @@ pub record IsGroupOf (d : Data) (group : GroupStatus) : Type 0 where
   pub name : string_bytes group.name ≡ text_in (codes "name") (Some d)
   pub down : group.down ≡ count_in (codes "down") (Some d)
   pub up : group.up ≡ count_in (codes "up") (Some d)
+  pub guaranteed_down : group.guaranteed_down ≡ count_in (codes "guaranteed_down") (Some d)
+  pub guaranteed_up : group.guaranteed_up ≡ count_in (codes "guaranteed_up") (Some d)
+
+-- the record has this session
+pub record IsSessionOf (d : Data) (s : SessionStatus) : Type 0 where
+  pub session : s.session ≡ count_in (codes "session") (Some d)
+  pub user : option_map string_bytes s.user ≡ text_if_in (codes "user") (Some d)
+  pub group : option_map string_bytes s.group ≡ text_if_in (codes "group") (Some d)
+  pub peer : IsPeerIn (codes "peer") (Some d) s.peer
+  pub begun : s.begun ≡ count_in (codes "begun") (Some d)
+  pub active : s.active ≡ count_in (codes "active") (Some d)
+  pub guaranteed_down : s.guaranteed_down ≡ count_in (codes "guaranteed_down") (Some d)
+  pub guaranteed_up : s.guaranteed_up ≡ count_in (codes "guaranteed_up") (Some d)
+
+-- the record has this account
+pub record IsAccountOf (d : Data) (a : AccountStatus) : Type 0 where
+  pub user : string_bytes a.user ≡ text_in (codes "user") (Some d)
+  pub group : option_map string_bytes a.group ≡ text_if_in (codes "group") (Some d)
+  pub granted_down : a.granted_down ≡ count_in (codes "granted_down") (Some d)
+  pub granted_up : a.granted_up ≡ count_in (codes "granted_up") (Some d)
+  pub unmet_down : a.unmet_down ≡ count_in (codes "unmet_down") (Some d)
+  pub unmet_up : a.unmet_up ≡ count_in (codes "unmet_up") (Some d)
 
 -- the record has this transfer
 pub record IsTransferOf (d : Data) (t : TransferStatus) : Type 0 where
@@ -107,6 +143,8 @@ pub record HasMembers (d : Data) (s : Status) : Type 0 where
   pub started : s.started ≡ count_in (codes "started") (Some d)
   pub micros : s.micros ≡ count_in (codes "micros") (Some d)
   pub line : s.line ≡ line_in (member_in (codes "line") (Some d))
+  pub guaranteed_down : s.guaranteed_down ≡ count_in (codes "guaranteed_down") (Some d)
+  pub guaranteed_up : s.guaranteed_up ≡ count_in (codes "guaranteed_up") (Some d)
   pub groups : AreOf IsGroupOf (list_in (codes "groups") (Some d)) s.groups.items
   pub users : s.users ≡ count_in (codes "users") (Some d)
   pub sessions : s.sessions ≡ count_in (codes "sessions") (Some d)
@@ -116,11 +154,19 @@ pub record HasMembers (d : Data) (s : Status) : Type 0 where
   pub ended_granted : s.ended_granted ≡ count_in (codes "ended_granted") (Some d)
   pub ended_moved : s.ended_moved ≡ count_in (codes "ended_moved") (Some d)
   pub ended : s.ended ≡ count_in (codes "ended") (Some d)
+  pub endings : s.endings ≡ ends_in (member_in (codes "endings") (Some d))
   pub rounds : s.rounds ≡ held_in (member_in (codes "held") (Some d))
   pub failed_logins : s.failed_logins ≡ count_in (codes "failed_logins") (Some d)
+  pub logins : s.logins ≡ count_in (codes "logins") (Some d)
+  pub refused_logins : s.refused_logins ≡ count_in (codes "refused_logins") (Some d)
+  pub refused_guarantees : s.refused_guarantees ≡ count_in (codes "refused_guarantees") (Some d)
   pub refused : s.refused ≡ count_in (codes "refused") (Some d)
+  pub lost_lines : s.lost_lines ≡ count_in (codes "lost_lines") (Some d)
   pub waits : s.waits ≡ count_in (codes "waits") (Some d)
   pub transfers : AreOf IsTransferOf (list_in (codes "transfers") (Some d)) s.transfers.items
+  pub sessions_now : AreOf IsSessionOf
+      (list_in (codes "sessions_now") (Some d)) s.sessions_now.items
+  pub accounts : AreOf IsAccountOf (list_in (codes "accounts") (Some d)) s.accounts.items
 
 -- ---- whole values
 
@@ -130,6 +176,8 @@ pub record IsFine (d : Data) : Type 0 where
   pub members : HasAll status_rows d
   pub groups : AllHave group_rows (list_in (codes "groups") (Some d))
   pub transfers : AllHave transfer_rows (list_in (codes "transfers") (Some d))
+  pub sessions_now : AllHave session_rows (list_in (codes "sessions_now") (Some d))
+  pub accounts : AllHave account_rows (list_in (codes "accounts") (Some d))
 
 -- the value is this status
 abbrev pub IsStatusOf : Data → Status → Type 0
@@ -144,12 +192,28 @@ IsOtherVersion d _ = ⊥
 abbrev pub IsVersionFault : Data → StatusFault → Type 0
 IsVersionFault d fault = IsFirstFault version_rows d fault ⊎ IsOtherVersion d fault
 
--- the first fault of the lists of a value: of its groups, and of its transfers
-abbrev pub IsListFault : Data → StatusFault → Type 0
-IsListFault d fault =
+-- the first fault of a list of sessions, and of one of accounts
+abbrev pub IsPeopleFault : Data → StatusFault → Type 0
+IsPeopleFault d fault =
+    IsFirstFaultIn session_rows (list_in (codes "sessions_now") (Some d)) fault
+    ⊎ (AllHave session_rows (list_in (codes "sessions_now") (Some d))
+    × IsFirstFaultIn account_rows (list_in (codes "accounts") (Some d)) fault)
+
+-- the first fault of a list of groups, and of one of transfers
+abbrev pub IsTrafficFault : Data → StatusFault → Type 0
+IsTrafficFault d fault =
     IsFirstFaultIn group_rows (list_in (codes "groups") (Some d)) fault
     ⊎ (AllHave group_rows (list_in (codes "groups") (Some d))
     × IsFirstFaultIn transfer_rows (list_in (codes "transfers") (Some d)) fault)
+
+-- the first fault of the lists of a value: of its groups, of its transfers, of its sessions, and of
+-- its accounts
+abbrev pub IsListFault : Data → StatusFault → Type 0
+IsListFault d fault =
+    IsTrafficFault d fault
+    ⊎ ((AllHave group_rows (list_in (codes "groups") (Some d))
+    × AllHave transfer_rows (list_in (codes "transfers") (Some d)))
+    × IsPeopleFault d fault)
 
 -- the first fault of a value: of its version, of its members, and of its lists
 abbrev pub IsFaultOf : Data → StatusFault → Type 0

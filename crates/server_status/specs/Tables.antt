@@ -45,8 +45,23 @@ status_rows =
     ∷ inner (codes "held.user") (codes "held") (codes "user") Number
     ∷ inner (codes "held.session") (codes "held") (codes "session") Number
     ∷ inner (codes "held.nothing") (codes "held") (codes "nothing") Number
+    ∷ own (codes "guaranteed_down") (codes "guaranteed_down") NumberOrNull
+    ∷ own (codes "guaranteed_up") (codes "guaranteed_up") NumberOrNull
+    ∷ own (codes "logins") (codes "logins") Number
+    ∷ own (codes "refused_logins") (codes "refused_logins") Number
+    ∷ own (codes "refused_guarantees") (codes "refused_guarantees") Number
+    ∷ own (codes "lost_lines") (codes "lost_lines") Number
+    ∷ inner (codes "endings.whole") (codes "endings") (codes "whole") Number
+    ∷ inner (codes "endings.aborted") (codes "endings") (codes "aborted") Number
+    ∷ inner (codes "endings.unconnected") (codes "endings") (codes "unconnected") Number
+    ∷ inner (codes "endings.lost") (codes "endings") (codes "lost") Number
+    ∷ inner (codes "endings.file") (codes "endings") (codes "file") Number
+    ∷ inner (codes "endings.memory") (codes "endings") (codes "memory") Number
+    ∷ inner (codes "endings.owner") (codes "endings") (codes "owner") Number
     ∷ own (codes "groups") (codes "groups") Many
     ∷ own (codes "transfers") (codes "transfers") Many
+    ∷ own (codes "sessions_now") (codes "sessions_now") Many
+    ∷ own (codes "accounts") (codes "accounts") Many
     ∷ []
 
 -- of a group
@@ -55,6 +70,32 @@ group_rows =
     own (codes "groups[].name") (codes "name") Text
     ∷ own (codes "groups[].down") (codes "down") NumberOrNull
     ∷ own (codes "groups[].up") (codes "up") NumberOrNull
+    ∷ own (codes "groups[].guaranteed_down") (codes "guaranteed_down") NumberOrNull
+    ∷ own (codes "groups[].guaranteed_up") (codes "guaranteed_up") NumberOrNull
+    ∷ []
+
+-- of a session
+abbrev pub session_rows : List MemberRow
+session_rows =
+    own (codes "sessions_now[].session") (codes "session") Number
+    ∷ own (codes "sessions_now[].user") (codes "user") TextOrNull
+    ∷ own (codes "sessions_now[].group") (codes "group") TextOrNull
+    ∷ own (codes "sessions_now[].peer") (codes "peer") Address
+    ∷ own (codes "sessions_now[].begun") (codes "begun") Number
+    ∷ own (codes "sessions_now[].active") (codes "active") Number
+    ∷ own (codes "sessions_now[].guaranteed_down") (codes "guaranteed_down") NumberOrNull
+    ∷ own (codes "sessions_now[].guaranteed_up") (codes "guaranteed_up") NumberOrNull
+    ∷ []
+
+-- of an account
+abbrev pub account_rows : List MemberRow
+account_rows =
+    own (codes "accounts[].user") (codes "user") Text
+    ∷ own (codes "accounts[].group") (codes "group") TextOrNull
+    ∷ own (codes "accounts[].granted_down") (codes "granted_down") Number
+    ∷ own (codes "accounts[].granted_up") (codes "granted_up") Number
+    ∷ own (codes "accounts[].unmet_down") (codes "unmet_down") Number
+    ∷ own (codes "accounts[].unmet_up") (codes "unmet_up") Number
     ∷ []
 
 -- of a transfer

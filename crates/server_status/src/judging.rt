@@ -3,11 +3,11 @@
 ghost use Rattle.std.specs.Prelude.{◌≡◌, ◌↔◌, IfErr, IfSome, IsNone, IsTrue, OnOk, Some, codes, map, option_map};
 ghost use Rattle.serde_json.specs.View.{view};
 ghost use Rattle.server_status.specs.Fits.{AllHave, Fits, Has, HasAll, IsAddress, IsFirstFault, IsFirstFaultIn, IsMemberFault, direction_named, direction_of, found, is_unit, row_of, rows_of};
-ghost use Rattle.server_status.specs.StatusRead.{IsFaultOf, IsFine, IsListFault, IsVersionFault, count_if_in, list_in};
-ghost use Rattle.server_status.specs.Tables.{group_rows, transfer_rows};
+ghost use Rattle.server_status.specs.StatusRead.{IsFaultOf, IsFine, IsListFault, IsPeopleFault, IsTrafficFault, IsVersionFault, count_if_in, list_in};
+ghost use Rattle.server_status.specs.Tables.{account_rows, group_rows, session_rows, transfer_rows};
 
 use crate::fault::StatusFault;
-use crate::member::{GROUP, Kind, Member, STATUS, TRANSFER, VERSION};
+use crate::member::{ACCOUNT, GROUP, Kind, Member, SESSION, STATUS, TRANSFER, VERSION};
 use crate::status::Direction;
 use serde_json::Value;
 use std::net::Ipv4Addr;
@@ -147,16 +147,44 @@ fn judge_version(value: &Value) -> Result<(), StatusFault>
     }
 }
 
-/// Judges the lists of a value, its groups and then its transfers: `Err` is their first fault.
+/// Judges the sessions of a value, and then its accounts: `Err` is their first fault.
+fn judge_people(value: &Value) -> Result<(), StatusFault>
+    ensures sessions { OnOk result
+        (AllHave session_rows (list_in (codes "sessions_now") (Some (view value.now)))) }
+    ensures accounts { OnOk result
+        (AllHave account_rows (list_in (codes "accounts") (Some (view value.now)))) }
+    ensures fault { IfErr result (IsPeopleFault (view value.now)) }
+{
+    judge_records(list(value, "sessions_now"), &SESSION)?;
+    judge_records(list(value, "accounts"), &ACCOUNT)
+}
+
+/// Judges the groups of a value, and then its transfers: `Err` is their first fault.
+fn judge_traffic(value: &Value) -> Result<(), StatusFault>
+    ensures groups { OnOk result
+        (AllHave group_rows (list_in (codes "groups") (Some (view value.now)))) }
+    ensures transfers { OnOk result
+        (AllHave transfer_rows (list_in (codes "transfers") (Some (view value.now)))) }
+    ensures fault { IfErr result (IsTrafficFault (view value.now)) }
+{
+    judge_records(list(value, "groups"), &GROUP)?;
+    judge_records(list(value, "transfers"), &TRANSFER)
+}
+
+/// Judges the lists of a value: `Err` is their first fault.
 fn judge_lists(value: &Value) -> Result<(), StatusFault>
     ensures groups { OnOk result
         (AllHave group_rows (list_in (codes "groups") (Some (view value.now)))) }
     ensures transfers { OnOk result
         (AllHave transfer_rows (list_in (codes "transfers") (Some (view value.now)))) }
+    ensures sessions { OnOk result
+        (AllHave session_rows (list_in (codes "sessions_now") (Some (view value.now)))) }
+    ensures accounts { OnOk result
+        (AllHave account_rows (list_in (codes "accounts") (Some (view value.now)))) }
     ensures fault { IfErr result (IsListFault (view value.now)) }
 {
-    judge_records(list(value, "groups"), &GROUP)?;
-    judge_records(list(value, "transfers"), &TRANSFER)
+    judge_traffic(value)?;
+    judge_people(value)
 }
 
 /// Judges a value as a status: `Err` is its first fault.

@@ -21,5 +21,8 @@ mod writing;
 
 pub use fault::StatusFault;
 pub use reading::read_status;
-pub use status::{Direction, GroupStatus, HeldRounds, LineRates, Rate, Status, TransferStatus};
+pub use status::{
+    AccountStatus, Direction, EndCounts, GroupStatus, HeldRounds, LineRates, Rate, SessionStatus,
+    Status, TransferStatus,
+};
 pub use writing::status_text;

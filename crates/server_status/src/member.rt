@@ -34,7 +34,7 @@ pub(crate) struct Member(
 pub(crate) static VERSION: [Member; 1] = [Member("version", None, "version", Kind::Number)];
 
 /// The members of a status.
-pub(crate) static STATUS: [Member; 25] = [
+pub(crate) static STATUS: [Member; 40] = [
     Member("unit", None, "unit", Kind::Unit),
     Member("started", None, "started", Kind::Number),
     Member("micros", None, "micros", Kind::Number),
@@ -58,15 +58,94 @@ pub(crate) static STATUS: [Member; 25] = [
     Member("held.user", Some("held"), "user", Kind::Number),
     Member("held.session", Some("held"), "session", Kind::Number),
     Member("held.nothing", Some("held"), "nothing", Kind::Number),
+    Member(
+        "guaranteed_down",
+        None,
+        "guaranteed_down",
+        Kind::NumberOrNull,
+    ),
+    Member("guaranteed_up", None, "guaranteed_up", Kind::NumberOrNull),
+    Member("logins", None, "logins", Kind::Number),
+    Member("refused_logins", None, "refused_logins", Kind::Number),
+    Member(
+        "refused_guarantees",
+        None,
+        "refused_guarantees",
+        Kind::Number,
+    ),
+    Member("lost_lines", None, "lost_lines", Kind::Number),
+    Member("endings.whole", Some("endings"), "whole", Kind::Number),
+    Member("endings.aborted", Some("endings"), "aborted", Kind::Number),
+    Member(
+        "endings.unconnected",
+        Some("endings"),
+        "unconnected",
+        Kind::Number,
+    ),
+    Member("endings.lost", Some("endings"), "lost", Kind::Number),
+    Member("endings.file", Some("endings"), "file", Kind::Number),
+    Member("endings.memory", Some("endings"), "memory", Kind::Number),
+    Member("endings.owner", Some("endings"), "owner", Kind::Number),
     Member("groups", None, "groups", Kind::List),
     Member("transfers", None, "transfers", Kind::List),
+    Member("sessions_now", None, "sessions_now", Kind::List),
+    Member("accounts", None, "accounts", Kind::List),
 ];
 
 /// The members of a group.
-pub(crate) static GROUP: [Member; 3] = [
+pub(crate) static GROUP: [Member; 5] = [
     Member("groups[].name", None, "name", Kind::Text),
     Member("groups[].down", None, "down", Kind::NumberOrNull),
     Member("groups[].up", None, "up", Kind::NumberOrNull),
+    Member(
+        "groups[].guaranteed_down",
+        None,
+        "guaranteed_down",
+        Kind::NumberOrNull,
+    ),
+    Member(
+        "groups[].guaranteed_up",
+        None,
+        "guaranteed_up",
+        Kind::NumberOrNull,
+    ),
+];
+
+/// The members of a session.
+pub(crate) static SESSION: [Member; 8] = [
+    Member("sessions_now[].session", None, "session", Kind::Number),
+    Member("sessions_now[].user", None, "user", Kind::TextOrNull),
+    Member("sessions_now[].group", None, "group", Kind::TextOrNull),
+    Member("sessions_now[].peer", None, "peer", Kind::Address),
+    Member("sessions_now[].begun", None, "begun", Kind::Number),
+    Member("sessions_now[].active", None, "active", Kind::Number),
+    Member(
+        "sessions_now[].guaranteed_down",
+        None,
+        "guaranteed_down",
+        Kind::NumberOrNull,
+    ),
+    Member(
+        "sessions_now[].guaranteed_up",
+        None,
+        "guaranteed_up",
+        Kind::NumberOrNull,
+    ),
+];
+
+/// The members of an account.
+pub(crate) static ACCOUNT: [Member; 6] = [
+    Member("accounts[].user", None, "user", Kind::Text),
+    Member("accounts[].group", None, "group", Kind::TextOrNull),
+    Member(
+        "accounts[].granted_down",
+        None,
+        "granted_down",
+        Kind::Number,
+    ),
+    Member("accounts[].granted_up", None, "granted_up", Kind::Number),
+    Member("accounts[].unmet_down", None, "unmet_down", Kind::Number),
+    Member("accounts[].unmet_up", None, "unmet_up", Kind::Number),
 ];
 
 /// The members of a transfer.

@@ -2,10 +2,13 @@
 
 ghost use Rattle.std.specs.Prelude.{◌≡◌, IfOk, Some, codes, map, option_map, string_bytes};
 ghost use Rattle.serde_json.specs.View.{view};
-ghost use Rattle.server_status.specs.StatusRead.{AreOf, HasMembers, IsGroupOf, IsPeerIn, IsTransferOf, count_if_in, count_in, direction_in, flag_in, held_in, line_in, list_in, member_in, text_if_in, text_in};
+ghost use Rattle.server_status.specs.StatusRead.{AreOf, HasMembers, IsAccountOf, IsGroupOf, IsPeerIn, IsSessionOf, IsTransferOf, count_if_in, count_in, direction_in, ends_in, flag_in, held_in, line_in, list_in, member_in, text_if_in, text_in};
 
 use crate::judging::{address_of, direction_of, list};
-use crate::status::{Direction, GroupStatus, HeldRounds, LineRates, Status, TransferStatus};
+use crate::status::{
+    AccountStatus, Direction, EndCounts, GroupStatus, HeldRounds, LineRates, SessionStatus, Status,
+    TransferStatus,
+};
 use serde_json::Value;
 use std::alloc::{AllocError, Global};
 
@@ -119,6 +122,20 @@ fn held(row: Option<&Value>) -> HeldRounds
     }
 }
 
+fn ends(row: Option<&Value>) -> EndCounts
+    ensures ends { result ≡ ends_in (option_map (λ v. view v.now) row.entry) }
+{
+    EndCounts {
+        whole: count(row, "whole"),
+        aborted: count(row, "aborted"),
+        unconnected: count(row, "unconnected"),
+        lost: count(row, "lost"),
+        file: count(row, "file"),
+        memory: count(row, "memory"),
+        owner: count(row, "owner"),
+    }
+}
+
 fn line(row: Option<&Value>) -> LineRates
     ensures line { result ≡ line_in (option_map (λ v. view v.now) row.entry) }
 {
@@ -138,6 +155,8 @@ fn group_of(alloc: Global, value: &Value) -> Result<GroupStatus, AllocError>
         name,
         down: count(row, "down"),
         up: count(row, "up"),
+        guaranteed_down: count(row, "guaranteed_down"),
+        guaranteed_up: count(row, "guaranteed_up"),
     })
 }
 
@@ -150,6 +169,62 @@ fn groups_of(alloc: Global, values: &[Value]) -> Result<Vec<GroupStatus>, AllocE
         groups.push(group_of(alloc, value)?)?;
     }
     Ok(groups)
+}
+
+fn session_of(alloc: Global, value: &Value) -> Result<SessionStatus, AllocError>
+    ensures session { IfOk result (IsSessionOf (view value.now)) }
+{
+    let row = Some(value);
+    let user = text_if_of(alloc, row, "user")?;
+    let group = text_if_of(alloc, row, "group")?;
+    Ok(SessionStatus {
+        session: count(row, "session"),
+        user,
+        group,
+        peer: peer(row, "peer"),
+        begun: count(row, "begun"),
+        active: count(row, "active"),
+        guaranteed_down: count(row, "guaranteed_down"),
+        guaranteed_up: count(row, "guaranteed_up"),
+    })
+}
+
+fn sessions_of(alloc: Global, values: &[Value]) -> Result<Vec<SessionStatus>, AllocError>
+    ensures sessions { IfOk result
+        (λ sessions. AreOf IsSessionOf (map view values.now) sessions.items) }
+{
+    let mut sessions = Vec::with_capacity(alloc, values.len())?;
+    for value in values {
+        sessions.push(session_of(alloc, value)?)?;
+    }
+    Ok(sessions)
+}
+
+fn account_of(alloc: Global, value: &Value) -> Result<AccountStatus, AllocError>
+    ensures account { IfOk result (IsAccountOf (view value.now)) }
+{
+    let row = Some(value);
+    let user = text_of(alloc, row, "user")?;
+    let group = text_if_of(alloc, row, "group")?;
+    Ok(AccountStatus {
+        user,
+        group,
+        granted_down: count(row, "granted_down"),
+        granted_up: count(row, "granted_up"),
+        unmet_down: count(row, "unmet_down"),
+        unmet_up: count(row, "unmet_up"),
+    })
+}
+
+fn accounts_of(alloc: Global, values: &[Value]) -> Result<Vec<AccountStatus>, AllocError>
+    ensures accounts { IfOk result
+        (λ accounts. AreOf IsAccountOf (map view values.now) accounts.items) }
+{
+    let mut accounts = Vec::with_capacity(alloc, values.len())?;
+    for value in values {
+        accounts.push(account_of(alloc, value)?)?;
+    }
+    Ok(accounts)
 }
 
 /// A transfer, given its texts.
@@ -208,11 +283,21 @@ fn transfers_of(alloc: Global, values: &[Value]) -> Result<Vec<TransferStatus>, 
 }
 
 /// A status, given its lists.
-fn with_lists(value: &Value, groups: Vec<GroupStatus>, transfers: Vec<TransferStatus>) -> Status
+fn with_lists(
+    value: &Value,
+    groups: Vec<GroupStatus>,
+    transfers: Vec<TransferStatus>,
+    sessions: Vec<SessionStatus>,
+    accounts: Vec<AccountStatus>,
+) -> Status
     requires groups { AreOf IsGroupOf
         (list_in (codes "groups") (Some (view value.now))) groups.items }
     requires transfers { AreOf IsTransferOf
         (list_in (codes "transfers") (Some (view value.now))) transfers.items }
+    requires sessions { AreOf IsSessionOf
+        (list_in (codes "sessions_now") (Some (view value.now))) sessions.items }
+    requires accounts { AreOf IsAccountOf
+        (list_in (codes "accounts") (Some (view value.now))) accounts.items }
     ensures status { HasMembers (view value.now) result }
 {
     let row = Some(value);
@@ -220,6 +305,8 @@ fn with_lists(value: &Value, groups: Vec<GroupStatus>, transfers: Vec<TransferSt
         started: count(row, "started"),
         micros: count(row, "micros"),
         line: line(member(row, "line")),
+        guaranteed_down: count(row, "guaranteed_down"),
+        guaranteed_up: count(row, "guaranteed_up"),
         groups,
         users: count(row, "users"),
         sessions: count(row, "sessions"),
@@ -229,11 +316,18 @@ fn with_lists(value: &Value, groups: Vec<GroupStatus>, transfers: Vec<TransferSt
         ended_granted: count(row, "ended_granted"),
         ended_moved: count(row, "ended_moved"),
         ended: count(row, "ended"),
+        endings: ends(member(row, "endings")),
         rounds: held(member(row, "held")),
+        logins: count(row, "logins"),
         failed_logins: count(row, "failed_logins"),
+        refused_logins: count(row, "refused_logins"),
+        refused_guarantees: count(row, "refused_guarantees"),
         refused: count(row, "refused"),
+        lost_lines: count(row, "lost_lines"),
         waits: count(row, "waits"),
         transfers,
+        sessions_now: sessions,
+        accounts,
     }
 }
 
@@ -243,5 +337,7 @@ pub(crate) fn status_of(alloc: Global, value: &Value) -> Result<Status, AllocErr
 {
     let groups = groups_of(alloc, list(value, "groups"))?;
     let transfers = transfers_of(alloc, list(value, "transfers"))?;
-    Ok(with_lists(value, groups, transfers))
+    let sessions = sessions_of(alloc, list(value, "sessions_now"))?;
+    let accounts = accounts_of(alloc, list(value, "accounts"))?;
+    Ok(with_lists(value, groups, transfers, sessions, accounts))
 }

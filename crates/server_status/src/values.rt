@@ -2,16 +2,19 @@
 
 ghost use Rattle.std.specs.Prelude.{◌≡◌, IfOk, OnOk, map, option_map};
 ghost use Rattle.serde_json.specs.View.{members_view, view};
-ghost use Rattle.server_status.specs.Members.{course_members, file_members, owner_members, rate_members};
-ghost use Rattle.server_status.specs.StatusData.{count_if_data, direction_text, group_data, held_data, line_data, peer_data, rate_data, text_data, text_if_data, transfer_data};
+ghost use Rattle.server_status.specs.Members.{client_of, course_members, file_members, owner_members, rate_members, stay_of};
+ghost use Rattle.server_status.specs.StatusData.{account_data, count_if_data, direction_text, ends_data, group_data, held_data, line_data, peer_data, rate_data, session_data, text_data, text_if_data, transfer_data};
 
-use crate::status::{Direction, GroupStatus, HeldRounds, LineRates, Rate, TransferStatus};
+use crate::status::{
+    AccountStatus, Direction, EndCounts, GroupStatus, HeldRounds, LineRates, Rate, SessionStatus,
+    TransferStatus,
+};
 use serde_json::{Map, Value, json, put};
 use std::alloc::{AllocError, Global};
 use std::net::Ipv4Addr;
 
 /// A rate, or null for none.
-fn rate_value(rate: Rate) -> Value
+pub(crate) fn rate_value(rate: Rate) -> Value
     ensures rate { view result ≡ rate_data rate }
 {
     if rate == 0 {
@@ -79,6 +82,21 @@ pub(crate) fn held_value(alloc: Global, rounds: HeldRounds) -> Result<Value, All
     })
 }
 
+/// Numbers of transfers that have ended, by how they did.
+pub(crate) fn ends_value(alloc: Global, ends: EndCounts) -> Result<Value, AllocError>
+    ensures ends { IfOk result (λ v. view v ≡ ends_data ends) }
+{
+    json!(in alloc; {
+        "aborted": ends.aborted,
+        "file": ends.file,
+        "lost": ends.lost,
+        "memory": ends.memory,
+        "owner": ends.owner,
+        "unconnected": ends.unconnected,
+        "whole": ends.whole
+    })
+}
+
 /// The rates of the whole line.
 pub(crate) fn line_value(alloc: Global, line: LineRates) -> Result<Value, AllocError>
     ensures line { IfOk result (λ v. view v ≡ line_data line) }
@@ -95,6 +113,8 @@ fn group_value(alloc: Global, group: &GroupStatus) -> Result<Value, AllocError>
 {
     json!(in alloc; {
         "down": rate_value(group.down),
+        "guaranteed_down": rate_value(group.guaranteed_down),
+        "guaranteed_up": rate_value(group.guaranteed_up),
         "name": group.name.as_str(),
         "up": rate_value(group.up)
     })
@@ -108,6 +128,90 @@ pub(crate) fn group_values(alloc: Global, groups: &[GroupStatus]) -> Result<Vec<
     let mut values = Vec::with_capacity(alloc, groups.len())?;
     for group in groups {
         values.push(group_value(alloc, group)?)?;
+    }
+    Ok(values)
+}
+
+/// Puts whose a session is.
+fn put_client(
+    map: &mut Map<String, Value>,
+    alloc: Global,
+    session: &SessionStatus,
+) -> Result<(), AllocError>
+    ensures client { OnOk result (members_view map.new.entries
+        ≡ client_of session.now (members_view map.old.entries)) }
+{
+    put(map, alloc, "session", Value::from(session.session))?;
+    put(map, alloc, "user", text_if_value(alloc, &session.user)?)?;
+    put(map, alloc, "group", text_if_value(alloc, &session.group)?)?;
+    put(map, alloc, "peer", peer_value(alloc, session.peer)?)
+}
+
+/// Puts since when a session is there, and what is guaranteed to it.
+fn put_stay(
+    map: &mut Map<String, Value>,
+    alloc: Global,
+    session: &SessionStatus,
+) -> Result<(), AllocError>
+    ensures stay { OnOk result (members_view map.new.entries
+        ≡ stay_of session.now (members_view map.old.entries)) }
+{
+    let (down, up) = (session.guaranteed_down, session.guaranteed_up);
+    put(map, alloc, "begun", Value::from(session.begun))?;
+    put(map, alloc, "active", Value::from(session.active))?;
+    put(map, alloc, "guaranteed_down", rate_value(down))?;
+    put(map, alloc, "guaranteed_up", rate_value(up))
+}
+
+fn session_value(alloc: Global, session: &SessionStatus) -> Result<Value, AllocError>
+    ensures session { IfOk result (λ v. view v ≡ session_data session.now) }
+{
+    let mut map = Map::new(alloc);
+    put_client(&mut map, alloc, session)?;
+    put_stay(&mut map, alloc, session)?;
+    Ok(Value::Object(map))
+}
+
+/// The sessions, in their order.
+pub(crate) fn session_values(
+    alloc: Global,
+    sessions: &[SessionStatus],
+) -> Result<Vec<Value>, AllocError>
+    ensures sessions { IfOk result
+        (λ values. map view values.items ≡ map session_data sessions.now) }
+{
+    let mut values = Vec::with_capacity(alloc, sessions.len())?;
+    for session in sessions {
+        values.push(session_value(alloc, session)?)?;
+    }
+    Ok(values)
+}
+
+fn account_value(alloc: Global, account: &AccountStatus) -> Result<Value, AllocError>
+    ensures account { IfOk result (λ v. view v ≡ account_data account.now) }
+{
+    let group = text_if_value(alloc, &account.group)?;
+    json!(in alloc; {
+        "granted_down": account.granted_down,
+        "granted_up": account.granted_up,
+        "group": group,
+        "unmet_down": account.unmet_down,
+        "unmet_up": account.unmet_up,
+        "user": account.user.as_str()
+    })
+}
+
+/// The accounts, in their order.
+pub(crate) fn account_values(
+    alloc: Global,
+    accounts: &[AccountStatus],
+) -> Result<Vec<Value>, AllocError>
+    ensures accounts { IfOk result
+        (λ values. map view values.items ≡ map account_data accounts.now) }
+{
+    let mut values = Vec::with_capacity(alloc, accounts.len())?;
+    for account in accounts {
+        values.push(account_value(alloc, account)?)?;
     }
     Ok(values)
 }

@@ -2,11 +2,14 @@
 
 ghost use Rattle.std.specs.Prelude.{◌≡◌, ◌++◌, ◌∷◌, [], IfOk, OnOk, string_bytes};
 ghost use Rattle.serde_json.specs.View.{members_view, view};
-ghost use Rattle.server_status.specs.Members.{client_members, moment_members, part_members, total_members};
+ghost use Rattle.server_status.specs.Members.{client_members, login_members, moment_members, part_members, people_members, total_members};
 ghost use Rattle.server_status.specs.StatusData.{IsStatusText, status_data};
 
 use crate::status::Status;
-use crate::values::{group_values, held_value, line_value, transfer_values};
+use crate::values::{
+    account_values, ends_value, group_values, held_value, line_value, rate_value, session_values,
+    transfer_values,
+};
 use serde_json::{Map, Value, put};
 use std::alloc::{AllocError, Global};
 
@@ -65,7 +68,47 @@ fn put_totals(
         Value::from(status.ended_granted),
     )?;
     put(map, alloc, "ended_moved", Value::from(status.ended_moved))?;
-    put(map, alloc, "ended", Value::from(status.ended))
+    put(map, alloc, "ended", Value::from(status.ended))?;
+    put(map, alloc, "endings", ends_value(alloc, status.endings)?)
+}
+
+/// Puts what came of logins, and the number of lines that were lost.
+fn put_logins(
+    map: &mut Map<String, Value>,
+    alloc: Global,
+    status: &Status,
+) -> Result<(), AllocError>
+    ensures logins { OnOk result (members_view map.new.entries
+        ≡ login_members status.now (members_view map.old.entries)) }
+{
+    let unguaranteed = status.refused_guarantees;
+    put(map, alloc, "logins", Value::from(status.logins))?;
+    put(
+        map,
+        alloc,
+        "refused_logins",
+        Value::from(status.refused_logins),
+    )?;
+    put(map, alloc, "refused_guarantees", Value::from(unguaranteed))?;
+    put(map, alloc, "lost_lines", Value::from(status.lost_lines))
+}
+
+/// Puts what is guaranteed in all, the sessions, and what users got.
+fn put_people(
+    map: &mut Map<String, Value>,
+    alloc: Global,
+    status: &Status,
+) -> Result<(), AllocError>
+    ensures people { OnOk result (members_view map.new.entries
+        ≡ people_members status.now (members_view map.old.entries)) }
+{
+    let (down, up) = (status.guaranteed_down, status.guaranteed_up);
+    put(map, alloc, "guaranteed_down", rate_value(down))?;
+    put(map, alloc, "guaranteed_up", rate_value(up))?;
+    let sessions = session_values(alloc, &status.sessions_now)?;
+    put(map, alloc, "sessions_now", Value::Array(sessions))?;
+    let accounts = account_values(alloc, &status.accounts)?;
+    put(map, alloc, "accounts", Value::Array(accounts))
 }
 
 /// Puts the rates of the line, the rounds, the groups and the transfers.
@@ -89,6 +132,8 @@ fn status_value(alloc: Global, status: &Status) -> Result<Value, AllocError>
     put_clients(&mut map, alloc, status)?;
     put_totals(&mut map, alloc, status)?;
     put_parts(&mut map, alloc, status)?;
+    put_logins(&mut map, alloc, status)?;
+    put_people(&mut map, alloc, status)?;
     Ok(Value::Object(map))
 }
 

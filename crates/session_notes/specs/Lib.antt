@@ -1,3 +1,4 @@
+pub mod Courses
 pub mod Levels
 pub mod Moments
 pub mod Stores

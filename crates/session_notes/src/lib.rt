@@ -15,6 +15,7 @@
 //! note contains a password, or the text of a refused line.
 #![tactic(auto)]
 
+mod courses;
 mod levels;
 mod moment;
 mod notes;

@@ -1,5 +1,6 @@
 //! A handler that writes a note of each event.
 
+use crate::courses::CourseText;
 use crate::levels::{
     level_of_cause, level_of_event, level_of_refusal, level_of_server, level_of_session,
 };
@@ -18,6 +19,7 @@ use server_house::{
     ServerHooks, ServerLook, SessionEvent, StoreNote, TransferRecord, UnguaranteedLogin,
 };
 use session_table::HookCall;
+use status_keeper::{KeptHooks, TransferCourse};
 use std::alloc::Global;
 use std::net::Ipv4Addr;
 use std::time::Clock;
@@ -27,6 +29,11 @@ use transfer_log::FileTransfer;
 pub trait TransferLog {
     /// Appends a transfer that has ended.
     fn append(&self, transfer: &FileTransfer<'_>);
+
+    /// Number of its lines, and of the notes, that were dropped so far.
+    fn lost_lines(&self) -> u64 {
+        0
+    }
 }
 
 /// Writes each event with its time, in UTC, with the peer's address and the number of the session. Refusals and
@@ -51,6 +58,14 @@ impl<L: Log + Clock, T: TransferLog> Notes<L, T> {
 
     fn stamp(&self) -> Stamp {
         Stamp::new(self.form, second_of(self.log.since_1970()))
+    }
+
+    // Appends a transfer of a file that has ended to the transfer log.
+    fn log_transfer(&self, record: &TransferRecord<'_>, session: ClientSession) {
+        let ended = seconds_of(self.log.since_1970());
+        if let Some(transfer) = file_transfer(session, record, ended) {
+            self.transfers.append(&transfer);
+        }
     }
 
     // Notes what a configuration changes, which are the lines of a text that are not empty, if it is known.
@@ -158,10 +173,7 @@ impl<L: Log + Clock + Drop, T: TransferLog + Drop> ServerHooks for Notes<L, T> {
     fn on_look(&mut self, _look: &ServerLook<'_>) {}
 
     fn on_transfer(&mut self, session: ClientSession, record: &TransferRecord<'_>) {
-        let ended = seconds_of(self.log.since_1970());
-        if let Some(transfer) = file_transfer(session, record, ended) {
-            self.transfers.append(&transfer);
-        }
+        self.log_transfer(record, session);
         let stamp = self.stamp();
         let head = SessionHead(session);
         let text = TransferText(*record);
@@ -192,5 +204,39 @@ impl<L: Log + Clock + Drop, T: TransferLog + Drop> ServerHooks for Notes<L, T> {
             None => log!(self.log; target: "", level, "{stamp}{head} {text}"),
             Some(error) => log!(self.log; target: "", level, "{stamp}{head} {text}: {error}"),
         }
+    }
+}
+
+impl<L: Log + Clock + Drop, T: TransferLog + Drop> KeptHooks for Notes<L, T> {
+    fn on_course(
+        &mut self,
+        session: ClientSession,
+        record: &TransferRecord<'_>,
+        course: &TransferCourse<'_>,
+    ) {
+        self.log_transfer(record, session);
+        let stamp = self.stamp();
+        let head = SessionHead(session);
+        let text = TransferText(*record);
+        let held = CourseText {
+            user: record.user,
+            kind: record.kind,
+            course: *course,
+        };
+        match record.cause {
+            None => log!(self.log; target: "", Level::Info, "{stamp}{head} {text}{held}"),
+            Some(cause) => {
+                let level = level_of_cause(cause);
+                let cause = CauseText {
+                    cause,
+                    error: record.error,
+                };
+                log!(self.log; target: "", level, "{stamp}{head} {text}{held}: {cause}");
+            }
+        }
+    }
+
+    fn lost_lines(&self) -> u64 {
+        self.transfers.lost_lines()
     }
 }

@@ -1,2 +1,5 @@
+pub mod Accounts
+pub mod Endings
+pub mod Looks
 pub mod Made
 pub mod Shown

@@ -2,6 +2,9 @@
 use Rattle.std.specs.Prelude.{ℕ, ◌+◌, ◌-◌, ◌/◌, ◌==◌, if◌then◌else◌, nat_eq, min, length, List, [], ◌∷◌, ◌++◌, codes, string_bytes}
 use Rattle.std.specs.Fmt.{decimal}
 use Rattle.std.specs.List.{flat_map, sum_by}
+use Rattle.std.specs.Option.{option_map_or}
+use Rattle.server_status.specs.declared.status.AccountStatus.{AccountStatus}
+use Rattle.server_status.specs.declared.status.EndCounts.{EndCounts}
 use Rattle.server_status.specs.declared.status.GroupStatus.{GroupStatus}
 use Rattle.server_status.specs.declared.status.HeldRounds.{HeldRounds}
 use Rattle.server_status.specs.declared.status.LineRates.{LineRates}
@@ -180,6 +183,125 @@ line_limits line = limit_head ++ line_samples line
 abbrev pub limit_metrics : Status → List ℕ
 limit_metrics status = line_limits status.line ++ flat_map group_samples status.groups.items
 
+-- ---- logins and ends
+
+unfoldable pub login_lines : Status → List Line
+login_lines status =
+    counter (codes "ftpd_logins_total") (codes "Logins.") status.logins
+    ∷ counter (codes "ftpd_refused_logins_total")
+    (codes "Logins refused for the number of sessions of their user.") status.refused_logins
+    ∷ counter (codes "ftpd_refused_guarantees_total") (codes "Logins refused for a guarantee.")
+    status.refused_guarantees
+    ∷ counter (codes "ftpd_log_lines_lost_total")
+    (codes "Lines of notes and of the transfer log that were dropped.") status.lost_lines
+    ∷ []
+
+-- the transfers that ended in a way, after the first
+abbrev pub end_line : List ℕ → ℕ → Line
+end_line labels count = further (codes "ftpd_transfer_ends_total") labels count
+
+unfoldable pub end_lines : EndCounts → List Line
+end_lines ends =
+    record {
+      name = codes "ftpd_transfer_ends_total";
+      type = codes "counter";
+      help = codes "Transfers that have ended, by how they did.";
+      labels = codes "{how=\"whole\"}";
+      value = ends.whole;
+    }
+    ∷ end_line (codes "{how=\"aborted\"}") ends.aborted
+    ∷ end_line (codes "{how=\"unconnected\"}") ends.unconnected
+    ∷ end_line (codes "{how=\"lost\"}") ends.lost
+    ∷ end_line (codes "{how=\"file\"}") ends.file
+    ∷ end_line (codes "{how=\"memory\"}") ends.memory
+    ∷ end_line (codes "{how=\"owner\"}") ends.owner
+    ∷ []
+
+-- ---- guarantees
+
+unfoldable pub promise_name : List ℕ
+promise_name = codes "ftpd_guaranteed_bytes_per_second"
+
+-- the line of what is guaranteed within a limit, up to the name of that, and up to its end
+unfoldable pub promise_kind : List ℕ → List ℕ
+promise_kind kind = promise_name ++ codes "{kind=\"" ++ kind
+
+unfoldable pub promise_label : List ℕ
+promise_label = codes "\",name=\""
+
+abbrev pub promise_start : List ℕ → List ℕ → List ℕ
+promise_start kind name = promise_kind kind ++ promise_label ++ escaped name
+
+unfoldable pub promise_sample : List ℕ → List ℕ → List ℕ → ℕ → List ℕ
+promise_sample kind name direction rate = promise_start kind name ++ limit_end direction rate
+
+unfoldable pub promise_head : List ℕ
+promise_head =
+    head promise_name (codes "gauge")
+    (codes "Guarantees of the sessions that are logged in, together.")
+
+abbrev pub line_promises : Status → List ℕ
+line_promises status =
+    promise_sample (codes "direction") [] (codes "down") status.guaranteed_down
+    ++ promise_sample (codes "direction") [] (codes "up") status.guaranteed_up
+
+abbrev pub group_promises : GroupStatus → List ℕ
+group_promises group =
+    promise_sample (codes "group") (string_bytes group.name) (codes "down") group.guaranteed_down
+    ++ promise_sample (codes "group") (string_bytes group.name) (codes "up") group.guaranteed_up
+
+abbrev pub promise_metrics : Status → List ℕ
+promise_metrics status =
+    (promise_head ++ line_promises status) ++ flat_map group_promises status.groups.items
+
+-- ---- users
+
+-- the group of a user; empty for none
+abbrev pub group_label : AccountStatus → List ℕ
+group_label account = option_map_or (λ group. string_bytes group) account.group []
+
+abbrev pub user_start : List ℕ → List ℕ → List ℕ
+user_start metric user = metric ++ codes "{user=\"" ++ escaped user
+
+unfoldable pub user_group : List ℕ → List ℕ
+user_group group = codes "\",group=\"" ++ escaped group
+
+-- a value of a user in a direction
+unfoldable pub user_sample : List ℕ → AccountStatus → List ℕ → ℕ → List ℕ
+user_sample metric account direction value =
+    (user_start metric (string_bytes account.user) ++ user_group (group_label account))
+    ++ limit_end direction value
+
+abbrev pub granted_samples : AccountStatus → List ℕ
+granted_samples account =
+    user_sample (codes "ftpd_granted_bytes_total") account (codes "down") account.granted_down
+    ++ user_sample (codes "ftpd_granted_bytes_total") account (codes "up") account.granted_up
+
+unfoldable pub unmet_name : List ℕ
+unmet_name = codes "ftpd_guarantee_unmet_seconds_total"
+
+-- whole seconds
+abbrev pub unmet_samples : AccountStatus → List ℕ
+unmet_samples account =
+    user_sample unmet_name account (codes "down") (account.unmet_down / 1_000_000)
+    ++ user_sample unmet_name account (codes "up") (account.unmet_up / 1_000_000)
+
+unfoldable pub granted_head : List ℕ
+granted_head =
+    head (codes "ftpd_granted_bytes_total") (codes "counter")
+    (codes "Bytes granted to the transfers of users.")
+
+unfoldable pub unmet_head : List ℕ
+unmet_head =
+    head unmet_name (codes "counter")
+    (codes "Seconds below nine tenths of a guarantee while a limit held the transfer back.")
+
+abbrev pub granted_metrics : List AccountStatus → List ℕ
+granted_metrics accounts = granted_head ++ flat_map granted_samples accounts
+
+abbrev pub unmet_metrics : List AccountStatus → List ℕ
+unmet_metrics accounts = unmet_head ++ flat_map unmet_samples accounts
+
 -- ---- all
 
 -- the samples of the server and of transfers, and those of rounds and limits
@@ -197,5 +319,17 @@ first_metrics status = server_metrics status ++ transfer_metrics status
 abbrev pub last_metrics : Status → List ℕ
 last_metrics status = flat_map line_text (round_lines status.rounds) ++ limit_metrics status
 
+-- logins, ends, guarantees and users
+abbrev pub login_metrics : Status → List ℕ
+login_metrics status =
+    flat_map line_text (login_lines status) ++ flat_map line_text (end_lines status.endings)
+
+abbrev pub user_metrics : Status → List ℕ
+user_metrics status = granted_metrics status.accounts.items ++ unmet_metrics status.accounts.items
+
+abbrev pub people_metrics : Status → List ℕ
+people_metrics status =
+    (login_metrics status ++ promise_metrics status) ++ user_metrics status
+
 abbrev pub metrics : Status → List ℕ
-metrics status = first_metrics status ++ last_metrics status
+metrics status = (first_metrics status ++ last_metrics status) ++ people_metrics status

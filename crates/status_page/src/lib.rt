@@ -17,10 +17,12 @@ mod hosts;
 mod limits;
 mod metrics;
 mod page;
+mod promises;
 mod routes;
 mod samples;
 mod serving;
 mod timing;
+mod users;
 
 pub use metrics::metrics_text;
 pub use page::{PAGE, POLICY};

@@ -33,7 +33,8 @@ fn write_direction(text: &mut String, direction: &str) -> Result<(), AllocError>
     write!(text, "\",direction=\"{direction}\"}}")
 }
 
-fn write_end(text: &mut String, direction: &str, rate: Rate) -> Result<(), AllocError>
+/// Writes the direction of a sample, its value, and the end of its line.
+pub(crate) fn write_end(text: &mut String, direction: &str, rate: Rate) -> Result<(), AllocError>
     ensures end { OnOk result
         (string_bytes text.new ≡ string_bytes text.old ++ limit_end direction.now rate) }
 {

@@ -2,13 +2,16 @@
 
 ghost use Rattle.std.specs.Prelude.{◌≡◌, ◌++◌, IfOk, OnOk, map, string_bytes};
 ghost use Rattle.std.specs.List.{flat_map};
-ghost use Rattle.status_page.specs.Metrics.{first_metrics, head, last_metrics, line_text, meaning, metrics, server_metrics, transfer_metrics};
+ghost use Rattle.status_page.specs.Metrics.{first_metrics, head, last_metrics, line_text, login_metrics, meaning, metrics, people_metrics, server_metrics, transfer_metrics, user_metrics};
 ghost use Rattle.status_page.specs.Samples.{line_of};
 
 use crate::limits::write_limits;
+use crate::promises::write_promises;
 use crate::samples::{
-    Sample, build_samples, byte_samples, round_samples, session_samples, transfer_samples,
+    Sample, build_samples, byte_samples, end_samples, login_samples, round_samples,
+    session_samples, transfer_samples,
 };
+use crate::users::{write_granted, write_unmet};
 use server_status::Status;
 use std::alloc::{AllocError, Global};
 
@@ -88,12 +91,38 @@ fn write_last(text: &mut String, status: &Status) -> Result<(), AllocError>
     write_limits(text, status)
 }
 
+fn write_logins(text: &mut String, status: &Status) -> Result<(), AllocError>
+    ensures metrics { OnOk result
+        (string_bytes text.new ≡ string_bytes text.old ++ login_metrics status.now) }
+{
+    write_samples(text, &login_samples(status))?;
+    write_samples(text, &end_samples(status.endings))
+}
+
+fn write_users(text: &mut String, status: &Status) -> Result<(), AllocError>
+    ensures metrics { OnOk result
+        (string_bytes text.new ≡ string_bytes text.old ++ user_metrics status.now) }
+{
+    write_granted(text, status.accounts.as_slice())?;
+    write_unmet(text, status.accounts.as_slice())
+}
+
+fn write_people(text: &mut String, status: &Status) -> Result<(), AllocError>
+    ensures metrics { OnOk result
+        (string_bytes text.new ≡ string_bytes text.old ++ people_metrics status.now) }
+{
+    write_logins(text, status)?;
+    write_promises(text, status)?;
+    write_users(text, status)
+}
+
 fn write_metrics(text: &mut String, status: &Status) -> Result<(), AllocError>
     ensures metrics { OnOk result
         (string_bytes text.new ≡ string_bytes text.old ++ metrics status.now) }
 {
     write_first(text, status)?;
-    write_last(text, status)
+    write_last(text, status)?;
+    write_people(text, status)
 }
 
 /// A status as metrics. Fails if memory runs out.

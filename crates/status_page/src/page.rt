@@ -3,7 +3,7 @@
 /// The policy for browsers: they may run the script of the page and use its style, by their hashes, and ask the server
 /// itself. `tools/page-policy --write` computes the hashes.
 pub const POLICY: &str =
-    "default-src 'none'; connect-src 'self'; script-src 'sha256-Z8rZgevJ7we66Q4r8AyT1Jb114dgzd/rYfYG8nRZBYg='; style-src 'sha256-S2OK/3jFGzhxX59B5bvWp9SZKq5+ulgFhhsqoTbxAT4='; base-uri 'none'; form-action 'none'; frame-ancestors 'none'";
+    "default-src 'none'; connect-src 'self'; script-src 'sha256-FmSRe2vhUWrajVpE4D+IBBhO3QieVcjWCZd1w8Gw16w='; style-src 'sha256-S2OK/3jFGzhxX59B5bvWp9SZKq5+ulgFhhsqoTbxAT4='; base-uri 'none'; form-action 'none'; frame-ancestors 'none'";
 
 /// The page. It asks for `status.json` once a second, and shows each text in it as text.
 pub const PAGE: &str = r##"<!doctype html>
@@ -114,12 +114,23 @@ limit leaves to each whom it holds back. A line above has the colour of its colu
 <tbody id="transfers"></tbody>
 </table>
 </div>
+<section id="inside" hidden>
+<h2>Sessions without a transfer <span id="idle-number" class="faint"></span></h2>
+<div class="wide" tabindex="0" role="group" aria-label="Sessions without a transfer">
+<table>
+<thead><tr><th scope="col">user</th><th scope="col" class="number">idle</th><th scope="col" class="number">inside</th>
+<th scope="col" class="number held">guaranteed</th><th scope="col" class="more">group</th><th scope="col" class="more">session</th>
+<th scope="col" class="more">from</th></tr></thead>
+<tbody id="idle"></tbody>
+</table>
+</div>
+</section>
 </main>
 <script>
 "use strict";
 const KINDS = ["server", "direction", "group", "user", "session", "nothing"];
 const WAYS = ["down", "up"];
-const COLOURS = 10, KEPT_MICROS = 600e6, BASE = 160, ROOM = 72, LONGEST = 20;
+const COLOURS = 10, KEPT_MICROS = 600e6, BASE = 160, ROOM = 72, LONGEST = 20, MOST_IDLE = 12;
 const byId = id => document.getElementById(id);
 const sum = numbers => numbers.reduce((a, b) => a + b, 0);
 const whole = n => Math.round(n).toLocaleString("en");
@@ -196,7 +207,7 @@ function measured(transfer, was, micros, before) {
   const kind = most > 0 ? KINDS[rounds.indexOf(most)] : "nothing";
   const rate = time > 0 ? Math.max(0, granted / time) : 0;
   return {
-    transfer, kind, from, granted, rate, limit: ownerName(kind, transfer, Infinity), part: most > 0 ? most / sum(rounds) : 0,
+    transfer, kind, from, rate, limit: ownerName(kind, transfer, Infinity), part: most > 0 ? most / sum(rounds) : 0,
     own: lesser(transfer.user_rate, transfer.session_rate),
     lacks: !transfer.waiting && kind !== "nothing" && transfer.guaranteed !== null && rate < 0.9 * transfer.guaranteed,
   };
@@ -219,9 +230,21 @@ function styleOf(limit, rows) {
   return rows.some(r => r.limit === limit && r.kind !== "nothing" && !r.transfer.waiting) ? limitColours.get(limit) : "nothing";
 }
 
-// One line: what is used of it, and what is guaranteed; as a bar, and in megabits.
-function addLine(name, shown, rows, style, rate) {
-  const now = sum(rows.map(r => r.rate)), promised = sum(rows.map(r => r.transfer.guaranteed ?? 0));
+// Octets a second that users who pass a test got in these directions since the status before, by transfers that have ended
+// too; without one, by those that are there.
+function gotSince(status, old, rows, ways, inside) {
+  if (old === null) return sum(rows.filter(r => ways.includes(r.transfer.direction) && inside(r.transfer)).map(r => r.rate));
+  const granted = ({ accounts }) => sum(accounts.filter(inside).flatMap(it => ways.map(way => it["granted_" + way])));
+  return Math.max(0, (granted(status) - granted(old)) * 1e6 / (status.micros - old.micros));
+}
+
+// Octets issued a second, both ways together.
+function issuedSince(status, old, rows) {
+  return old === null ? gotSince(status, old, rows, WAYS, () => true) : Math.max(0, (status.issued - old.issued) * 1e6 / (status.micros - old.micros));
+}
+
+// One line: what is used of it, and what is guaranteed to all sessions; as a bar, and in megabits.
+function addLine(name, shown, now, style, rate, promised) {
   const line = put(byId("lines"), "div"), text = put(line, "div");
   put(text, "b", shown + " ").title = name;
   text.append(rate === null ? rateText(now) + ", no limit" : pair(now, rate) + ", ");
@@ -236,17 +259,22 @@ function addLine(name, shown, rows, style, rate) {
     + (promised > 0 ? `, guaranteed ${megabits(promised)} (${rateText(promised)})` : ""), "faint");
 }
 
-function fillLines(status, rows) {
+function fillLines(status, old, rows) {
   byId("lines").replaceChildren();
-  const add = (kind, transfer, inside, rate) => {
+  const promised = (limit, way) => limit["guaranteed_" + way] ?? 0;
+  const got = (direction, inside) => gotSince(status, old, rows, [direction], inside);
+  const add = (kind, transfer, now, rate, least) => {
     const name = limitName(kind, transfer, Infinity);
-    addLine(name, limitName(kind, transfer, LONGEST), rows.filter(r => inside(r.transfer)), styleOf(name, rows), rate);
+    addLine(name, limitName(kind, transfer, LONGEST), now, styleOf(name, rows), rate, least);
   };
-  if (status.line.both !== null) add("server", {}, () => true, status.line.both);
-  for (const direction of WAYS) add("direction", { direction }, t => t.direction === direction, status.line[direction]);
+  if (status.line.both !== null)
+    add("server", {}, issuedSince(status, old, rows), status.line.both, promised(status, "down") + promised(status, "up"));
+  for (const direction of WAYS)
+    add("direction", { direction }, got(direction, () => true), status.line[direction], promised(status, direction));
   for (const group of status.groups)
     for (const direction of WAYS.filter(way => group[way] !== null))
-      add("group", { direction, group: group.name }, t => t.direction === direction && t.group === group.name, group[direction]);
+      add("group", { direction, group: group.name }, got(direction, it => it.group === group.name), group[direction],
+        promised(group, direction));
 }
 
 // Keeps since when each guarantee is not met.
@@ -372,10 +400,35 @@ function fillTransfers(rows) {
     for (const row of rows.filter(r => r.transfer.waiting === waiting)) addRow(body, row, styleOf(row.limit, rows));
 }
 
+// The sessions that transfer nothing: who is guaranteed most first, and then who is idle longest.
+function idleOf(status) {
+  const least = s => (s.guaranteed_down ?? 0) + (s.guaranteed_up ?? 0);
+  return status.sessions_now.filter(s => s.active < status.micros).sort((a, b) => least(b) - least(a) || a.active - b.active || a.session - b.session);
+}
+
+// Fills their table, up to a dozen.
+function fillIdle(status) {
+  const body = byId("idle"), idle = idleOf(status), since = micros => timeText((status.micros - micros) / 1e6);
+  const more = idle.length > MOST_IDLE ? `, ${MOST_IDLE} of them shown` : "";
+  byId("inside").hidden = idle.length === 0;
+  byId("idle-number").textContent = `${idle.length} of ${status.sessions}${more}`;
+  body.replaceChildren();
+  for (const it of idle.slice(0, MOST_IDLE)) {
+    const { user, group, peer, session, begun, active } = it, line = put(body, "tr");
+    const name = put(line, "th", user ?? "not logged in", user === null ? "faint" : undefined);
+    const least = WAYS.filter(way => it["guaranteed_" + way] !== null).map(way => `${whole(it["guaranteed_" + way])} ${way}`);
+    name.scope = "row";
+    name.title = user ?? "";
+    for (const text of [since(active), since(begun)]) put(line, "td", text, "number");
+    put(line, "td", least.join(", ") || "-", "number held");
+    for (const text of [group ?? "-", "#" + session, peer]) put(line, "td", text, "more").title = text;
+  }
+}
+
 // Keeps for ten minutes what each user got, what all got together, and which limits held somebody back.
 function remember(status, old, rows) {
-  const users = new Map(), time = (status.micros - old.micros) / 1e6;
-  for (const { transfer, granted } of rows) users.set(transfer.user, (users.get(transfer.user) ?? 0) + Math.max(0, granted));
+  const had = new Map(old.accounts.map(it => [it.user, it.granted_down + it.granted_up])), time = (status.micros - old.micros) / 1e6;
+  const users = new Map(status.accounts.map(it => [it.user, Math.max(0, it.granted_down + it.granted_up - (had.get(it.user) ?? 0))]));
   const all = Math.max(status.issued - old.issued, sum([...users.values()]));
   past = past.filter(it => status.micros - it.to < KEPT_MICROS);
   past.push({ from: old.micros, to: status.micros, time, users, all, limits: limitsOf(rows) });
@@ -423,17 +476,18 @@ function show(status, old) {
   const rows = measuredAll(status, old);
   const waiting = rows.filter(r => r.transfer.waiting).length, minutes = Math.floor(status.micros / 6e7);
   byId("summary").textContent = `up ${Math.floor(minutes / 60)} h ${minutes % 60} min, `
-    + `${status.sessions} of ${status.max_sessions} sessions, ${rows.length - waiting} of ${status.lanes} transfers, ${waiting} waiting, `
+    + `${status.sessions} of ${status.max_sessions} sessions, ${idleOf(status).length} idle, ${rows.length - waiting} of ${status.lanes} transfers, ${waiting} waiting, `
     + `${whole(status.ended)} ended, ${whole(status.failed_logins)} wrong passwords, ${whole(status.refused)} refused`;
   if (old !== null) remember(status, old, rows);
   else [past, unmet] = [[], new Map()];
   keepUnmet(rows);
   giveColours(limitColours, [...new Set([limitsOf(rows), ...past.map(it => it.limits)].flat())]);
-  fillLines(status, rows);
+  fillLines(status, old, rows);
   fillAlarms(status, rows);
   for (const way of WAYS) drawChart(way, rows);
   drawPast(status);
   fillTransfers(rows);
+  fillIdle(status);
   byId("none").hidden = rows.length > 0;
   byId("key").hidden = rows.length === waiting;
 }
@@ -449,8 +503,9 @@ async function ask() {
     const reply = await fetch("status.json", { cache: "no-store", signal: AbortSignal.timeout(4000) });
     if (!reply.ok) throw new Error("status " + reply.status);
     const status = await reply.json();
-    if (last === null || status.micros !== last.micros) {
-      show(status, last !== null && last.started === status.started && last.micros < status.micros ? last : null);
+    const isRestart = last !== null && last.started !== status.started;
+    if (last === null || isRestart || status.micros !== last.micros) {
+      show(status, last !== null && !isRestart && last.micros < status.micros ? last : null);
       last = status;
     }
     answered = new Date();

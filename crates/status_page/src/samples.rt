@@ -1,10 +1,10 @@
 //! The samples of a status, but for those of its limits.
 
 ghost use Rattle.std.specs.Prelude.{◌≡◌, ◌≤◌, length, map};
-ghost use Rattle.status_page.specs.Metrics.{build_lines, byte_lines, counter, further, gauge, moved_in_all, round_lines, session_lines, transfer_lines, waiting};
+ghost use Rattle.status_page.specs.Metrics.{build_lines, byte_lines, counter, end_line, end_lines, further, gauge, login_lines, moved_in_all, round_lines, session_lines, transfer_lines, waiting};
 ghost use Rattle.status_page.specs.Samples.{line_of};
 
-use server_status::{HeldRounds, Status, TransferStatus};
+use server_status::{EndCounts, HeldRounds, Status, TransferStatus};
 
 /// A sample of a metric. If it is the first, it has the type and the meaning of the metric; otherwise these are empty.
 #[derive(Clone, Copy)]
@@ -213,5 +213,54 @@ pub(crate) fn round_samples(rounds: HeldRounds) -> [Sample; 6]
         further(name, "{kind=\"user\"}", rounds.user),
         further(name, "{kind=\"session\"}", rounds.session),
         further(name, "{kind=\"nothing\"}", rounds.nothing),
+    ]
+}
+
+/// The logins, and the lines that were lost.
+#[tactic(auto, unfolding(crate::specs::Metrics::login_lines))]
+pub(crate) fn login_samples(status: &Status) -> [Sample; 4]
+    ensures lines { map line_of result ≡ login_lines status.now }
+{
+    [
+        counter("ftpd_logins_total", "Logins.", status.logins),
+        counter(
+            "ftpd_refused_logins_total",
+            "Logins refused for the number of sessions of their user.",
+            status.refused_logins,
+        ),
+        counter(
+            "ftpd_refused_guarantees_total",
+            "Logins refused for a guarantee.",
+            status.refused_guarantees,
+        ),
+        counter(
+            "ftpd_log_lines_lost_total",
+            "Lines of notes and of the transfer log that were dropped.",
+            status.lost_lines,
+        ),
+    ]
+}
+
+/// The transfers by how they ended.
+#[tactic(auto, unfolding(crate::specs::Metrics::end_lines))]
+pub(crate) fn end_samples(ends: EndCounts) -> [Sample; 7]
+    ensures lines { map line_of result ≡ end_lines ends }
+{
+    let name = "ftpd_transfer_ends_total";
+    let first = Sample {
+        name,
+        kind: "counter",
+        help: "Transfers that have ended, by how they did.",
+        labels: "{how=\"whole\"}",
+        value: ends.whole,
+    };
+    [
+        first,
+        further(name, "{how=\"aborted\"}", ends.aborted),
+        further(name, "{how=\"unconnected\"}", ends.unconnected),
+        further(name, "{how=\"lost\"}", ends.lost),
+        further(name, "{how=\"file\"}", ends.file),
+        further(name, "{how=\"memory\"}", ends.memory),
+        further(name, "{how=\"owner\"}", ends.owner),
     ]
 }

@@ -8,7 +8,7 @@ same_items [] = refl
 same_items (x ∷ xs) = ap (λ (more : List ℕ). x ∷ more) (same_items xs)
 
 -- the front of a text up to its length is that up to any length
-pub take_min : (xs : List ℕ) (n : ℕ) → take (min (length xs) n) xs ≡ take n xs
+pub take_min : {X : Type 0} (xs : List X) (n : ℕ) → take (min (length xs) n) xs ≡ take n xs
 take_min xs n = go (nat_le (length xs) n) refl
   where
     go : (b : Bool) → nat_le (length xs) n ≡ b → take (min (length xs) n) xs ≡ take n xs

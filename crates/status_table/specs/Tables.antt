@@ -1,17 +1,20 @@
 -- The table of the transfers of a server, as a screen of lines.
-use Rattle.std.specs.Prelude.{◌≡◌, ◌≤◌, ◌+◌, ◌-◌, ◌*◌, ◌/◌, ℕ, Bool, List, Option, Some, None, [], ◌∷◌, ◌++◌, codes, if◌then◌else◌, length, map, min, nat_le, take}
+use Rattle.std.specs.Prelude.{◌≡◌, ◌≤◌, ◌+◌, ◌-◌, ◌*◌, ℕ, Bool, List, Option, Some, None, [], ◌∷◌, ◌++◌, codes, if◌then◌else◌, length, map, min, nat_le, nat_lt, string_bytes, take, String, Vec}
 use Rattle.std.specs.Borrow.{Bor}
 use Rattle.std.specs.Fmt.{decimal}
-use Rattle.std.specs.List.{flat_map}
+use Rattle.std.specs.declared.alloc.Global.{Global}
+use Rattle.std.specs.List.{flat_map, list_any}
 use Rattle.std.specs.List.Sorted.{IsNonDecreasingBy, IsPermutation}
+use Rattle.server_status.specs.declared.status.Direction.TheVariants.{Down, Up}
 use Rattle.server_status.specs.declared.status.GroupStatus.{GroupStatus}
+use Rattle.server_status.specs.declared.status.SessionStatus.{SessionStatus}
 use Rattle.server_status.specs.declared.status.Status.{Status}
 use Rattle.server_status.specs.declared.status.TransferStatus.{TransferStatus}
 use Rattle.status_table.specs.Cells.{plain}
-use Rattle.status_table.specs.Heads.{group_line, head_line, totals_line}
+use Rattle.status_table.specs.Heads.{group_line, head_line, idle_line, totals_line}
 use Rattle.status_table.specs.Held.{level_line, lowest}
-use Rattle.status_table.specs.Lines.{held_line, rate_line}
-use Rattle.status_table.specs.Rates.{rank}
+use Rattle.status_table.specs.Lines.{held_line, is_mate, rate_line, session_line, user_line}
+use Rattle.status_table.specs.Rates.{idle_sessions, rank}
 use Rattle.status_table.specs.declared.table.TheConstants.{COLUMNS}
 
 -- A line as the screen has it: at most `COLUMNS` octets, each a printable character of ASCII, and
@@ -23,20 +26,30 @@ ended line = map plain (take COLUMNS line) ++ 10 ∷ []
 abbrev pub joined : List (List ℕ) → List ℕ
 joined lines = flat_map ended lines
 
--- the line of the tightest limit that transfers share, if there is one
+-- the texts of lines
+abbrev pub texts : Vec (String Global) Global → List (List ℕ)
+texts lines = map string_bytes lines.items
+
+-- ---- above the transfers
+
+-- the line of the tightest limit that transfers of a direction share, if there is one
 abbrev pub level_lines : Option (Bor Status) → Status → Option (Bor TransferStatus) → List (List ℕ)
 level_lines before now None = []
 level_lines before now (Some t) = level_line before now t.now ∷ []
+
+abbrev pub top_lines : Option (Bor Status) → Status → List (Bor TransferStatus) → List (List ℕ)
+top_lines before now shown =
+    head_line now ∷ totals_line before now ∷ idle_line now
+    ∷ level_lines before now (lowest before Down shown)
+    ++ level_lines before now (lowest before Up shown)
+
+-- ---- each transfer
 
 -- the names of the columns
 abbrev pub names_lines : List (List ℕ)
 names_lines =
     codes "       user       group    from            way       1 s    10 s   least    most"
     ∷ codes "       held by, parts of the rounds of 1 s    done  file" ∷ []
-
-abbrev pub top_lines : Option (Bor Status) → Status → Option (Bor TransferStatus) → List (List ℕ)
-top_lines before now level =
-    head_line now ∷ totals_line before now ∷ level_lines before now level ++ names_lines
 
 -- the two lines of a transfer
 abbrev pub entry_lines : Option (Bor Status) → Option (Bor Status) → Status → TransferStatus
@@ -47,68 +60,120 @@ abbrev pub entries : Option (Bor Status) → Option (Bor Status) → Status → 
     → List (List ℕ)
 entries earlier before now shown = flat_map (λ t. entry_lines earlier before now t.now) shown
 
--- the same lines, and that of a group, each with its end
-unfoldable pub entry_text : Option (Bor Status) → Option (Bor Status) → Status → TransferStatus
-    → List ℕ
-entry_text earlier before now t = joined (entry_lines earlier before now t)
+-- ---- users
 
-unfoldable pub group_text : Option (Bor Status) → Status → GroupStatus → List ℕ
-group_text before now group = ended (group_line before now group)
+-- the names of the columns
+abbrev pub user_names : List ℕ
+user_names = codes "user       group    way     no      1 s  held by, number of transfers"
+
+-- there is one of the same user and direction
+abbrev pub has_mate : List (Bor TransferStatus) → TransferStatus → Bool
+has_mate seen t = list_any (λ other. is_mate t other.now) seen
+
+-- the first transfer of each user and direction, after some
+abbrev pub firsts_after : List (Bor TransferStatus) → List (Bor TransferStatus)
+    → List (Bor TransferStatus)
+firsts_after seen [] = []
+firsts_after seen (t ∷ ts) =
+    if has_mate seen t.now then firsts_after (seen ++ t ∷ []) ts
+    else t ∷ firsts_after (seen ++ t ∷ []) ts
+
+abbrev pub firsts : List (Bor TransferStatus) → List (Bor TransferStatus)
+firsts shown = firsts_after [] shown
+
+-- ---- idle sessions
+
+abbrev pub session_names : List ℕ
+session_names = codes "idle   user       from                inside      idle     down       up"
+
+-- lines below these names, if there are some
+abbrev pub headed : List (List ℕ) → List (List ℕ)
+headed [] = []
+headed (line ∷ lines) = session_names ∷ line ∷ lines
+
+-- the idle sessions that that number of lines has room for, below their head
+abbrev pub session_lines : Status → ℕ → List (List ℕ)
+session_lines now space =
+    if nat_lt space 2 then []
+    else headed (map (session_line now) (take (space - 1) (idle_sessions now)))
 
 -- ---- what fits
 
--- all transfers and groups fit into that number of lines
+-- all transfers and groups fit into that number of lines, below the names of the columns
 abbrev pub all_fit : ℕ → ℕ → ℕ → Bool
-all_fit space transfers groups = nat_le (transfers * 2 + groups) space
+all_fit space transfers groups = nat_le (2 + transfers * 2 + groups) space
 
--- Number of the transfers that are shown, and of the groups. If not all fit, one line is kept for
--- the numbers of those that are not shown.
-abbrev pub shown_transfers : ℕ → ℕ → ℕ → ℕ
-shown_transfers space transfers groups =
-    if all_fit space transfers groups then transfers else min transfers ((space - 1) / 2)
+-- Number of the users that are shown, and of the groups. If not all fit, one line is kept for the
+-- numbers of those that are not shown.
+abbrev pub users_fit : ℕ → ℕ → ℕ → Bool
+users_fit space users groups = nat_le (1 + users + groups) space
+
+abbrev pub shown_users : ℕ → ℕ → ℕ → ℕ
+shown_users space users groups =
+    if users_fit space users groups then users else min users (space - 2)
 
 abbrev pub shown_groups : ℕ → ℕ → ℕ → ℕ
-shown_groups space transfers groups =
-    if all_fit space transfers groups then groups
-    else min groups (space - 1 - shown_transfers space transfers groups * 2)
+shown_groups space users groups =
+    if users_fit space users groups then groups
+    else min groups (space - 2 - min users (space - 2))
 
 -- the numbers of those that are not shown
 abbrev pub rest_line : ℕ → ℕ → List ℕ
-rest_line transfers groups =
-    decimal transfers
-    ++ (codes " transfers and " ++ (decimal groups ++ codes " groups are not shown"))
+rest_line users groups =
+    decimal users
+    ++ (codes " users and " ++ (decimal groups ++ codes " groups are not shown"))
 
 abbrev pub rest_lines : ℕ → ℕ → ℕ → List (List ℕ)
-rest_lines space transfers groups =
-    if all_fit space transfers groups then []
-    else rest_line (transfers - shown_transfers space transfers groups)
-    (groups - shown_groups space transfers groups) ∷ []
+rest_lines space users groups =
+    if users_fit space users groups then []
+    else rest_line (users - shown_users space users groups)
+    (groups - shown_groups space users groups) ∷ []
 
--- transfers and groups in that number of lines
+abbrev pub group_lines : Option (Bor Status) → Status → ℕ → List (List ℕ)
+group_lines before now count = map (group_line before now) (take count now.groups.items)
+
+-- each transfer, each group, and idle sessions
+abbrev pub whole_lines : Option (Bor Status) → Option (Bor Status) → Status
+    → List (Bor TransferStatus) → ℕ → List (List ℕ)
+whole_lines earlier before now shown space =
+    names_lines ++ entries earlier before now shown
+    ++ group_lines before now (length now.groups.items)
+    ++ session_lines now (space - (2 + length shown * 2 + length now.groups.items))
+
+-- users, each with the sum of their transfers, and groups
+abbrev pub summed_lines : Option (Bor Status) → Status → List (Bor TransferStatus) → ℕ
+    → List (List ℕ)
+summed_lines before now users space =
+    user_names
+    ∷ map (λ t. user_line before now t.now)
+    (take (shown_users space (length users) (length now.groups.items)) users)
+    ++ group_lines before now (shown_groups space (length users) (length now.groups.items))
+    ++ rest_lines space (length users) (length now.groups.items)
+
+-- transfers and groups in that number of lines: users, if there are more transfers
 abbrev pub body_lines : Option (Bor Status) → Option (Bor Status) → Status
     → List (Bor TransferStatus) → ℕ → List (List ℕ)
 body_lines earlier before now shown space =
-    let transfers = length shown in
-    let groups = length now.groups.items in
-    entries earlier before now (take (shown_transfers space transfers groups) shown)
-    ++ map (group_line before now) (take (shown_groups space transfers groups) now.groups.items)
-    ++ rest_lines space transfers groups
+    if all_fit space (length shown) (length now.groups.items)
+    then whole_lines earlier before now shown space
+    else summed_lines before now (firsts shown) space
 
 -- the lines of a screen of `rows` lines
 abbrev pub screen_lines : Option (Bor Status) → Option (Bor Status) → Status
     → List (Bor TransferStatus) → ℕ → List (List ℕ)
 screen_lines earlier before now shown rows =
-    let above = top_lines before now (lowest before shown) in
-    above ++ body_lines earlier before now shown (rows - length above)
+    top_lines before now shown
+    ++ body_lines earlier before now shown (rows - length (top_lines before now shown))
 
 -- ---- the table
 
--- The text is the table: the transfers of the status, first the highest rate since the status
--- before, and for one rate the lowest number of a session, in at most `rows` lines.
+-- The text is the table, in at most `rows` lines: the transfers of the status, first those that
+-- wait for a lane, then the highest rate since the status before, and for one rate the lowest
+-- number of a session.
 pub record IsTable (earlier before : Option (Bor Status)) (now : Status) (rows : ℕ)
     (text : List ℕ) : Type 0 where
   pub shown : List (Bor TransferStatus)
   pub all : IsPermutation now.transfers.items (map (λ t. t.now) shown)
   pub ordered : IsNonDecreasingBy (λ t. rank before now t.now) shown
-  pub few : length (screen_lines earlier before now shown rows) ≤ rows
-  pub lines : text ≡ joined (screen_lines earlier before now shown rows)
+  pub few : length (take rows (screen_lines earlier before now shown rows)) ≤ rows
+  pub lines : text ≡ joined (take rows (screen_lines earlier before now shown rows))

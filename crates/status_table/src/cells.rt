@@ -110,7 +110,7 @@ pub(crate) fn push_amount(line: &mut String, n: u64) -> Result<(), AllocError>
     }
 }
 
-fn push_limit(line: &mut String, rate: Rate) -> Result<(), AllocError>
+pub(crate) fn push_limit(line: &mut String, rate: Rate) -> Result<(), AllocError>
     ensures appended { OnOk result
         (string_bytes line.new ≡ string_bytes line.old ++ limit_text rate) }
 {

@@ -2,11 +2,11 @@
 
 ghost use Rattle.std.specs.Prelude.{◌≡◌, ◌++◌, OnOk, codes, string_bytes};
 ghost use Rattle.status_table.specs.Cells.{left, shown_text};
-ghost use Rattle.status_table.specs.Rates.{group_total, line_total};
-ghost use Rattle.status_table.specs.Heads.{both_total, clients_text, counts_of, counts_text, group_line, head_line, is_full, labelled, totals_line, up_text, used_text};
+ghost use Rattle.status_table.specs.Rates.{both_total, group_total, line_total};
+ghost use Rattle.status_table.specs.Heads.{clients_text, counts_of, counts_text, group_line, group_rates, head_line, idle_line, idle_number, is_full, labelled, promised_text, totals_line, up_text, used_text};
 
-use crate::cells::{push_amount, push_word, shown};
-use crate::rates::{group_total, line_total, waiting};
+use crate::cells::{push_amount, push_limit, push_word, shown};
+use crate::rates::{both_total, group_total, idle_sessions, line_total, waiting};
 use server_status::{Direction, GroupStatus, Rate, Status};
 use std::alloc::{AllocError, Global};
 
@@ -87,7 +87,7 @@ fn push_labelled(line: &mut String, label: &str, total: Rate, rate: Rate) -> Res
     push_used(line, total, rate)
 }
 
-/// Appends what transfers of one direction get together.
+/// Appends what all got in one direction.
 fn push_way(
     line: &mut String,
     label: &str,
@@ -102,17 +102,15 @@ fn push_way(
     push_labelled(line, label, line_total(past, now, way), rate)
 }
 
-/// Appends what transfers get together, both ways.
+/// Appends what all got, both ways.
 fn push_both(line: &mut String, past: Option<&Status>, now: &Status) -> Result<(), AllocError>
     ensures appended { OnOk result (string_bytes line.new ≡ string_bytes line.old
         ++ labelled (codes "   both ") (both_total past.entry now.now) now.now.line.both) }
 {
-    let down = line_total(past, now, Direction::Down);
-    let up = line_total(past, now, Direction::Up);
-    push_labelled(line, "   both ", down.saturating_add(up), now.line.both)
+    push_labelled(line, "   both ", both_total(past, now), now.line.both)
 }
 
-/// Appends what transfers get together, down, up and both ways, of the rates of the server.
+/// Appends what all got, down, up and both ways, of the rates of the server.
 pub(crate) fn push_totals(
     line: &mut String,
     past: Option<&Status>,
@@ -124,6 +122,30 @@ pub(crate) fn push_totals(
     push_way(line, "down ", past, now, Direction::Down, now.line.down)?;
     push_way(line, "   up ", past, now, Direction::Up, now.line.up)?;
     push_both(line, past, now)
+}
+
+/// Appends the number of the sessions that transfer nothing.
+fn push_idle_number(line: &mut String, count: usize) -> Result<(), AllocError>
+    ensures appended { OnOk result
+        (string_bytes line.new ≡ string_bytes line.old ++ idle_number count) }
+{
+    write!(line, "{count} idle")
+}
+
+/// Appends the number of the sessions that transfer nothing, and what is guaranteed to all sessions together.
+pub(crate) fn push_idle(alloc: Global, line: &mut String, now: &Status) -> Result<(), AllocError>
+    ensures appended { OnOk result
+        (string_bytes line.new ≡ string_bytes line.old ++ idle_line now.now) }
+{
+    let count = idle_sessions(alloc, now)?.len();
+    push_idle_number(line, count)?;
+    push_labelled(
+        line,
+        "   guaranteed down ",
+        now.guaranteed_down,
+        now.line.down,
+    )?;
+    push_labelled(line, "   up ", now.guaranteed_up, now.line.up)
 }
 
 /// Appends the name of a group in its column.
@@ -151,7 +173,33 @@ fn push_group_way(
     push_labelled(line, label, group_total(past, now, way, name), rate)
 }
 
-/// Appends what the users of a group get together, of the rates of the group.
+/// Appends what is guaranteed to the users of a group.
+fn push_promised(line: &mut String, down: Rate, up: Rate) -> Result<(), AllocError>
+    ensures appended { OnOk result
+        (string_bytes line.new ≡ string_bytes line.old ++ promised_text down up) }
+{
+    line.push_str("   least ")?;
+    push_limit(line, down)?;
+    line.push_str(" and ")?;
+    push_limit(line, up)
+}
+
+/// Appends what the users of a group get together.
+fn push_group_rates(
+    line: &mut String,
+    past: Option<&Status>,
+    now: &Status,
+    group: &GroupStatus,
+    name: &str,
+) -> Result<(), AllocError>
+    ensures appended { OnOk result (string_bytes line.new
+        ≡ string_bytes line.old ++ group_rates past.entry now.now group.now name.now) }
+{
+    push_group_way(line, "down ", past, now, Direction::Down, name, group.down)?;
+    push_group_way(line, "   up ", past, now, Direction::Up, name, group.up)
+}
+
+/// Appends what the users of a group get together, of the rates of the group, and what is guaranteed to them.
 pub(crate) fn push_group(
     alloc: Global,
     line: &mut String,
@@ -165,6 +213,6 @@ pub(crate) fn push_group(
     let name = group.name.as_str();
     push_word(line, "group ")?;
     push_name(alloc, line, name)?;
-    push_group_way(line, "down ", past, now, Direction::Down, name, group.down)?;
-    push_group_way(line, "   up ", past, now, Direction::Up, name, group.up)
+    push_group_rates(line, past, now, group, name)?;
+    push_promised(line, group.guaranteed_down, group.guaranteed_up)
 }

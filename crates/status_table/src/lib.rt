@@ -9,8 +9,10 @@ mod cells;
 mod heads;
 mod held;
 mod lines;
+mod looks;
 mod rates;
 mod table;
 
+pub use looks::looks_lines;
 pub use server_status::Status;
 pub use table::table_lines;

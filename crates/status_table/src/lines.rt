@@ -3,14 +3,14 @@
 ghost use Rattle.std.specs.Prelude.{◌≡◌, ◌++◌, OnOk, IfOk, codes, string_bytes};
 ghost use Rattle.std.specs.Fmt.{decimal};
 ghost use Rattle.std.specs.Net.Text.{ipv4_text};
-ghost use Rattle.status_table.specs.Cells.{left, right, shown_text};
-ghost use Rattle.status_table.specs.Held.{held_text};
-ghost use Rattle.status_table.specs.Lines.{done_text, held_line, lesser, name_cell, path_text, rate_line, whom_cells};
+ghost use Rattle.status_table.specs.Cells.{amount, left, limit_text, right, shown_text};
+ghost use Rattle.status_table.specs.Held.{held_text, way_text};
+ghost use Rattle.status_table.specs.Lines.{clock_text, done_text, held_line, held_number, held_numbers, inner_numbers, is_held_by, is_late, is_mate, late_text, lesser, mates_rate, name_cell, number_of, outer_numbers, path_text, rate_line, session_line, sixty, some_text, user_line, whom_cells};
 
-use crate::cells::{percent, push_amount, push_bound, push_rate, push_tail, shown};
-use crate::held::{held_cell, way_text};
-use crate::rates::rate_since;
-use server_status::{Rate, Status, TransferStatus};
+use crate::cells::{percent, push_amount, push_bound, push_limit, push_rate, push_tail, shown};
+use crate::held::{Limit, held_cell, holder_of, limit_name, same_limit, way_text};
+use crate::rates::{rate_since, rounds_since, same_way};
+use server_status::{Rate, SessionStatus, Status, TransferStatus};
 use std::alloc::{AllocError, Global};
 use std::net::Ipv4Addr;
 
@@ -156,4 +156,303 @@ pub(crate) fn push_reasons(
     push_done(alloc, line, transfer)?;
     line.push_str("  ")?;
     push_path(alloc, line, transfer)
+}
+
+// ---- users
+
+/// Returns whether a transfer is one of the same user in the same direction.
+pub(crate) fn is_mate(transfer: &TransferStatus, other: &TransferStatus) -> bool
+    ensures mate { result ≡ is_mate transfer.now other.now }
+{
+    same_way(transfer.direction, other.direction) && transfer.user.as_str() == other.user.as_str()
+}
+
+/// Number of the transfers of the same user in the same direction.
+fn mates_number(now: &Status, transfer: &TransferStatus) -> usize
+    ensures number { result ≡ number_of (is_mate transfer.now) now.now.transfers.items }
+{
+    let mut count: usize = 0;
+    for other in &now.transfers {
+        if is_mate(transfer, other) {
+            count += 1;
+        }
+    }
+    count
+}
+
+/// The rates of the transfers of the same user in the same direction, together.
+fn mates_rate(before: Option<&Status>, now: &Status, transfer: &TransferStatus) -> Rate
+    ensures rate { result ≡ mates_rate before.entry now.now transfer.now }
+{
+    let mut total: u64 = 0;
+    for other in &now.transfers {
+        if is_mate(transfer, other) {
+            total = total.saturating_add(rate_since(before, now, other));
+        }
+    }
+    total
+}
+
+fn is_late(transfer: &TransferStatus, other: &TransferStatus) -> bool
+    ensures late { result ≡ is_late transfer.now other.now }
+{
+    is_mate(transfer, other) && other.is_waiting
+}
+
+/// Number of these that wait for a lane.
+fn late_number(now: &Status, transfer: &TransferStatus) -> usize
+    ensures number { result ≡ number_of (is_late transfer.now) now.now.transfers.items }
+{
+    let mut count: usize = 0;
+    for other in &now.transfers {
+        if is_late(transfer, other) {
+            count += 1;
+        }
+    }
+    count
+}
+
+fn is_held_by(
+    before: Option<&Status>,
+    limit: Limit,
+    transfer: &TransferStatus,
+    other: &TransferStatus,
+) -> bool
+    ensures held { result ≡ is_held_by before.entry limit transfer.now other.now }
+{
+    is_mate(transfer, other)
+        && !other.is_waiting
+        && same_limit(limit, holder_of(rounds_since(before, other)))
+}
+
+/// Number of these that a limit holds back.
+fn held_number(
+    before: Option<&Status>,
+    now: &Status,
+    limit: Limit,
+    transfer: &TransferStatus,
+) -> usize
+    ensures number { result
+        ≡ number_of (is_held_by before.entry limit transfer.now) now.now.transfers.items }
+{
+    let mut count: usize = 0;
+    for other in &now.transfers {
+        if is_held_by(before, limit, transfer, other) {
+            count += 1;
+        }
+    }
+    count
+}
+
+/// Appends a number with its name; nothing for none.
+fn push_some(line: &mut String, name: &str, count: usize) -> Result<(), AllocError>
+    ensures appended { OnOk result
+        (string_bytes line.new ≡ string_bytes line.old ++ some_text name.now count) }
+{
+    if count == 0 {
+        return Ok(());
+    }
+    write!(line, "{name} {count}  ")
+}
+
+/// Appends how many transfers of a user a limit holds back.
+#[tactic(auto, unfolding(crate::specs::Lines::held_number))]
+fn push_held_number(
+    alloc: Global,
+    line: &mut String,
+    before: Option<&Status>,
+    now: &Status,
+    transfer: &TransferStatus,
+    limit: Limit,
+) -> Result<(), AllocError>
+    ensures appended { OnOk result (string_bytes line.new ≡ string_bytes line.old
+        ++ held_number before.entry now.now transfer.now limit) }
+{
+    let name = limit_name(alloc, limit, transfer)?;
+    push_some(
+        line,
+        name.as_str(),
+        held_number(before, now, limit, transfer),
+    )
+}
+
+/// Appends how many transfers of a user wait for a lane.
+#[tactic(auto, unfolding(crate::specs::Lines::late_text))]
+fn push_late(line: &mut String, now: &Status, transfer: &TransferStatus) -> Result<(), AllocError>
+    ensures appended { OnOk result (string_bytes line.new ≡ string_bytes line.old
+        ++ late_text now.now transfer.now) }
+{
+    push_some(line, "waiting", late_number(now, transfer))
+}
+
+/// Appends how many transfers of a user a limit of several holds back.
+fn push_outer(
+    alloc: Global,
+    line: &mut String,
+    before: Option<&Status>,
+    now: &Status,
+    transfer: &TransferStatus,
+) -> Result<(), AllocError>
+    ensures appended { OnOk result (string_bytes line.new ≡ string_bytes line.old
+        ++ outer_numbers before.entry now.now transfer.now) }
+{
+    push_held_number(alloc, line, before, now, transfer, Limit::Server)?;
+    push_held_number(alloc, line, before, now, transfer, Limit::Direction)?;
+    push_held_number(alloc, line, before, now, transfer, Limit::Group)
+}
+
+/// Appends how many of them a limit of their own holds back, or none.
+fn push_inner(
+    alloc: Global,
+    line: &mut String,
+    before: Option<&Status>,
+    now: &Status,
+    transfer: &TransferStatus,
+) -> Result<(), AllocError>
+    ensures appended { OnOk result (string_bytes line.new ≡ string_bytes line.old
+        ++ inner_numbers before.entry now.now transfer.now) }
+{
+    push_held_number(alloc, line, before, now, transfer, Limit::User)?;
+    push_held_number(alloc, line, before, now, transfer, Limit::Session)?;
+    push_held_number(alloc, line, before, now, transfer, Limit::Client)
+}
+
+/// Appends how many transfers of a user wait for a lane, and how many each limit holds back.
+fn push_held_numbers(
+    alloc: Global,
+    line: &mut String,
+    before: Option<&Status>,
+    now: &Status,
+    transfer: &TransferStatus,
+) -> Result<(), AllocError>
+    ensures appended { OnOk result (string_bytes line.new ≡ string_bytes line.old
+        ++ held_numbers before.entry now.now transfer.now) }
+{
+    push_late(line, now, transfer)?;
+    push_outer(alloc, line, before, now, transfer)?;
+    push_inner(alloc, line, before, now, transfer)
+}
+
+/// Appends a count at the right of a column of five.
+fn push_count(alloc: Global, line: &mut String, count: usize) -> Result<(), AllocError>
+    ensures appended { OnOk result
+        (string_bytes line.new ≡ string_bytes line.old ++ right 5 (decimal count)) }
+{
+    let cell = format!(in alloc; "{count}")?;
+    write!(line, "{cell:>5}")
+}
+
+/// Appends what a user gets, at the right of a column of nine.
+fn push_mates_rate(alloc: Global, line: &mut String, rate: Rate) -> Result<(), AllocError>
+    ensures appended { OnOk result
+        (string_bytes line.new ≡ string_bytes line.old ++ right 9 (amount rate)) }
+{
+    let mut cell = String::new(alloc);
+    push_amount(&mut cell, rate)?;
+    write!(line, "{cell:>9}")
+}
+
+/// Appends whose transfers they are, and how many.
+fn push_owner(
+    alloc: Global,
+    line: &mut String,
+    now: &Status,
+    transfer: &TransferStatus,
+) -> Result<(), AllocError>
+    ensures appended { OnOk result (string_bytes line.new ≡ string_bytes line.old
+        ++ left 11 (shown_text (string_bytes transfer.now.user)) ++ name_cell 9 transfer.now.group
+        ++ left 5 (way_text transfer.now.direction)
+        ++ right 5 (decimal (number_of (is_mate transfer.now) now.now.transfers.items))) }
+{
+    push_user(alloc, line, transfer.user.as_str())?;
+    push_group(alloc, line, transfer)?;
+    write!(line, "{:<5.4}", way_text(transfer.direction))?;
+    push_count(alloc, line, mates_number(now, transfer))
+}
+
+/// The line of the transfers of a user in a direction, given one of them.
+pub(crate) fn user_line(
+    alloc: Global,
+    before: Option<&Status>,
+    now: &Status,
+    transfer: &TransferStatus,
+) -> Result<String, AllocError>
+    ensures line { IfOk result (λ text. string_bytes text
+        ≡ user_line before.entry now.now transfer.now) }
+{
+    let mut line = String::new(alloc);
+    push_owner(alloc, &mut line, now, transfer)?;
+    push_mates_rate(alloc, &mut line, mates_rate(before, now, transfer))?;
+    line.push_str("  ")?;
+    push_held_numbers(alloc, &mut line, before, now, transfer)?;
+    Ok(line)
+}
+
+// ---- idle sessions
+
+/// Appends a colon, and the last two digits of a number of minutes or seconds below the hour or the minute.
+fn push_sixty(line: &mut String, n: u64) -> Result<(), AllocError>
+    ensures appended { OnOk result (string_bytes line.new ≡ string_bytes line.old ++ sixty n) }
+{
+    let (tens, ones) = (n / 10 % 6, n % 10);
+    write!(line, ":{tens}{ones}")
+}
+
+fn clock_cell(alloc: Global, micros: u64) -> Result<String, AllocError>
+    ensures clock { IfOk result (λ text. string_bytes text ≡ clock_text micros) }
+{
+    let hours = micros / 3_600_000_000;
+    let mut text = format!(in alloc; "{hours}")?;
+    push_sixty(&mut text, micros / 60_000_000)?;
+    push_sixty(&mut text, micros / 1_000_000)?;
+    Ok(text)
+}
+
+/// Appends a time at the right of a column of ten.
+fn push_clock(alloc: Global, line: &mut String, micros: u64) -> Result<(), AllocError>
+    ensures appended { OnOk result
+        (string_bytes line.new ≡ string_bytes line.old ++ right 10 (clock_text micros)) }
+{
+    let cell = clock_cell(alloc, micros)?;
+    write!(line, "{cell:>10}")
+}
+
+/// Appends a guarantee at the right of a column of nine.
+fn push_promise(alloc: Global, line: &mut String, rate: Rate) -> Result<(), AllocError>
+    ensures appended { OnOk result
+        (string_bytes line.new ≡ string_bytes line.old ++ right 9 (limit_text rate)) }
+{
+    let mut cell = String::new(alloc);
+    push_limit(&mut cell, rate)?;
+    write!(line, "{cell:>9}")
+}
+
+/// Appends the user of a session in a column; `-` for none.
+fn push_who(alloc: Global, line: &mut String, session: &SessionStatus) -> Result<(), AllocError>
+    ensures appended { OnOk result
+        (string_bytes line.new ≡ string_bytes line.old ++ name_cell 11 session.now.user) }
+{
+    let Some(user) = &session.user else {
+        return write!(line, "{:<11.10}", "-");
+    };
+    push_user(alloc, line, user.as_str())
+}
+
+/// The line of an idle session.
+pub(crate) fn session_line(
+    alloc: Global,
+    now: &Status,
+    session: &SessionStatus,
+) -> Result<String, AllocError>
+    ensures line { IfOk result (λ text. string_bytes text ≡ session_line now.now session.now) }
+{
+    let mut line = String::new(alloc);
+    push_session(alloc, &mut line, session.session)?;
+    push_who(alloc, &mut line, session)?;
+    push_address(alloc, &mut line, session.peer)?;
+    push_clock(alloc, &mut line, now.micros.saturating_sub(session.begun))?;
+    push_clock(alloc, &mut line, now.micros.saturating_sub(session.active))?;
+    push_promise(alloc, &mut line, session.guaranteed_down)?;
+    push_promise(alloc, &mut line, session.guaranteed_up)?;
+    Ok(line)
 }

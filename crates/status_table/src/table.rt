@@ -1,23 +1,19 @@
 //! The table, as a screen of lines.
 
-ghost use Rattle.std.specs.Prelude.{◌≡◌, ◌≤◌, ◌++◌, ◌∷◌, [], List, Option, OnOk, IfOk, length, map, string_bytes, take};
-ghost use Rattle.std.specs.Borrow.{Bor};
-ghost use Rattle.server_status.specs.declared.status.Status.{Status};
-ghost use Rattle.server_status.specs.declared.status.TransferStatus.{TransferStatus};
+ghost use Rattle.std.specs.Prelude.{◌≡◌, ◌≤◌, ◌++◌, ◌∷◌, ◌-◌, ◌*◌, ◌+◌, [], OnOk, IfOk, length, map, string_bytes, take};
 ghost use Rattle.std.specs.List.{flat_map};
 ghost use Rattle.std.specs.List.Sorted.{IsNonDecreasingBy, IsPermutation};
-ghost use Rattle.status_table.specs.Heads.{group_line, head_line, totals_line};
-ghost use Rattle.status_table.specs.Held.{level_line, lowest};
-ghost use Rattle.status_table.specs.Lines.{held_line, rate_line};
-ghost use Rattle.status_table.specs.Rates.{rank};
-ghost use Rattle.status_table.specs.Tables.{IsTable, all_fit, body_lines, ended, entry_text, group_text, joined, level_lines, names_lines, rest_line, rest_lines, screen_lines, shown_groups, shown_transfers, top_lines};
+ghost use Rattle.status_table.specs.Heads.{group_line, head_line, idle_line, totals_line};
+ghost use Rattle.status_table.specs.Lines.{session_line, user_line};
+ghost use Rattle.status_table.specs.Rates.{idle_sessions, rank};
+ghost use Rattle.status_table.specs.Tables.{IsTable, all_fit, body_lines, ended, entries, entry_lines, firsts, group_lines, has_mate, headed, joined, level_lines, names_lines, rest_line, rest_lines, screen_lines, session_lines, shown_groups, shown_users, summed_lines, texts, top_lines, user_names, users_fit, whole_lines};
 
 use crate::cells::push_octets;
-use crate::heads::{push_group, push_head, push_totals};
-use crate::held::{lowest, push_level};
-use crate::lines::{push_rates, push_reasons};
-use crate::rates::rank;
-use server_status::{GroupStatus, Status, TransferStatus};
+use crate::heads::{push_group, push_head, push_idle, push_totals};
+use crate::held::{level_line, lowest};
+use crate::lines::{is_mate, push_rates, push_reasons, session_line, user_line};
+use crate::rates::{idle_sessions, rank};
+use server_status::{Direction, GroupStatus, SessionStatus, Status, TransferStatus};
 use std::alloc::{AllocError, Global};
 
 /// Most characters of a line.
@@ -40,7 +36,7 @@ fn push_end(screen: &mut String) -> Result<(), AllocError>
 }
 
 /// Appends a line, cut to 80 octets, each that is not printable as a question mark.
-fn push_line(screen: &mut String, line: &str) -> Result<(), AllocError>
+fn push_ended(screen: &mut String, line: &str) -> Result<(), AllocError>
     ensures appended { OnOk result
         (string_bytes screen.new ≡ string_bytes screen.old ++ ended line.now) }
 {
@@ -48,279 +44,424 @@ fn push_line(screen: &mut String, line: &str) -> Result<(), AllocError>
     push_end(screen)
 }
 
-fn push_head_line(alloc: Global, screen: &mut String, now: &Status) -> Result<(), AllocError>
-    ensures appended { OnOk result
-        (string_bytes screen.new ≡ string_bytes screen.old ++ ended (head_line now.now)) }
+/// The lines of a screen, one after another.
+fn joined(alloc: Global, lines: &[String]) -> Result<String, AllocError>
+    ensures joined { IfOk result
+        (λ text. string_bytes text ≡ joined (map string_bytes lines.now)) }
 {
-    let mut line = String::new(alloc);
-    push_head(&mut line, now)?;
-    push_line(screen, line.as_str())
+    let mut screen = String::new(alloc);
+    for line in lines {
+        push_ended(&mut screen, line.as_str())?;
+    }
+    Ok(screen)
 }
 
-fn push_totals_line(
+/// Appends a line.
+fn push(lines: &mut Vec<String>, line: String) -> Result<(), AllocError>
+    ensures pushed { OnOk result (texts lines.new ≡ texts lines.old ++ string_bytes line ∷ []) }
+{
+    lines.push(line)?;
+    Ok(())
+}
+
+fn push_text(alloc: Global, lines: &mut Vec<String>, text: &str) -> Result<(), AllocError>
+    ensures pushed { OnOk result (texts lines.new ≡ texts lines.old ++ text.now ∷ []) }
+{
+    let line = String::from_str(alloc, text)?;
+    push(lines, line)
+}
+
+// ---- above the transfers
+
+fn push_heads(
     alloc: Global,
-    screen: &mut String,
+    lines: &mut Vec<String>,
     before: Option<&Status>,
     now: &Status,
 ) -> Result<(), AllocError>
-    ensures appended { OnOk result
-        (string_bytes screen.new
-        ≡ string_bytes screen.old ++ ended (totals_line before.entry now.now)) }
+    ensures pushed { OnOk result (texts lines.new ≡ texts lines.old
+        ++ head_line now.now ∷ totals_line before.entry now.now ∷ idle_line now.now ∷ []) }
 {
-    let mut line = String::new(alloc);
-    push_totals(&mut line, before, now)?;
-    push_line(screen, line.as_str())
+    let mut head = String::new(alloc);
+    push_head(&mut head, now)?;
+    let mut totals = String::new(alloc);
+    push_totals(&mut totals, before, now)?;
+    let mut idle = String::new(alloc);
+    push_idle(alloc, &mut idle, now)?;
+    push(lines, head)?;
+    push(lines, totals)?;
+    push(lines, idle)
 }
 
-fn push_level_line(
+/// Appends the line of the tightest limit that transfers of a direction share, if there is one.
+fn push_level(
     alloc: Global,
-    screen: &mut String,
-    before: Option<&Status>,
-    now: &Status,
-    transfer: &TransferStatus,
-) -> Result<(), AllocError>
-    ensures appended { OnOk result (string_bytes screen.new
-        ≡ string_bytes screen.old ++ ended (level_line before.entry now.now transfer.now)) }
-{
-    let mut line = String::new(alloc);
-    push_level(alloc, &mut line, before, now, transfer)?;
-    push_line(screen, line.as_str())
-}
-
-fn push_names(screen: &mut String) -> Result<(), AllocError>
-    ensures appended { OnOk result
-        (string_bytes screen.new ≡ string_bytes screen.old ++ joined names_lines) }
-{
-    let rates = "       user       group    from            way       1 s    10 s   least    most";
-    let reasons = "       held by, parts of the rounds of 1 s    done  file";
-    push_line(screen, rates)?;
-    push_line(screen, reasons)
-}
-
-/// Appends the line of the tightest limit that transfers share, if there is one.
-fn push_level_lines(
-    alloc: Global,
-    screen: &mut String,
+    lines: &mut Vec<String>,
     before: Option<&Status>,
     now: &Status,
     level: Option<&TransferStatus>,
 ) -> Result<(), AllocError>
-    ensures appended { OnOk result (string_bytes screen.new
-        ≡ string_bytes screen.old ++ joined (level_lines before.entry now.now level.entry)) }
+    ensures pushed { OnOk result (texts lines.new
+        ≡ texts lines.old ++ level_lines before.entry now.now level.entry) }
 {
     match level {
-        Some(transfer) => push_level_line(alloc, screen, before, now, transfer),
+        Some(transfer) => {
+            let line = level_line(alloc, before, now, transfer)?;
+            push(lines, line)
+        }
         None => Ok(()),
     }
 }
 
-/// Appends the lines above the transfers.
-fn push_top(
+/// The lines above the transfers.
+fn top_of(
     alloc: Global,
-    screen: &mut String,
     before: Option<&Status>,
     now: &Status,
-    level: Option<&TransferStatus>,
-) -> Result<(), AllocError>
-    ensures appended { OnOk result (string_bytes screen.new
-        ≡ string_bytes screen.old ++ joined (top_lines before.entry now.now level.entry)) }
+    shown: &[&TransferStatus],
+) -> Result<Vec<String>, AllocError>
+    ensures lines { IfOk result
+        (λ lines. texts lines ≡ top_lines before.entry now.now shown.now) }
 {
-    push_head_line(alloc, screen, now)?;
-    push_totals_line(alloc, screen, before, now)?;
-    push_level_lines(alloc, screen, before, now, level)?;
-    push_names(screen)
+    let mut lines = Vec::new(alloc);
+    push_heads(alloc, &mut lines, before, now)?;
+    let down = lowest(before, Direction::Down, shown);
+    push_level(alloc, &mut lines, before, now, down)?;
+    let up = lowest(before, Direction::Up, shown);
+    push_level(alloc, &mut lines, before, now, up)?;
+    Ok(lines)
 }
 
-fn push_rates_line(
+// ---- each transfer
+
+fn push_two(
     alloc: Global,
-    screen: &mut String,
-    earlier: Option<&Status>,
-    before: Option<&Status>,
-    now: &Status,
-    transfer: &TransferStatus,
+    lines: &mut Vec<String>,
+    first: &str,
+    second: &str,
 ) -> Result<(), AllocError>
-    ensures appended { OnOk result (string_bytes screen.new
-        ≡ string_bytes screen.old
-        ++ ended (rate_line earlier.entry before.entry now.now transfer.now)) }
+    ensures pushed { OnOk result
+        (texts lines.new ≡ texts lines.old ++ first.now ∷ second.now ∷ []) }
 {
-    let mut line = String::new(alloc);
-    push_rates(alloc, &mut line, earlier, before, now, transfer)?;
-    push_line(screen, line.as_str())
+    push_text(alloc, lines, first)?;
+    push_text(alloc, lines, second)
 }
 
-fn push_reasons_line(
-    alloc: Global,
-    screen: &mut String,
-    before: Option<&Status>,
-    transfer: &TransferStatus,
-) -> Result<(), AllocError>
-    ensures appended { OnOk result (string_bytes screen.new
-        ≡ string_bytes screen.old ++ ended (held_line before.entry transfer.now)) }
+fn push_names(alloc: Global, lines: &mut Vec<String>) -> Result<(), AllocError>
+    ensures pushed { OnOk result (texts lines.new ≡ texts lines.old ++ names_lines) }
 {
-    let mut line = String::new(alloc);
-    push_reasons(alloc, &mut line, before, transfer)?;
-    push_line(screen, line.as_str())
+    push_two(
+        alloc,
+        lines,
+        "       user       group    from            way       1 s    10 s   least    most",
+        "       held by, parts of the rounds of 1 s    done  file",
+    )
 }
 
 /// Appends the two lines of a transfer.
 fn push_entry(
     alloc: Global,
-    screen: &mut String,
+    lines: &mut Vec<String>,
     earlier: Option<&Status>,
     before: Option<&Status>,
     now: &Status,
     transfer: &TransferStatus,
 ) -> Result<(), AllocError>
-    ensures appended { OnOk result (string_bytes screen.new
-        ≡ string_bytes screen.old ++ entry_text earlier.entry before.entry now.now transfer.now) }
+    ensures pushed { OnOk result (texts lines.new ≡ texts lines.old
+        ++ entry_lines earlier.entry before.entry now.now transfer.now) }
 {
-    push_rates_line(alloc, screen, earlier, before, now, transfer)?;
-    push_reasons_line(alloc, screen, before, transfer)
+    let mut rates = String::new(alloc);
+    push_rates(alloc, &mut rates, earlier, before, now, transfer)?;
+    let mut reasons = String::new(alloc);
+    push_reasons(alloc, &mut reasons, before, transfer)?;
+    push(lines, rates)?;
+    push(lines, reasons)
 }
 
 fn push_entries(
     alloc: Global,
-    screen: &mut String,
+    lines: &mut Vec<String>,
     earlier: Option<&Status>,
     before: Option<&Status>,
     now: &Status,
     transfers: &[&TransferStatus],
 ) -> Result<(), AllocError>
-    ensures appended { OnOk result (string_bytes screen.new ≡ string_bytes screen.old
-        ++ flat_map (λ t. entry_text earlier.entry before.entry now.now t.now) transfers.now) }
+    ensures pushed { OnOk result (texts lines.new ≡ texts lines.old
+        ++ entries earlier.entry before.entry now.now transfers.now) }
 {
     for transfer in transfers {
-        push_entry(alloc, screen, earlier, before, now, transfer)?;
+        push_entry(alloc, lines, earlier, before, now, transfer)?;
     }
     Ok(())
 }
 
-fn push_group_line(
-    alloc: Global,
-    screen: &mut String,
-    before: Option<&Status>,
-    now: &Status,
-    group: &GroupStatus,
-) -> Result<(), AllocError>
-    ensures appended { OnOk result (string_bytes screen.new
-        ≡ string_bytes screen.old ++ group_text before.entry now.now group.now) }
-{
-    let mut line = String::new(alloc);
-    push_group(alloc, &mut line, before, now, group)?;
-    push_line(screen, line.as_str())
-}
+// ---- groups
 
-fn push_groups(
+fn push_group_lines(
     alloc: Global,
-    screen: &mut String,
+    lines: &mut Vec<String>,
     before: Option<&Status>,
     now: &Status,
     groups: &[GroupStatus],
 ) -> Result<(), AllocError>
-    ensures appended { OnOk result (string_bytes screen.new ≡ string_bytes screen.old
-        ++ flat_map (group_text before.entry now.now) groups.now) }
+    ensures pushed { OnOk result (texts lines.new ≡ texts lines.old
+        ++ map (group_line before.entry now.now) groups.now) }
 {
     for group in groups {
-        push_group_line(alloc, screen, before, now, group)?;
+        let mut line = String::new(alloc);
+        push_group(alloc, &mut line, before, now, group)?;
+        push(lines, line)?;
     }
     Ok(())
 }
+
+/// Appends the lines of the first groups.
+fn push_groups(
+    alloc: Global,
+    lines: &mut Vec<String>,
+    before: Option<&Status>,
+    now: &Status,
+    count: usize,
+) -> Result<(), AllocError>
+    requires count { count ≤ length now.now.groups.items }
+    ensures pushed { OnOk result (texts lines.new ≡ texts lines.old
+        ++ group_lines before.entry now.now count) }
+{
+    let groups = now.groups.as_slice();
+    push_group_lines(alloc, lines, before, now, &groups[..count])
+}
+
+// ---- idle sessions
+
+fn push_session_lines(
+    alloc: Global,
+    lines: &mut Vec<String>,
+    now: &Status,
+    sessions: &[&SessionStatus],
+) -> Result<(), AllocError>
+    ensures pushed { OnOk result (texts lines.new ≡ texts lines.old
+        ++ map (λ s. session_line now.now s.now) sessions.now) }
+{
+    for session in sessions {
+        let line = session_line(alloc, now, session)?;
+        push(lines, line)?;
+    }
+    Ok(())
+}
+
+/// Appends the lines of sessions below the names of their columns, if there are some.
+fn push_headed(
+    alloc: Global,
+    lines: &mut Vec<String>,
+    now: &Status,
+    sessions: &[&SessionStatus],
+) -> Result<(), AllocError>
+    ensures pushed { OnOk result (texts lines.new ≡ texts lines.old
+        ++ headed (map (λ s. session_line now.now s.now) sessions.now)) }
+{
+    if sessions.is_empty() {
+        return Ok(());
+    }
+    let names = "idle   user       from                inside      idle     down       up";
+    push_text(alloc, lines, names)?;
+    push_session_lines(alloc, lines, now, sessions)
+}
+
+/// Appends the idle sessions that a number of lines has room for.
+fn push_sessions(
+    alloc: Global,
+    lines: &mut Vec<String>,
+    now: &Status,
+    space: usize,
+) -> Result<(), AllocError>
+    ensures pushed { OnOk result (texts lines.new ≡ texts lines.old
+        ++ session_lines now.now space) }
+{
+    if space < 2 {
+        return Ok(());
+    }
+    let idle = idle_sessions(alloc, now)?;
+    let count = idle.len().min(space - 1);
+    push_headed(alloc, lines, now, &idle.as_slice()[..count])
+}
+
+// ---- users
+
+/// Returns whether there is a transfer of the same user and direction.
+fn has_mate(seen: &[&TransferStatus], transfer: &TransferStatus) -> bool
+    ensures mate { result ≡ has_mate seen.now transfer.now }
+{
+    for other in seen {
+        if is_mate(transfer, other) {
+            return true;
+        }
+    }
+    false
+}
+
+/// The first transfer of each user and direction.
+fn firsts<'s>(
+    alloc: Global,
+    shown: &[&'s TransferStatus],
+) -> Result<Vec<&'s TransferStatus>, AllocError>
+    ensures firsts { IfOk result (λ users. users.items ≡ firsts shown.now) }
+{
+    let mut users = Vec::new(alloc);
+    for place in 0..shown.len() {
+        let transfer = shown[place];
+        if !has_mate(&shown[..place], transfer) {
+            users.push(transfer)?;
+        }
+    }
+    Ok(users)
+}
+
+fn push_users(
+    alloc: Global,
+    lines: &mut Vec<String>,
+    before: Option<&Status>,
+    now: &Status,
+    users: &[&TransferStatus],
+) -> Result<(), AllocError>
+    ensures pushed { OnOk result (texts lines.new ≡ texts lines.old
+        ++ map (λ t. user_line before.entry now.now t.now) users.now) }
+{
+    for transfer in users {
+        let line = user_line(alloc, before, now, transfer)?;
+        push(lines, line)?;
+    }
+    Ok(())
+}
+
+// ---- what fits
 
 /// Returns whether all transfers and groups fit into a number of lines.
 fn all_fit(space: usize, transfers: usize, groups: usize) -> bool
     ensures fit { result ≡ all_fit space transfers groups }
 {
-    transfers as u128 * 2 + groups as u128 <= space as u128
+    2 + transfers as u128 * 2 + groups as u128 <= space as u128
 }
 
-/// Number of the transfers that are shown.
-fn shown_transfers(space: usize, transfers: usize, groups: usize) -> usize
-    ensures shown { result ≡ shown_transfers space transfers groups }
-    ensures bound { result ≤ transfers }
+/// Returns whether all users and groups fit.
+fn users_fit(space: usize, users: usize, groups: usize) -> bool
+    ensures fit { result ≡ users_fit space users groups }
 {
-    if all_fit(space, transfers, groups) {
-        return transfers;
+    1 + users as u128 + groups as u128 <= space as u128
+}
+
+/// Number of the users that are shown.
+fn shown_users(space: usize, users: usize, groups: usize) -> usize
+    ensures shown { result ≡ shown_users space users groups }
+    ensures bound { result ≤ users }
+{
+    if users_fit(space, users, groups) {
+        return users;
     }
-    transfers.min(space.saturating_sub(1) / 2)
+    users.min(space.saturating_sub(2))
 }
 
 /// Number of the groups that are shown.
-fn shown_groups(space: usize, transfers: usize, groups: usize) -> usize
-    ensures shown { result ≡ shown_groups space transfers groups }
+fn shown_groups(space: usize, users: usize, groups: usize) -> usize
+    ensures shown { result ≡ shown_groups space users groups }
     ensures bound { result ≤ groups }
 {
-    if all_fit(space, transfers, groups) {
+    if users_fit(space, users, groups) {
         return groups;
     }
-    let half = transfers.min(space.saturating_sub(1) / 2);
-    groups.min(space.saturating_sub(1).saturating_sub(half * 2))
+    let left = space.saturating_sub(2);
+    groups.min(left.saturating_sub(users.min(left)))
 }
 
-fn rest_text(alloc: Global, transfers: usize, groups: usize) -> Result<String, AllocError>
-    ensures rest { IfOk result (λ text. string_bytes text ≡ rest_line transfers groups) }
+fn rest_text(alloc: Global, users: usize, groups: usize) -> Result<String, AllocError>
+    ensures rest { IfOk result (λ text. string_bytes text ≡ rest_line users groups) }
 {
-    format!(in alloc; "{transfers} transfers and {groups} groups are not shown")
-}
-
-fn push_rest_line(
-    alloc: Global,
-    screen: &mut String,
-    transfers: usize,
-    groups: usize,
-) -> Result<(), AllocError>
-    ensures appended { OnOk result (string_bytes screen.new
-        ≡ string_bytes screen.old ++ ended (rest_line transfers groups)) }
-{
-    let line = rest_text(alloc, transfers, groups)?;
-    push_line(screen, line.as_str())
+    format!(in alloc; "{users} users and {groups} groups are not shown")
 }
 
 /// Appends the numbers of those that are not shown, if there are some.
 fn push_rest(
     alloc: Global,
-    screen: &mut String,
+    lines: &mut Vec<String>,
     space: usize,
-    transfers: usize,
+    users: usize,
     groups: usize,
 ) -> Result<(), AllocError>
-    ensures appended { OnOk result (string_bytes screen.new
-        ≡ string_bytes screen.old ++ joined (rest_lines space transfers groups)) }
+    ensures pushed { OnOk result (texts lines.new
+        ≡ texts lines.old ++ rest_lines space users groups) }
 {
-    if all_fit(space, transfers, groups) {
+    if users_fit(space, users, groups) {
         return Ok(());
     }
-    let hidden = transfers - shown_transfers(space, transfers, groups);
-    let others = groups - shown_groups(space, transfers, groups);
-    push_rest_line(alloc, screen, hidden, others)
+    let hidden = users - shown_users(space, users, groups);
+    let others = groups - shown_groups(space, users, groups);
+    let line = rest_text(alloc, hidden, others)?;
+    push(lines, line)
+}
+
+// ---- the table
+
+/// Appends each transfer, each group, and idle sessions.
+fn push_whole(
+    alloc: Global,
+    lines: &mut Vec<String>,
+    earlier: Option<&Status>,
+    before: Option<&Status>,
+    now: &Status,
+    shown: &[&TransferStatus],
+    left: usize,
+) -> Result<(), AllocError>
+    ensures pushed { OnOk result (texts lines.new ≡ texts lines.old
+        ++ names_lines ++ entries earlier.entry before.entry now.now shown.now
+        ++ group_lines before.entry now.now (length now.now.groups.items)
+        ++ session_lines now.now left) }
+{
+    push_names(alloc, lines)?;
+    push_entries(alloc, lines, earlier, before, now, shown)?;
+    push_groups(alloc, lines, before, now, now.groups.len())?;
+    push_sessions(alloc, lines, now, left)
+}
+
+/// Appends users, each with the sum of their transfers, and groups.
+fn push_summed(
+    alloc: Global,
+    lines: &mut Vec<String>,
+    before: Option<&Status>,
+    now: &Status,
+    users: &[&TransferStatus],
+    space: usize,
+) -> Result<(), AllocError>
+    ensures pushed { OnOk result (texts lines.new ≡ texts lines.old
+        ++ summed_lines before.entry now.now users.now space) }
+{
+    let first = shown_users(space, users.len(), now.groups.len());
+    let others = shown_groups(space, users.len(), now.groups.len());
+    let names = "user       group    way     no      1 s  held by, number of transfers";
+    push_text(alloc, lines, names)?;
+    push_users(alloc, lines, before, now, &users[..first])?;
+    push_groups(alloc, lines, before, now, others)?;
+    push_rest(alloc, lines, space, users.len(), now.groups.len())
 }
 
 /// Appends transfers and groups in a number of lines.
 fn push_body(
     alloc: Global,
-    screen: &mut String,
+    lines: &mut Vec<String>,
     earlier: Option<&Status>,
     before: Option<&Status>,
     now: &Status,
     shown: &[&TransferStatus],
     space: usize,
 ) -> Result<(), AllocError>
-    ensures appended { OnOk result (string_bytes screen.new ≡ string_bytes screen.old
-        ++ joined (body_lines earlier.entry before.entry now.now shown.now space)) }
+    ensures pushed { OnOk result (texts lines.new ≡ texts lines.old
+        ++ body_lines earlier.entry before.entry now.now shown.now space) }
 {
-    let groups = now.groups.as_slice();
-    let first = shown_transfers(space, shown.len(), groups.len());
-    let others = shown_groups(space, shown.len(), groups.len());
-    push_entries(alloc, screen, earlier, before, now, &shown[..first])?;
-    push_groups(alloc, screen, before, now, &groups[..others])?;
-    push_rest(alloc, screen, space, shown.len(), groups.len())
-}
-
-/// Number of the lines above the transfers.
-fn top_height(level: Option<&TransferStatus>) -> usize
-    ensures height { (past : Option (Bor Status)) (now : Status)
-        → result ≡ length (top_lines past now level.entry) }
-{
-    if level.is_some() { 5 } else { 4 }
+    let (transfers, groups) = (shown.len(), now.groups.len());
+    if all_fit(space, transfers, groups) {
+        let left = space - (2 + transfers * 2 + groups);
+        return push_whole(alloc, lines, earlier, before, now, shown, left);
+    }
+    let users = firsts(alloc, shown)?;
+    push_summed(alloc, lines, before, now, &users, space)
 }
 
 fn screen_of(
@@ -330,16 +471,14 @@ fn screen_of(
     now: &Status,
     shown: &[&TransferStatus],
     rows: usize,
-) -> Result<String, AllocError>
-    ensures screen { IfOk result (λ text. string_bytes text
-        ≡ joined (screen_lines earlier.entry before.entry now.now shown.now rows)) }
+) -> Result<Vec<String>, AllocError>
+    ensures screen { IfOk result (λ lines. texts lines
+        ≡ screen_lines earlier.entry before.entry now.now shown.now rows) }
 {
-    let level = lowest(before, shown);
-    let mut screen = String::new(alloc);
-    push_top(alloc, &mut screen, before, now, level)?;
-    let space = rows.saturating_sub(top_height(level));
-    push_body(alloc, &mut screen, earlier, before, now, shown, space)?;
-    Ok(screen)
+    let mut lines = top_of(alloc, before, now, shown)?;
+    let space = rows.saturating_sub(lines.len());
+    push_body(alloc, &mut lines, earlier, before, now, shown, space)?;
+    Ok(lines)
 }
 
 fn transfers_of<'s>(alloc: Global, now: &'s Status) -> Result<Vec<&'s TransferStatus>, AllocError>
@@ -369,8 +508,18 @@ fn ordered<'s>(
     Ok(shown)
 }
 
+/// The first lines of a screen, one after another.
+fn first_lines(alloc: Global, lines: &[String], rows: usize) -> Result<String, AllocError>
+    ensures joined { IfOk result
+        (λ text. string_bytes text ≡ joined (take rows (map string_bytes lines.now))) }
+{
+    let count = lines.len().min(rows);
+    joined(alloc, &lines[..count])
+}
+
 /// The table of the transfers of a status, in at most `rows` lines of at most 80 characters: what each gets since the
-/// statuses of a second and of ten seconds before, or since its begin, and what holds it back. Fails if memory runs out.
+/// statuses of a second and of ten seconds before, or since its begin, and what holds it back. If not all transfers fit,
+/// those of a user in a direction have one line together. Fails if memory runs out.
 pub fn table_lines(
     alloc: Global,
     earlier: Option<&Status>,
@@ -383,5 +532,6 @@ pub fn table_lines(
         (λ text. IsTable earlier.entry before.entry now.now rows (string_bytes text)) }
 {
     let shown = ordered(alloc, before, now)?;
-    screen_of(alloc, earlier, before, now, &shown, rows)
+    let lines = screen_of(alloc, earlier, before, now, &shown, rows)?;
+    first_lines(alloc, &lines, rows)
 }

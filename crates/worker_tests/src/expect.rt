@@ -2,8 +2,15 @@
 
 ghost use Rattle.std.specs.Prelude.{IsTrue};
 
+use grant_ledger::BookName;
 use line_rates::Limits;
 use std::process::Abort;
+
+/// The name of the books of these tests.
+#[derive(Drop)]
+pub(crate) struct OfTest {}
+
+impl BookName for OfTest {}
 
 /// Stops the test if this is false.
 pub(crate) fn holds(rt: &impl Abort, fact: bool)

@@ -1,11 +1,10 @@
 //! The parts that the workers of these tests share, and their gate, which holds the rounds itself.
 
-ghost use Rattle.std.specs.Prelude.{◌≡◌, ◌<◌, ℕ, true};
-
 use super::counted::End;
+use super::expect::OfTest;
 use data_pump::MAX_READ;
 use grant_ledger::MAX_LANES;
-use lent_parts::{LentDesk, LentRounds, PartsName};
+use lent_parts::{LentDesk, LentRounds, PartsName, RoundClock};
 use round_pace::TICK_MICROS;
 use std::alloc::{Allocator, Global};
 use std::sync::Mutex;
@@ -24,20 +23,34 @@ pub(crate) const SECOND: u32 = 2;
 /// Number of yields of a delayed thread in each turn.
 const YIELDS: u32 = 100;
 
-/// The rounds, at moments of the test.
+/// A clock that the test moves.
+#[derive(Drop)]
+pub(crate) struct TestClock {
+    pub(crate) micros: u64,
+}
+
+impl RoundClock for TestClock {
+    fn now(&self) -> u64 {
+        self.micros
+    }
+}
+
+/// The rounds, at moments of the test's clock.
 pub(crate) struct Turns<B: PartsName> {
-    rounds: LentRounds<B>,
+    rounds: LentRounds<B, OfTest>,
     // the earliest moment of the next round, in microseconds
     next: u64,
-    ghost any: { (moment : ℕ) → B.when moment ≡ true },
 }
 
 impl<B: PartsName> Turns<B> {
     // Holds a round, this many ticks of the pace after that of the last one.
-    fn round<A: Allocator + Clone>(&mut self, alloc: A, desk: &LentDesk<B>, ticks: u64) {
+    fn round<A: Allocator + Clone>(&mut self, alloc: A, desk: &LentDesk<B, OfTest>, ticks: u64) {
         let skipped = ticks.saturating_sub(1).saturating_mul(TICK_MICROS);
-        let now = self.next.saturating_add(skipped);
-        self.next = now.saturating_add(TICK_MICROS);
+        let clock = TestClock {
+            micros: self.next.saturating_add(skipped),
+        };
+        self.next = clock.micros.saturating_add(TICK_MICROS);
+        let now = clock.moment();
         let _ = self
             .rounds
             .hold(alloc, desk, now, &[true; MAX_LANES], &[0; MAX_LANES]);
@@ -46,15 +59,13 @@ impl<B: PartsName> Turns<B> {
 
 /// A desk with its rounds, and whether the transfer of `SECOND` has moved an octet.
 pub(crate) struct House<B: PartsName> {
-    desk: LentDesk<B>,
+    desk: LentDesk<B, OfTest>,
     turns: Mutex<Turns<B>>,
     has_moved: AtomicU64,
 }
 
 impl<B: PartsName> House<B> {
-    pub(crate) fn new(desk: LentDesk<B>, rounds: LentRounds<B>) -> House<B>
-        requires any { (moment : ℕ) → B.when moment ≡ true }
-    {
+    pub(crate) fn new(desk: LentDesk<B, OfTest>, rounds: LentRounds<B, OfTest>) -> House<B> {
         let turns = Turns { rounds, next: 0 };
         House {
             desk,
@@ -63,7 +74,7 @@ impl<B: PartsName> House<B> {
         }
     }
 
-    pub(crate) fn desk(&self) -> &LentDesk<B> {
+    pub(crate) fn desk(&self) -> &LentDesk<B, OfTest> {
         &self.desk
     }
 
@@ -80,7 +91,7 @@ impl<B: PartsName> House<B> {
         }
     }
 
-    pub(crate) fn into_parts(self) -> (LentDesk<B>, LentRounds<B>) {
+    pub(crate) fn into_parts(self) -> (LentDesk<B, OfTest>, LentRounds<B, OfTest>) {
         let House {
             desk,
             turns,

@@ -1,12 +1,15 @@
 //! Whole jobs in one thread, each to its end, and a loop of them.
 
-ghost use Rattle.std.specs.Prelude.{◌≡◌, ℕ, true};
+ghost use Rattle.std.specs.Prelude.{◌≡◌, true};
 ghost use Rattle.transfer_worker.specs.Boards.{IsOfBoard, IsSameBoard};
+ghost use Rattle.line_rates.specs.Rates.{Rates};
+ghost use Rattle.round_pace.specs.Earned.{tick_of};
 ghost use Rattle.round_pace.specs.Histories.{rates_of};
+ghost use Rattle.round_pace.specs.Paced.{IsPacedFrom};
 ghost use Rattle.lane_desk.specs.Seats.{desk_id};
 
 use super::counted::End;
-use super::expect::holds;
+use super::expect::{OfTest, holds};
 use super::house::{House, Job, Keeper};
 use super::parts::{Lent, Opened};
 use super::shortages::{loop_without_memory, refuse_buffers};
@@ -99,7 +102,7 @@ fn upload(row: &Upload) -> Job {
 fn run<B: PartsName>(
     rt: &(impl Abort + AllocGlobal + Wait),
     house: &House<B>,
-    worker: &mut LentWorker<B>,
+    worker: &mut LentWorker<B, OfTest>,
     job: Job,
     leave: u64,
 ) -> (JobEnd, usize, bool) {
@@ -118,7 +121,7 @@ fn run<B: PartsName>(
 fn run_all<B: PartsName>(
     rt: &(impl Abort + AllocGlobal + Wait),
     house: &House<B>,
-    worker: &mut LentWorker<B>,
+    worker: &mut LentWorker<B, OfTest>,
 ) -> u64 {
     let mut moved = 0u64;
     for row in &DOWNLOADS {
@@ -149,8 +152,8 @@ fn put_jobs(rt: &(impl Abort + Wait), board: &JobBoard<Job>, pass: &mut BoardPas
 fn loop_over<B: PartsName>(
     rt: &(impl Abort + AllocGlobal + Wait),
     house: &House<B>,
-    worker: LentWorker<B>,
-) -> LentWorker<B> {
+    worker: LentWorker<B, OfTest>,
+) -> LentWorker<B, OfTest> {
     let (board, mut passes) = open_board(rt.alloc(), 4, 1).expect(rt, "a board");
     let Some(mut pass) = passes.pop() else {
         panic!(rt; "a pass")
@@ -173,8 +176,8 @@ fn loop_over<B: PartsName>(
 fn stop_after_an_ask<B: PartsName>(
     rt: &(impl Abort + AllocGlobal + Wait),
     house: &House<B>,
-    first: &mut LentWorker<B>,
-    second: &mut LentWorker<B>,
+    first: &mut LentWorker<B, OfTest>,
+    second: &mut LentWorker<B, OfTest>,
 ) {
     let stopped = run(rt, house, first, download(&DOWNLOADS[0]), 1);
     holds(rt, stopped == (JobEnd::Stopped, 0, false));
@@ -190,9 +193,9 @@ fn run_named<B: PartsName>(
 ) -> (u64, SettledNumbers)
     requires desk { desk_id opened.desk ≡ B.desk }
     requires lanes { opened.desk.lanes ≡ B.lanes }
-    requires rates { B.rates (rates_of opened.rounds.pace) ≡ true }
-    requires carried { opened.rounds.carried ≡ B.carried }
-    requires any { (moment : ℕ) → B.when moment ≡ true }
+    requires paced { (rates : Rates) × IsPacedFrom (tick_of opened.begun.micros) rates opened.pace }
+    requires rates { B.rates (rates_of opened.pace) ≡ true }
+    requires carried { opened.rounds.book.issued ≡ B.carried }
 {
     let Lent {
         house,

@@ -3,7 +3,7 @@
 ghost use Rattle.transfer_worker.specs.Boards.{IsOfBoard, IsSameBoard};
 
 use super::counted::End;
-use super::expect::holds;
+use super::expect::{OfTest, holds};
 use super::house::{House, Job};
 use data_pump::MAX_READ;
 use ftp_terms::DataType;
@@ -131,7 +131,7 @@ fn is_opened<B: PartsName>(
     rt: &(impl Abort + Wait),
     heap: &LocalHeap,
     house: &House<B>,
-    worker: &mut LentWorker<B>,
+    worker: &mut LentWorker<B, OfTest>,
     job: Job,
 ) -> bool {
     let mut gate = Shut {
@@ -155,7 +155,7 @@ fn is_opened<B: PartsName>(
 pub(crate) fn refuse_buffers<B: PartsName>(
     rt: &(impl Abort + AllocGlobal + Wait),
     house: &House<B>,
-    worker: &mut LentWorker<B>,
+    worker: &mut LentWorker<B, OfTest>,
 ) {
     let heap = LocalHeap::new(rt.alloc(), 200_000).expect(rt, "a heap");
     for row in &BUFFERS {
@@ -241,8 +241,8 @@ fn loop_in_heap<B: PartsName>(
     heap: &LocalHeap,
     none: &LocalHeap,
     house: &House<B>,
-    worker: LentWorker<B>,
-) -> LentWorker<B> {
+    worker: LentWorker<B, OfTest>,
+) -> LentWorker<B, OfTest> {
     let (board, mut passes) = open_board(rt.alloc(), 2, 1).expect(rt, "a board");
     let Some(mut pass) = passes.pop() else {
         panic!(rt; "a pass")
@@ -274,8 +274,8 @@ fn loop_in_heap<B: PartsName>(
 pub(crate) fn loop_without_memory<B: PartsName>(
     rt: &(impl Abort + AllocGlobal + Wait),
     house: &House<B>,
-    worker: LentWorker<B>,
-) -> LentWorker<B> {
+    worker: LentWorker<B, OfTest>,
+) -> LentWorker<B, OfTest> {
     let heap = LocalHeap::new(rt.alloc(), 200_000).expect(rt, "a heap");
     let none = LocalHeap::new(rt.alloc(), HEAP).expect(rt, "a heap");
     let _rest = leave_hole(rt, &none, 0).expect(rt, "no hole");

@@ -1,12 +1,15 @@
 //! Two workers at once: the transfer of one is delayed until that of the other has moved an octet.
 
-ghost use Rattle.std.specs.Prelude.{◌≡◌, ℕ, true};
+ghost use Rattle.std.specs.Prelude.{◌≡◌, true};
+ghost use Rattle.line_rates.specs.Rates.{Rates};
+ghost use Rattle.round_pace.specs.Earned.{tick_of};
 ghost use Rattle.round_pace.specs.Histories.{rates_of};
+ghost use Rattle.round_pace.specs.Paced.{IsPacedFrom};
 ghost use Rattle.lane_desk.specs.Seats.{desk_id};
 ghost use Rattle.transfer_worker.specs.Boards.{board_id};
 
 use super::counted::End;
-use super::expect::holds;
+use super::expect::{OfTest, holds};
 use super::house::{FIRST, House, Job, Keeper, SECOND};
 use super::parts::{Lent, Opened, settle_house};
 use ftp_terms::DataType;
@@ -47,7 +50,7 @@ fn file_for(session: u32) -> Job {
 /// A worker with a pass, and its record: the number of jobs that ended, and whether it stopped for lack of
 /// jobs.
 struct Hand<B: PartsName> {
-    worker: LentWorker<B>,
+    worker: LentWorker<B, OfTest>,
     pass: LentPass<B, Job>,
     did: (u64, bool),
 }
@@ -122,7 +125,7 @@ where
 fn gather<B: PartsName>(
     rt: &(impl Abort + AllocGlobal),
     mut hands: Vec<Hand<B>>,
-) -> (Vec<LentWorker<B>>, bool) {
+) -> (Vec<LentWorker<B, OfTest>>, bool) {
     let mut workers = Vec::new(rt.alloc());
     let mut did_one_each = true;
     while let Some(hand) = hands.pop() {
@@ -156,7 +159,7 @@ where
 }
 
 // A worker with passes of the boards with this name.
-fn hand_of<B: PartsName>(worker: LentWorker<B>, pass: LentPass<B, Job>) -> Hand<B> {
+fn hand_of<B: PartsName>(worker: LentWorker<B, OfTest>, pass: LentPass<B, Job>) -> Hand<B> {
     Hand {
         worker,
         pass,
@@ -193,9 +196,9 @@ where
     R: Abort + AllocGlobal + Threads + Wait + Sync,
     requires desk { desk_id opened.desk ≡ B.desk }
     requires lanes { opened.desk.lanes ≡ B.lanes }
-    requires rates { B.rates (rates_of opened.rounds.pace) ≡ true }
-    requires carried { opened.rounds.carried ≡ B.carried }
-    requires any { (moment : ℕ) → B.when moment ≡ true }
+    requires paced { (rates : Rates) × IsPacedFrom (tick_of opened.begun.micros) rates opened.pace }
+    requires rates { B.rates (rates_of opened.pace) ≡ true }
+    requires carried { opened.rounds.book.issued ≡ B.carried }
     requires first { board_id first.board ≡ B.first }
     requires others { board_id others.board ≡ B.board }
 {

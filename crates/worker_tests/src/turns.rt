@@ -1,15 +1,18 @@
 //! Turns of one transfer on one lane: grants of one octet and of two, under a rate of the server.
 
-ghost use Rattle.std.specs.Prelude.{◌≡◌, ℕ, true, IfNone};
+ghost use Rattle.std.specs.Prelude.{◌≡◌, true, IfNone};
 ghost use Rattle.desk_rule.specs.declared.view.SeatState.TheVariants.{Asked};
 ghost use Rattle.desk_rule.specs.Lanes.{has_looked};
+ghost use Rattle.line_rates.specs.Rates.{Rates};
+ghost use Rattle.round_pace.specs.Earned.{tick_of};
 ghost use Rattle.round_pace.specs.Histories.{rates_of};
+ghost use Rattle.round_pace.specs.Paced.{IsPacedFrom};
 ghost use Rattle.lane_desk.specs.Seats.{desk_id, seat_view, IsSeatOf, IsSameSeat};
 ghost use Rattle.lent_parts.specs.Names.{SitsAt};
 ghost use Rattle.transfer_worker.specs.Turns.{IsReported};
 
 use super::ends::{File, Kept, Line};
-use super::expect::holds;
+use super::expect::{OfTest, holds};
 use super::house::House;
 use super::parts::{Lent, Opened};
 use data_pump::{DataIn, DataOut, PumpEnd, Pumped};
@@ -40,9 +43,9 @@ impl Moving {
 
     fn turn(
         &mut self,
-        desk: &Desk<()>,
-        seat: &mut LaneSeat<()>,
-        tally: &mut Tally<()>,
+        desk: &Desk<OfTest>,
+        seat: &mut LaneSeat<OfTest>,
+        tally: &mut Tally<OfTest>,
     ) -> Option<Pumped>
         requires desk { IsSeatOf desk.now seat.old }
         requires state { (seat_view seat.old).state ≡ Asked }
@@ -68,15 +71,15 @@ impl Moving {
 
 /// A lane's seat with its tally, of the desk with a name.
 struct Lane<B: PartsName> {
-    seat: LaneSeat<()>,
-    tally: Tally<()>,
+    seat: LaneSeat<OfTest>,
+    tally: Tally<OfTest>,
     name: PhantomData<B>,
     ghost named: { SitsAt B.desk B.lanes seat },
     ghost reported: { IsReported tally (seat_view seat) },
 }
 
 impl<B: PartsName> Lane<B> {
-    fn new(worker: LentWorker<B>) -> Lane<B> {
+    fn new(worker: LentWorker<B, OfTest>) -> Lane<B> {
         let (seat, tally) = worker.into_worked().parts();
         Lane {
             seat,
@@ -85,7 +88,7 @@ impl<B: PartsName> Lane<B> {
         }
     }
 
-    fn into_worker(self) -> LentWorker<B> {
+    fn into_worker(self) -> LentWorker<B, OfTest> {
         let Lane {
             seat,
             tally,
@@ -187,9 +190,9 @@ fn move_texts<B: PartsName>(
 ) -> SettledNumbers
     requires desk { desk_id opened.desk ≡ B.desk }
     requires lanes { opened.desk.lanes ≡ B.lanes }
-    requires rates { B.rates (rates_of opened.rounds.pace) ≡ true }
-    requires carried { opened.rounds.carried ≡ B.carried }
-    requires any { (moment : ℕ) → B.when moment ≡ true }
+    requires paced { (rates : Rates) × IsPacedFrom (tick_of opened.begun.micros) rates opened.pace }
+    requires rates { B.rates (rates_of opened.pace) ≡ true }
+    requires carried { opened.rounds.book.issued ≡ B.carried }
 {
     let Lent {
         house,

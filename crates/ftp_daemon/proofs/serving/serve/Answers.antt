@@ -1,24 +1,21 @@
-use Rattle.std.proofs.Common.{◌≤◌, ◌*◌, ◌+◌, ℕ, arith}
+use Rattle.std.proofs.Common.{◌≤◌, ◌*◌, ◌+◌, ℕ, ap, ◌∙◌, arith}
+use Rattle.line_rates.specs.declared.ask.Name.TheVariants.{Server}
+use Rattle.paced_rounds.specs.Settled.{rounds_of}
+use Rattle.paced_rounds.specs.Spans.{granted_to, seconds_from}
 use Rattle.ftp_daemon.specs.SameRates.{may_hold}
-use Rattle.ftp_daemon.proofs.KeptLemmas.{kept_of, may_begin, one_server, owner_may}
+use Rattle.ftp_daemon.proofs.KeptLemmas.{has_rate, issued_by, issued_within, one_server}
 use Rattle.ftp_daemon.proofs.serving.serve.Goals as goal
 
-pub serve_named-served-requires-clause-rated : goal.serve_named-served-requires-clause-rated
-serve_named-served-requires-clause-rated g c κs within = may_begin c.args.service.limits g.P.OwnerSigns.allows
-
-pub serve_named-served-requires-clause-owner : goal.serve_named-served-requires-clause-owner
-serve_named-served-requires-clause-owner g c κs within = λ rates may. owner_may c.args.service.limits rates g.P.OwnerSigns.allows may
-
-pub returns-clause-kept : goal.returns-clause-kept
-returns-clause-kept g c =
-    kept_of (may_hold c.args.service.limits g.P.OwnerSigns.allows) g.R.RoundClock.when c.in_ok-line.line.book.issued c.serve_named-served.result.0.issued
-    c.in_ok-line.line.unissued c.serve_named-served.ensures.kept
+pub returns-clause-issued : goal.returns-clause-issued
+returns-clause-issued g c =
+    let s = c.serve_booked-settlement.result.0 in
+    issued_by s.issued s.carried c.args.book.issued (granted_to Server (rounds_of s)) c.rates_are_kept.ensures.server c.serve_booked-settlement.ensures.carried
 
 pub returns-clause-seconds : goal.returns-clause-seconds
-returns-clause-seconds g c first count within some one =
-    let kept =
-    kept_of (may_hold c.args.service.limits g.P.OwnerSigns.allows) g.R.RoundClock.when c.in_ok-line.line.book.issued c.serve_named-served.result.0.issued
-    c.in_ok-line.line.unissued c.serve_named-served.ensures.kept in
+returns-clause-seconds g c some one =
+    let s = c.serve_booked-settlement.result.0 in
+    let rate = c.args.service.limits.server in
     let all = one_server c.args.service.limits g.P.OwnerSigns.allows one in
-    let bound = c.seconds_are_kept.ensures.kept (may_hold c.args.service.limits g.P.OwnerSigns.allows) g.R.RoundClock.when c.args.service.limits.server 0 c.serve_named-served.result.0.issued first count kept within all some in
-    omega (arith, bound)
+    let has = has_rate (may_hold c.args.service.limits g.P.OwnerSigns.allows) rate all (rounds_of s) c.serve_booked-settlement.ensures.rates in
+    issued_within s.issued s.carried c.args.book.issued (granted_to Server (rounds_of s)) (seconds_from s.opened s.latest * rate)
+    c.rates_are_kept.ensures.server c.serve_booked-settlement.ensures.carried (c.rates_are_kept.ensures.kept.one_rate Server rate some has)

@@ -7,7 +7,7 @@ use Rattle.ftp_daemon.proofs.Lists.{next_at}
 use Rattle.ftp_daemon.proofs.settling.gather_fresh.Goals as goal
 
 pub loop-seat-preserved : goal.loop-seat-preserved
-loop-seat-preserved c =
+loop-seat-preserved g c =
     let l = c.loop-seat in
     let k = l.invariant in
     let w = c.new.result in
@@ -17,6 +17,6 @@ loop-seat-preserved c =
       omega (arith, ap length c.push_reserved.ensures.items, length-append l.gathered.items (w ∷ []), length-append l.yielded (c.in-Some.seat ∷ []), k.1),
       search rules,
       search rules,
-      subst (λ (ws : List (Worked (Unit {0}))). AreWorkers (desk_id c.args._desk.now) (length ws) ws) (sym c.push_reserved.ensures.items)
+      subst (λ (ws : List (Worked g.row.N.Denot)). AreWorkers (desk_id c.args._desk.now) (length ws) ws) (sym c.push_reserved.ensures.items)
           (worker_more (desk_id c.args._desk.now) l.gathered.items w k.4 (ap (λ s. s.lane) c.new.ensures.parts.0 ∙ fresh.0 ∙ sym k.1) (ap (λ s. s.seat.table_id) c.new.ensures.parts.0 ∙ fresh.1)),
     )

@@ -5,7 +5,7 @@ use Rattle.lane_desk.specs.Workers.{AreWorkers}
 use Rattle.ftp_daemon.proofs.settling.gather_fresh.Given as goal
 
 abbrev pub invariant-loop-seat : goal.invariant-loop-seat
-invariant-loop-seat l =
+invariant-loop-seat g l =
     (l.yielded ++ l.seat-iterator.rest.items ≡ l.fn.seats.items)
     × (length l.gathered.items ≡ length l.yielded)
     × (vec_capacity l.gathered ≡ vec_capacity l.fn.gathered)

@@ -11,6 +11,7 @@ returns-in_err-judge_record-clause-fault c =
 pub returns-clause-fine : goal.returns-clause-fine
 returns-clause-fine c =
     all_fine (view c.args.value.now) c.judge_lists.result c.in_ok-judge_version.ensures.version c.in_ok-judge_record.ensures.has c.judge_lists.ensures.groups c.judge_lists.ensures.transfers
+    c.judge_lists.ensures.sessions c.judge_lists.ensures.accounts
 
 pub returns-clause-fault : goal.returns-clause-fault
 returns-clause-fault c =

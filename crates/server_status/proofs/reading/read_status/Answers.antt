@@ -1,11 +1,18 @@
-use Rattle.std.proofs.lemmas.Result.{IfErr-weaker}
-use Rattle.std.proofs.Common.{◌≡◌, ◌⊎◌}
+use Rattle.std.proofs.lemmas.Result.{IfErr-weaker, IfOk-weaker}
+use Rattle.std.proofs.Common.{◌≡◌, ◌⊎◌, ◌∙◌, ap, sym}
+use Rattle.serde_json.specs.Read.{read}
 use Rattle.serde_json.specs.View.{view}
 use Rattle.server_status.specs.declared.fault.StatusFault.TheVariants.{Memory}
-use Rattle.server_status.specs.ReadBack.{IsReadFault}
-use Rattle.server_status.specs.StatusRead.{IsFaultOf}
+use Rattle.server_status.specs.ReadBack.{HasStatus, IsReadFault}
+use Rattle.server_status.specs.StatusRead.{IsFaultOf, IsStatusOf}
 use Rattle.server_status.proofs.Texts.{fault_read, read_as, unread}
 use Rattle.server_status.proofs.reading.read_status.Goals as goal
+
+pub returns-in-Ok-clause-status : goal.returns-in-Ok-clause-status
+returns-in-Ok-clause-status c =
+    let d = view c.in-Ok.value in
+    IfOk-weaker c.status_in.result (IsStatusOf d) (HasStatus c.args.octets.now)
+    (λ status has. (d, ap read (sym c.without_feed.ensures.octets) ∙ c.in-Ok.ensures.value, has)) c.status_in.ensures.status
 
 pub returns-in-Ok-clause-fault : goal.returns-in-Ok-clause-fault
 returns-in-Ok-clause-fault c =

@@ -1,7 +1,7 @@
 use Rattle.std.proofs.Common.{codes}
 use Rattle.server_status.specs.declared.status.Direction.TheVariants.{Down, Up}
-use Rattle.status_table.specs.Heads.{both_total, labelled}
-use Rattle.status_table.specs.Rates.{line_total}
+use Rattle.status_table.specs.Heads.{labelled}
+use Rattle.status_table.specs.Rates.{both_total, line_total}
 use Rattle.status_table.proofs.Screens.{on_ok, three}
 use Rattle.status_table.proofs.heads.push_totals.Goals as goal
 

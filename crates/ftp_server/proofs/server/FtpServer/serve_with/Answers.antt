@@ -16,4 +16,4 @@ returns-in_err-parts-clause-refused g c =
     λ none. err_refused (rates_fault c.args.self) (Err c.in_err-parts.field-0.0) c.from_residual.result c.in_err-parts.field-0.0 failed.0 refl failed.1 failed.2 (c.in_err-parts.ensures.refused none)
 
 pub returns-clause-seconds : goal.returns-clause-seconds
-returns-clause-seconds g c = rated g.R.RoundClock.when g.P.OwnerSigns.allows c.serve_parts.result _ _ c.in_ok-parts.ensures.limits c.serve_parts.ensures.seconds
+returns-clause-seconds g c = rated g.P.OwnerSigns.allows c.serve_parts.result _ _ c.in_ok-parts.ensures.limits c.serve_parts.ensures.seconds

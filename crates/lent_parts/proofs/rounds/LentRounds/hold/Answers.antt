@@ -1,20 +1,6 @@
-use Rattle.std.proofs.Common.{◌≡◌, OnErr, refl, ap, ◌∙◌, subst, sym}
-use Rattle.std.specs.Prelude.{max}
-use Rattle.paced_rounds.specs.History.{round_at, history}
-use Rattle.paced_rounds.specs.Seconds.{AreAllowed}
-use Rattle.lent_parts.proofs.MomentLemmas.{later_passes, moments_more}
+use Rattle.std.proofs.Common.{◌≡◌, OnErr, ap, ◌∙◌, subst, sym}
+use Rattle.paced_rounds.specs.Allowed.{AreAllowed}
 use Rattle.lent_parts.proofs.rounds.LentRounds.hold.Goals as goal
-
-pub invariant_of-self-clause-moments : goal.invariant_of-self-clause-moments
-invariant_of-self-clause-moments g c =
-    let old = c.args.self.now in
-    moments_more g.B.PartsName.when (history old.rounds.log.items) (history c.hold-result.new.self.log.items) c.args.now old.rounds.latest (round_at (max c.args.now old.rounds.latest) c.hold-result.result) old.moments c.requires.when old.last refl
-    c.hold-result.ensures.grows
-
-pub invariant_of-self-clause-last : goal.invariant_of-self-clause-last
-invariant_of-self-clause-last g c =
-    let old = c.args.self.now in
-    ap g.B.PartsName.when c.hold-result.ensures.latest ∙ later_passes g.B.PartsName.when c.args.now old.rounds.latest c.requires.when old.last
 
 pub invariant_of-self-clause-rated : goal.invariant_of-self-clause-rated
 invariant_of-self-clause-rated g c =
@@ -24,7 +10,7 @@ invariant_of-self-clause-rated g c =
 pub invariant_of-self-clause-ended : goal.invariant_of-self-clause-ended
 invariant_of-self-clause-ended g c =
     let old = c.args.self.now in
-    subst (AreAllowed g.B.PartsName.rates g.B.PartsName.when) (sym c.hold-result.ensures.ended) old.ended
+    subst (AreAllowed g.B.PartsName.rates) (sym c.hold-result.ensures.ended) old.ended
 
 pub invariant_of-self-in_default-clause-carried : goal.invariant_of-self-in_default-clause-carried
 invariant_of-self-in_default-clause-carried g c =
@@ -38,13 +24,7 @@ invariant_of-self-in_default-clause-counted g c =
     let same : new.rounds.book ≡ old.rounds.rounds.book = subst (λ x. OnErr x (new.rounds.book ≡ old.rounds.rounds.book)) c.in_default.is c.hold-result.ensures.unchanged in
     ap (λ b. b.issued) same ∙ old.counted
 
-pub invariant_of-self-in_default-clause-moments : goal.invariant_of-self-in_default-clause-moments
-invariant_of-self-in_default-clause-moments g c =
-    let old = c.args.self.now in
-    moments_more g.B.PartsName.when (history old.rounds.log.items) (history c.hold-result.new.self.log.items) c.args.now old.rounds.latest (round_at (max c.args.now old.rounds.latest) c.hold-result.result) old.moments c.requires.when old.last refl
-    c.hold-result.ensures.grows
-
 pub invariant_of-self-in_default-clause-ended : goal.invariant_of-self-in_default-clause-ended
 invariant_of-self-in_default-clause-ended g c =
     let old = c.args.self.now in
-    subst (AreAllowed g.B.PartsName.rates g.B.PartsName.when) (sym c.hold-result.ensures.ended) old.ended
+    subst (AreAllowed g.B.PartsName.rates) (sym c.hold-result.ensures.ended) old.ended

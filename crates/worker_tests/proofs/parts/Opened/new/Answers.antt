@@ -1,7 +1,8 @@
 use Rattle.std.proofs.Common.{subst}
 use Rattle.std.specs.Prelude.{IfOk}
+use Rattle.round_pace.specs.Earned.{tick_of}
 use Rattle.round_pace.specs.Paced.{IsPacedFrom}
 use Rattle.worker_tests.proofs.parts.Opened.new.Goals as goal
 
-pub new-requires-in-Ok-2 : goal.new-requires-in-Ok-2
-new-requires-in-Ok-2 g c = record { new = (c.limits.result, subst (λ r. IfOk r (λ p. IsPacedFrom 0 c.limits.result p)) c.expect-pace.ensures c.of.ensures.rates) }
+pub returns : goal.returns
+returns g c = record { paced = (c.limits.result, subst (λ r. IfOk r (λ p. IsPacedFrom (tick_of c.moment-begun.result.micros) c.limits.result p)) c.expect-pace.ensures (subst (λ now. IfOk c.of.result (λ p. IsPacedFrom (tick_of now) c.limits.result p)) c.micros.ensures.micros c.of.ensures.rates)) }

@@ -1,7 +1,0 @@
-use Rattle.std.proofs.Common.{◌≡◌, ℕ, ◌<◌, Some}
-use Rattle.std.specs.Prelude.{slice_get}
-use Rattle.config_change.specs.declared.known.NumberedName.{NumberedName}
-use Rattle.ftpd.proofs.known.next_number.Given as goal
-
-abbrev pub invariant-loop-place : goal.invariant-loop-place
-invariant-loop-place l = (place : ℕ) (user : NumberedName) → place < l.place → slice_get l.users place ≡ Some user → user.number < l.next

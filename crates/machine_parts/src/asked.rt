@@ -1,0 +1,185 @@
+//! The service that the words of a command line ask for.
+//!
+//! `ftpd_program` checks the words and the configuration, and is given an [`AskedServer`], which keeps the configuration; the
+//! server runs after that. A trait's method cannot pass its runtime to threads: the prover knows its bounds in this
+//! thread alone. So functions on files and the console name the runtime itself, and functions that start threads have a
+//! type parameter for their permission.
+
+use client_patience::Patience;
+use ftpd_program::{ReadConfig, ServeFault, ServeFiles, Server};
+use server_config::Config;
+use std::alloc::{AllocError, Global};
+use text_io::TextWriter;
+
+/// The configuration that a server was started with.
+#[derive(Drop)]
+pub struct ReadText {
+    /// The path of the configuration.
+    pub path: String,
+    pub config: Config,
+    /// The texts of the configuration's warnings, a line each.
+    pub warnings: String,
+    /// The octets of the configuration, if it may be read again, or if there is to be a running file.
+    pub octets: Option<Vec<u8>>,
+}
+
+/// The paths of the files by which the owner gives signs, of those that there are to be.
+#[derive(Drop)]
+pub struct SignPaths {
+    /// The stop file.
+    pub stop: Option<String>,
+    /// The drain file.
+    pub drain: Option<String>,
+    /// The reload file.
+    pub reload: Option<String>,
+    /// The end file.
+    pub end: Option<String>,
+}
+
+/// The paths of the files that the server writes, of those that there are to be.
+#[derive(Drop)]
+pub struct WrittenPaths {
+    /// The ready file.
+    pub ready: Option<String>,
+    /// The transfer log.
+    pub log: Option<String>,
+    /// The status file, and the new file beside it.
+    pub status: Option<(String, String)>,
+    /// The running file, and the new file beside it.
+    pub running: Option<(String, String)>,
+}
+
+/// A service that the words of a command line ask for.
+#[derive(Drop)]
+pub struct AskedService {
+    pub read: ReadText,
+    pub signs: SignPaths,
+    pub written: WrittenPaths,
+    /// The name of the form of notes, if one is stated.
+    pub log_form: Option<String>,
+    /// The port of the status page, if any.
+    pub status_port: Option<u16>,
+    /// Each file that is received is written to the device before its end is told.
+    pub syncs: bool,
+    /// The greatest number of sessions in which one user is logged in, as it is stated, if it is.
+    pub user_sessions: Option<String>,
+    pub patience: Patience,
+}
+
+/// The service that the words of a command line ask for, if any.
+#[derive(Drop)]
+pub struct AskedServer {
+    service: Option<AskedService>,
+}
+
+impl AskedServer {
+    /// No service yet.
+    pub fn new() -> AskedServer {
+        AskedServer { service: None }
+    }
+
+    /// Returns the service, if a server was asked for.
+    pub fn into_service(self) -> Option<AskedService> {
+        self.service
+    }
+}
+
+fn copied(alloc: Global, path: Option<&str>) -> Result<Option<String>, AllocError> {
+    match path {
+        Some(path) => {
+            let own = String::from_str(alloc, path)?;
+            Ok(Some(own))
+        }
+        None => Ok(None),
+    }
+}
+
+/// A copy of octets, if there is to be one.
+fn copied_octets(alloc: Global, keeps: bool, octets: &[u8]) -> Result<Option<Vec<u8>>, AllocError> {
+    if !keeps {
+        return Ok(None);
+    }
+    let mut copy = Vec::with_capacity(alloc, octets.len())?;
+    copy.extend_from_slice(octets)?;
+    Ok(Some(copy))
+}
+
+/// A path, with that of a new file beside it.
+fn with_beside(alloc: Global, path: Option<&str>) -> Result<Option<(String, String)>, AllocError> {
+    match path {
+        Some(path) => {
+            let own = String::from_str(alloc, path)?;
+            let beside = format!(in alloc; "{path}.new")?;
+            Ok(Some((own, beside)))
+        }
+        None => Ok(None),
+    }
+}
+
+/// The configuration, whose octets are kept if they are needed.
+fn kept_text(alloc: Global, read: ReadConfig<'_>, keeps: bool) -> Result<ReadText, AllocError> {
+    let ReadConfig {
+        path,
+        config,
+        warnings,
+        octets,
+    } = read;
+    let octets = copied_octets(alloc, keeps, octets)?;
+    let path = String::from_str(alloc, path)?;
+    let warnings = String::from_str(alloc, warnings)?;
+    Ok(ReadText {
+        path,
+        config,
+        warnings,
+        octets,
+    })
+}
+
+/// The paths of signs.
+fn sign_paths(alloc: Global, files: &ServeFiles<'_>) -> Result<SignPaths, AllocError> {
+    Ok(SignPaths {
+        stop: copied(alloc, files.stop_file)?,
+        drain: copied(alloc, files.drain_file)?,
+        reload: copied(alloc, files.reload_file)?,
+        end: copied(alloc, files.end_file)?,
+    })
+}
+
+/// The paths of files that are written.
+fn written_paths(alloc: Global, files: &ServeFiles<'_>) -> Result<WrittenPaths, AllocError> {
+    Ok(WrittenPaths {
+        ready: copied(alloc, files.ready_file)?,
+        log: copied(alloc, files.transfer_log)?,
+        status: with_beside(alloc, files.status)?,
+        running: with_beside(alloc, files.running_file)?,
+    })
+}
+
+impl<W: TextWriter> Server<W> for AskedServer {
+    fn serve(
+        &mut self,
+        alloc: Global,
+        read: ReadConfig<'_>,
+        files: ServeFiles<'_>,
+        patience: Patience,
+        _output: &mut W,
+    ) -> Result<(), ServeFault> {
+        let keeps = files.reload_file.is_some() || files.running_file.is_some();
+        let read = kept_text(alloc, read, keeps)?;
+        let signs = sign_paths(alloc, &files)?;
+        let written = written_paths(alloc, &files)?;
+        let log_form = copied(alloc, files.log_form)?;
+        let user_sessions = copied(alloc, files.user_sessions)?;
+        self.service = Some(AskedService {
+            read,
+            signs,
+            written,
+            log_form,
+            status_port: files.status_port,
+            syncs: files.syncs,
+            user_sessions,
+            patience,
+        });
+        Ok(())
+    }
+}

@@ -1,0 +1,102 @@
+//! The facts of a configuration that a status shows.
+
+use event_word::micros;
+use line_rates::{Limits, Name, Way};
+use server_config::Config;
+use status_keeper::{StatedGroup, StatedUser, StatusFacts};
+use std::alloc::Global;
+use std::time::Clock;
+
+/// The start of a server.
+#[derive(Clone, Copy)]
+pub struct Start {
+    /// Seconds since 1970.
+    pub seconds: u64,
+    /// Microseconds of the clock of rounds.
+    pub micros: u64,
+}
+
+/// This moment, as the start of a server.
+pub fn start_of(machine: &HostRuntime) -> Start {
+    let seconds = match machine.since_1970() {
+        Ok(time) => time.as_secs(),
+        Err(_) => 0,
+    };
+    Start {
+        seconds,
+        micros: micros(machine),
+    }
+}
+
+/// A copy of limits. `None` if memory runs out.
+pub fn copied_limits(alloc: Global, limits: &Limits) -> Option<Limits> {
+    let mut groups = Vec::with_capacity(alloc, limits.groups().len()).ok()?;
+    for group in limits.groups() {
+        groups.push(*group).ok()?;
+    }
+    let mut users = Vec::with_capacity(alloc, limits.users().len()).ok()?;
+    for user in limits.users() {
+        users.push(*user).ok()?;
+    }
+    let both = limits.rate(Name::Server);
+    let down = limits.rate(Name::Direction(Way::Down));
+    let up = limits.rate(Name::Direction(Way::Up));
+    Limits::of(both, down, up, groups, users).ok()
+}
+
+/// The groups that a configuration has, with their numbers. `None` if memory runs out.
+fn stated_groups(alloc: Global, config: &Config) -> Option<Vec<StatedGroup>> {
+    let mut stated = Vec::with_capacity(alloc, config.limits.groups().len()).ok()?;
+    for row in config.limits.groups() {
+        let name = config.groups.get(row.group as usize)?;
+        let name = String::from_str(alloc, name.as_str()).ok()?;
+        let number = row.group;
+        stated.push(StatedGroup { name, number }).ok()?;
+    }
+    Some(stated)
+}
+
+/// The names of all groups of a configuration that has its numbers, those of the past too. `None` if memory runs out.
+fn group_names(alloc: Global, config: &Config) -> Option<Vec<String>> {
+    let mut names = Vec::with_capacity(alloc, config.groups.len()).ok()?;
+    for name in &config.groups {
+        names
+            .push(String::from_str(alloc, name.as_str()).ok()?)
+            .ok()?;
+    }
+    Some(names)
+}
+
+/// The users that a configuration has, with their numbers. `None` if memory runs out.
+fn stated_users(alloc: Global, config: &Config) -> Option<Vec<StatedUser>> {
+    let names = config.users.names(alloc).ok()?;
+    let mut stated = Vec::with_capacity(alloc, names.len()).ok()?;
+    for name in &names {
+        if let Some(number) = config.users.number(name.as_str()) {
+            let name = String::from_str(alloc, name.as_str()).ok()?;
+            stated.push(StatedUser { name, number }).ok()?;
+        }
+    }
+    Some(stated)
+}
+
+/// The facts for a status of a configuration, of the limits in force, with rows of the past, and of a start. `None` if
+/// memory runs out.
+pub fn facts_of(
+    alloc: Global,
+    start: Start,
+    config: &Config,
+    limits: &Limits,
+) -> Option<StatusFacts> {
+    Some(StatusFacts {
+        limits: copied_limits(alloc, limits)?,
+        stated: stated_groups(alloc, config)?,
+        groups: group_names(alloc, config)?,
+        names: stated_users(alloc, config)?,
+        users: config.limits.users().len() as u64,
+        lanes: u64::from(config.numbers.lanes),
+        max_sessions: u64::from(config.numbers.max_cons),
+        started: start.seconds,
+        zero: start.micros,
+    })
+}

@@ -1,0 +1,198 @@
+//! The configuration that a running server takes next.
+
+use crate::facts::{Start, copied_limits, facts_of};
+use crate::known::Known;
+use config_change::{FixedValues, count_fault, fixed_key, renumbered, with_past};
+use line_rates::{Limits, Name, Way};
+use server_config::{Config, ServedStore, ServerNumbers};
+use server_house::Terms;
+use status_keeper::StatusFacts;
+use std::alloc::{AllocError, Global};
+use std::fmt::Display;
+use std::sync::Arc;
+
+/// The values of a server's start that a reload cannot change, and its moment.
+#[derive(Drop)]
+pub struct AtStart {
+    numbers: ServerNumbers,
+    // `memory`, or the path of the folder that is served
+    root: String,
+    // the capacity of a store in memory
+    capacity: u64,
+    start: Start,
+}
+
+/// A configuration that a server is about to take.
+#[derive(Drop)]
+pub struct NextConfig {
+    pub terms: Arc<Terms>,
+    /// Those that it states, with rows of the past.
+    pub limits: Limits,
+    pub numbers: ServerNumbers,
+    pub known: Known,
+    /// The facts that a status shows; none without memory for them.
+    pub facts: Option<StatusFacts>,
+}
+
+/// A reason in words; none if memory runs out.
+pub fn words<T: Display>(alloc: Global, reason: &T) -> Option<String> {
+    format!(in alloc; "{reason}").ok()
+}
+
+// The root of a store, as a configuration states it.
+fn root_of(store: &ServedStore) -> &str {
+    match store {
+        ServedStore::Memory(_) => "memory",
+        ServedStore::Folder(folder) => folder.as_str(),
+    }
+}
+
+// The capacity of a store in memory, as a configuration states it; 0 for a folder.
+fn capacity_of(store: &ServedStore) -> u64 {
+    match store {
+        ServedStore::Memory(store) => store.capacity(),
+        ServedStore::Folder(_) => 0,
+    }
+}
+
+impl AtStart {
+    /// Those of a configuration with these numbers and this store.
+    pub fn of(
+        alloc: Global,
+        numbers: ServerNumbers,
+        store: &ServedStore,
+        start: Start,
+    ) -> Result<AtStart, AllocError> {
+        Ok(AtStart {
+            numbers,
+            root: String::from_str(alloc, root_of(store))?,
+            capacity: capacity_of(store),
+            start,
+        })
+    }
+
+    // The reason for which a configuration cannot be taken while the server runs, if there is one.
+    fn hindrance(&self, alloc: Global, config: &Config) -> Option<Option<String>> {
+        let old = FixedValues {
+            numbers: self.numbers,
+            root: self.root.as_str(),
+            capacity: self.capacity,
+        };
+        let new = FixedValues {
+            numbers: config.numbers,
+            root: root_of(&config.store),
+            capacity: capacity_of(&config.store),
+        };
+        if let Some(key) = fixed_key(&old, &new) {
+            return Some(words(alloc, &key));
+        }
+        match count_fault(self.numbers.max_cons, 0, config.numbers.max_cons) {
+            Some(fault) => Some(words(alloc, &fault)),
+            None => None,
+        }
+    }
+}
+
+// The key of a rate of a way.
+fn key_of(way: Way) -> &'static str {
+    match way {
+        Way::Down => "down_rate",
+        Way::Up => "up_rate",
+    }
+}
+
+/// A limit in words: its key, and whose it is.
+pub fn limit_words(alloc: Global, known: &Known, name: Name) -> Option<String> {
+    let reported = match name {
+        Name::Server => String::from_str(alloc, "`rate` of the server"),
+        Name::Direction(way) => format!(in alloc; "`{}` of the server", key_of(way)),
+        Name::Group(way, group) => {
+            let name = known.groups.get(group as usize)?;
+            format!(in alloc; "`{}` of the group {:?}", key_of(way), name.as_str())
+        }
+        Name::User(way, user) => {
+            let name = known.user(user)?;
+            format!(in alloc; "`{}` of the user {name:?}", key_of(way))
+        }
+        Name::Session(way, user, _) => {
+            let name = known.user(user)?;
+            format!(in alloc; "`session_{}` of the user {name:?}", key_of(way))
+        }
+    };
+    reported.ok()
+}
+
+// The configuration of octets of the file at a path. `Err` is the reason for which they are none, with the path.
+fn config_of(alloc: Global, path: &str, octets: &[u8]) -> Result<Config, Option<String>> {
+    match Config::read(alloc, octets) {
+        Ok(config) => Ok(config),
+        Err(fault) => Err(format!(in alloc; "{path}: {fault}").ok()),
+    }
+}
+
+// A configuration with the numbers that its names are known by.
+fn with_numbers(alloc: Global, config: Config, known: &Known) -> Result<Config, Option<String>> {
+    let Ok(earlier) = known.authorizer(alloc) else {
+        return Err(None);
+    };
+    match renumbered(alloc, config, &earlier, &known.groups) {
+        Ok(config) => Ok(config),
+        Err(fault) => Err(words(alloc, &fault)),
+    }
+}
+
+// The parts of a configuration with these limits, the names of which follow those that were known.
+fn parts_of(
+    alloc: Global,
+    config: Config,
+    limits: Limits,
+    known: &Known,
+    facts: Option<StatusFacts>,
+) -> Result<NextConfig, Option<String>> {
+    let Some(copy) = copied_limits(alloc, &limits) else {
+        return Err(None);
+    };
+    let Config {
+        settings,
+        numbers,
+        users,
+        store: _,
+        limits: _,
+        groups,
+    } = config;
+    let Ok(known) = Known::of(alloc, &users, known.users(), groups, copy) else {
+        return Err(None);
+    };
+    let Ok(terms) = Arc::new(alloc, Terms { users, settings }) else {
+        return Err(None);
+    };
+    Ok(NextConfig {
+        terms,
+        limits,
+        numbers,
+        known,
+        facts,
+    })
+}
+
+/// The configuration of octets of the file at a path, for a server that knows these names. `Err` is the reason for which
+/// it cannot take them; none without memory for it.
+pub fn next_config(
+    alloc: Global,
+    path: &str,
+    octets: &[u8],
+    at_start: &AtStart,
+    known: &Known,
+) -> Result<NextConfig, Option<String>> {
+    let config = config_of(alloc, path, octets)?;
+    if let Some(reason) = at_start.hindrance(alloc, &config) {
+        return Err(reason);
+    }
+    let config = with_numbers(alloc, config, known)?;
+    let limits = match with_past(alloc, &config.limits, &known.limits) {
+        Ok(limits) => limits,
+        Err(fault) => return Err(words(alloc, &fault)),
+    };
+    let facts = facts_of(alloc, at_start.start, &config, &limits);
+    parts_of(alloc, config, limits, known, facts)
+}

@@ -1,0 +1,123 @@
+//! The names of users and groups that a server knows by numbers.
+
+ghost use Rattle.machine_parts.specs.Known.{AreBelow};
+
+use authorizer::{Authorizer, AuthorizerFault};
+use config_change::{NumberedName, known_names};
+use line_rates::Limits;
+use std::alloc::{AllocError, Global};
+
+/// A name that no user has: a configuration states names of one line.
+const NOBODY: &str = "\n";
+
+/// The names of users and groups, by their numbers; those of the past among them, which keep theirs.
+///
+/// It has no passwords and no homes: a type with an [`Authorizer`] in it cannot be among the signs of a server, since the
+/// borrow checker does not cover a call of `serve` with them.
+#[derive(Drop)]
+pub struct Known {
+    // in the order of their numbers
+    users: Vec<NumberedName>,
+    // the least number above all that users have or had
+    next: u64,
+    // the numbers of those who are users now, ascending
+    present: Vec<u32>,
+    /// The names of groups, by their numbers.
+    pub groups: Vec<String>,
+    /// The limits in force, with the rows of the past.
+    pub limits: Limits,
+    ghost below: { AreBelow users.items next },
+}
+
+/// The least number above those of all.
+fn next_number(users: &[NumberedName]) -> u64
+    ensures below { AreBelow users.now result }
+{
+    let mut next = 0;
+    for place in 0..users.len() {
+        next = next.max(u64::from(users[place].number) + 1);
+    }
+    next
+}
+
+/// Has an authorizer use the numbers from one up to another for nobody.
+fn skip(users: &mut Authorizer, from: u64, to: u64) -> Result<(), AuthorizerFault> {
+    for _ in from..to {
+        users.add_user(NOBODY, "", "/", "")?;
+        users.remove_user(NOBODY)?;
+    }
+    Ok(())
+}
+
+/// The numbers of users, ascending.
+fn present_of(alloc: Global, users: &Authorizer) -> Result<Vec<u32>, AllocError> {
+    let mut present = Vec::new(alloc);
+    for name in users.names(alloc)? {
+        if let Some(number) = users.number(name.as_str()) {
+            present.push(number)?;
+        }
+    }
+    present.sort_unstable();
+    Ok(present)
+}
+
+impl Known {
+    /// The names of these users, and of those who were known earlier.
+    pub fn of(
+        alloc: Global,
+        users: &Authorizer,
+        earlier: &[NumberedName],
+        groups: Vec<String>,
+        limits: Limits,
+    ) -> Result<Known, AllocError> {
+        let mut numbered = known_names(alloc, users, earlier)?;
+        numbered.sort_unstable_by_key(|user| user.number);
+        Ok(Known {
+            next: next_number(numbered.as_slice()),
+            users: numbered,
+            present: present_of(alloc, users)?,
+            groups,
+            limits,
+        })
+    }
+
+    /// Number of those who are users here, and no longer there.
+    pub fn gone(&self, next: &Known) -> u64 {
+        let mut count: u64 = 0;
+        for number in &self.present {
+            if next.present.binary_search(number).is_err() {
+                count = count.saturating_add(1);
+            }
+        }
+        count
+    }
+
+    /// The names of all who are or were users, with their numbers.
+    pub fn users(&self) -> &[NumberedName] {
+        self.users.as_slice()
+    }
+
+    /// The name of the user with a number.
+    pub fn user(&self, number: u32) -> Option<&str> {
+        for user in &self.users {
+            if user.number == number {
+                return Some(user.name.as_str());
+            }
+        }
+        None
+    }
+
+    /// An authorizer in which users of these names have these numbers, and new ones get others than anybody has had.
+    pub fn authorizer(&self, alloc: Global) -> Result<Authorizer, AuthorizerFault> {
+        let mut users = Authorizer::new(alloc)?;
+        let mut next = 0;
+        for user in &self.users {
+            let number = u64::from(user.number);
+            skip(&mut users, next, number)?;
+            users.add_user(user.name.as_str(), "", "/", "")?;
+            next = number + 1;
+        }
+        skip(&mut users, next, self.next)?;
+        Ok(users)
+    }
+}

@@ -1,0 +1,362 @@
+//! The threads that write notes and the transfer log.
+
+ghost use Rattle.std.specs.Prelude.{◌≡◌, MatchResult, false, true};
+
+use crate::log_file::LogFile;
+use crate::own_thread::{STACK, ThreadSigns, shared};
+use ftpd_program::ServeFault;
+use line_queue::{
+    LineOutlet, LogForm, Readiness, SharedLines, StandardError, transfers_dropped, write_lines,
+};
+use session_notes::TransferLog;
+use std::alloc::{AllocError, Global};
+use std::io;
+use std::sync::{Arc, Wait};
+use std::thread::{Builder, Threads};
+use std::time::Clock;
+use transfer_log::{FileTransfer, transfer_line};
+
+/// The transfer log of a server, whose lines a thread writes; none if no file is stated.
+#[derive(Drop)]
+pub struct QueuedTransfers<R: Wait + AllocGlobal> {
+    rt: R,
+    lines: Option<Arc<SharedLines>>,
+    // the notes, whose lost lines are counted with those of the log
+    notes: PlainNotes,
+}
+
+impl<R: Wait + AllocGlobal> QueuedTransfers<R> {
+    pub fn new(rt: R, lines: Option<Arc<SharedLines>>, notes: PlainNotes) -> QueuedTransfers<R> {
+        QueuedTransfers { rt, lines, notes }
+    }
+}
+
+impl<R: Wait + AllocGlobal> TransferLog for QueuedTransfers<R> {
+    fn append(&self, transfer: &FileTransfer<'_>) {
+        if let Some(lines) = &self.lines {
+            let line = transfer_line(self.rt.alloc(), transfer);
+            lines.transfer(&self.rt, line);
+        }
+    }
+
+    fn lost_lines(&self) -> u64 {
+        let lost = match &self.lines {
+            Some(lines) => lines.lost(),
+            None => 0,
+        };
+        lost.saturating_add(self.notes.lost_lines())
+    }
+}
+
+/// The head of a note with a count of dropped lines, in a form.
+fn count_head(form: LogForm) -> &'static str {
+    match form {
+        LogForm::Plain => "[WARN ] ",
+        LogForm::Journal => "<4>",
+    }
+}
+
+/// Notes without a time, under the head of a warning.
+#[derive(Drop)]
+pub struct PlainNotes {
+    form: LogForm,
+    lines: Arc<SharedLines>,
+}
+
+impl PlainNotes {
+    /// Number of the notes that were dropped so far.
+    pub fn lost_lines(&self) -> u64 {
+        self.lines.lost()
+    }
+
+    /// Notes the number of users that a new configuration has no longer.
+    pub fn note_gone<R: Wait + AllocGlobal>(&self, rt: &R, count: u64) {
+        let head = count_head(self.form);
+        let line = format!(in rt.alloc();
+            "{head}users that the new configuration has no longer: {count}\n"
+        );
+        self.lines.note(rt, line);
+    }
+
+    /// Notes that a file of the server's cannot be written; `what` says which.
+    pub fn note_unwritten<R: Wait + AllocGlobal>(
+        &self,
+        rt: &R,
+        what: &str,
+        path: &str,
+        reason: io::Error,
+    ) {
+        let head = count_head(self.form);
+        let line = format!(in rt.alloc();
+            "{head}the {what} {path:?} cannot be written: {reason}\n"
+        );
+        self.lines.note(rt, line);
+    }
+
+    /// Notes that the file of a sign cannot be examined.
+    pub fn note_unseen<R: Wait + AllocGlobal>(&self, rt: &R, path: &str, reason: io::Error) {
+        let head = count_head(self.form);
+        let line = format!(in rt.alloc(); "{head}the file {path:?} cannot be examined: {reason}\n");
+        self.lines.note(rt, line);
+    }
+}
+
+/// The notes as an outlet of another queue's counts.
+#[derive(Drop)]
+struct NoteOutlet<R: Wait + AllocGlobal> {
+    rt: R,
+    notes: Arc<SharedLines>,
+}
+
+// A copy of a line.
+fn copied(alloc: Global, octets: &[u8]) -> Result<String, AllocError> {
+    match str::from_utf8(octets) {
+        Ok(text) => String::from_str(alloc, text),
+        Err(_) => Err(AllocError),
+    }
+}
+
+impl<R: Wait + AllocGlobal> LineOutlet for NoteOutlet<R> {
+    fn readiness(&mut self, _millis: u16) -> Readiness {
+        Readiness::Ready
+    }
+
+    // A count is far below the greatest write, so these are a whole line.
+    fn write(&mut self, octets: &[u8], _goes_on: bool) -> usize {
+        let line = copied(self.rt.alloc(), octets);
+        self.notes.note(&self.rt, line);
+        octets.len()
+    }
+}
+
+/// The file of the transfer log, of which is noted once that it takes nothing, until it does.
+#[derive(Drop)]
+struct NotedLog<R: Wait + AllocGlobal> {
+    rt: R,
+    notes: PlainNotes,
+    file: LogFile,
+    is_noted: bool,
+}
+
+impl<R: Wait + AllocGlobal> NotedLog<R> {
+    // The number of octets that the file took, by its answer. That it takes none is noted once, until it does.
+    fn count(&mut self, answer: io::Result<usize>) -> usize
+        ensures taken { MatchResult answer (λ count. result ≡ count) (λ _. result ≡ 0) }
+        ensures noted { MatchResult answer (λ _. self.new.is_noted ≡ false)
+            (λ _. self.new.is_noted ≡ true) }
+    {
+        match answer {
+            Ok(count) => {
+                self.is_noted = false;
+                count
+            }
+            Err(reason) => {
+                if !self.is_noted {
+                    let path = self.file.path();
+                    self.notes
+                        .note_unwritten(&self.rt, "transfer log", path, reason);
+                }
+                self.is_noted = true;
+                0
+            }
+        }
+    }
+}
+
+impl<R: Wait + AllocGlobal> LineOutlet for NotedLog<R> {
+    fn readiness(&mut self, _millis: u16) -> Readiness {
+        Readiness::Ready
+    }
+
+    fn write(&mut self, octets: &[u8], goes_on: bool) -> usize {
+        let answer = self.file.append(octets, goes_on);
+        self.count(answer)
+    }
+
+    fn follow(&mut self) -> bool {
+        self.file.reopen()
+    }
+}
+
+/// The end of a queue that nothing is written to.
+#[derive(Clone, Copy)]
+struct NoOutlet;
+
+impl LineOutlet for NoOutlet {
+    fn readiness(&mut self, _millis: u16) -> Readiness {
+        Readiness::Gone
+    }
+
+    fn write(&mut self, _octets: &[u8], _goes_on: bool) -> usize {
+        0
+    }
+}
+
+/// Lines that a thread writes, which nobody waits for.
+#[derive(Drop)]
+struct LineThread {
+    lines: Arc<SharedLines>,
+    signs: ThreadSigns,
+}
+
+impl LineThread {
+    fn new(alloc: Global) -> Result<Arc<LineThread>, AllocError> {
+        let lines = shared(alloc, SharedLines::new(alloc)?)?;
+        shared(
+            alloc,
+            LineThread {
+                lines,
+                signs: ThreadSigns::new(),
+            },
+        )
+    }
+
+    // Writes the lines until no more come and the last are written, or a second has passed since.
+    fn write<R, N, T>(&self, rt: &R, head: &str, notes: &mut N, transfers: &mut T)
+    where
+        R: Wait + Clock + AllocGlobal,
+        N: LineOutlet,
+        T: LineOutlet,
+    {
+        write_lines(rt, &self.lines, head, notes, transfers);
+        self.signs.end();
+    }
+
+    // No more lines come: waits for the end of the thread, at most a second.
+    fn leave<R: Wait + Clock>(&self, rt: &R) {
+        self.lines.close();
+        self.signs.leave(rt);
+    }
+}
+
+/// The notes and the transfer log of a server, each written by a thread of its own: a log that hangs holds no note.
+#[derive(Drop)]
+pub struct LogThreads {
+    // that of the notes
+    form: LogForm,
+    notes: Arc<LineThread>,
+    transfers: Arc<LineThread>,
+    // there is a transfer log
+    is_logged: bool,
+}
+
+// Starts the thread of notes.
+fn start_notes<R>(rt: &R, head: &'static str, thread: Arc<LineThread>) -> Result<(), ServeFault>
+where
+    R: Threads + Wait + Clock + AllocGlobal + Copy + Send + Sync + 'static,
+{
+    let runtime = *rt;
+    let started = Builder::new().stack_size(STACK).spawn(rt, move || {
+        thread.write(&runtime, head, &mut StandardError, &mut NoOutlet);
+    });
+    match started {
+        Ok(_) => Ok(()),
+        Err(_) => Err(ServeFault::NoThread),
+    }
+}
+
+// Starts the thread of the transfer log, whose counts are among the notes.
+fn start_transfers<R>(
+    rt: &R,
+    file: LogFile,
+    thread: Arc<LineThread>,
+    notes: PlainNotes,
+    counts: Arc<SharedLines>,
+) -> Result<(), ServeFault>
+where
+    R: Threads + Wait + Clock + AllocGlobal + Copy + Send + Sync + 'static,
+{
+    let runtime = *rt;
+    let head = count_head(notes.form);
+    let started = Builder::new().stack_size(STACK).spawn(rt, move || {
+        let mut counts = NoteOutlet {
+            rt: runtime,
+            notes: counts,
+        };
+        let mut log = NotedLog {
+            rt: runtime,
+            notes,
+            file,
+            is_noted: false,
+        };
+        thread.write(&runtime, head, &mut counts, &mut log);
+    });
+    match started {
+        Ok(_) => Ok(()),
+        Err(_) => Err(ServeFault::NoThread),
+    }
+}
+
+impl LogThreads {
+    /// Starts the thread of notes, and that of the transfer log if there is a file. Fails without a thread, or memory.
+    pub fn start<R>(
+        rt: &R,
+        alloc: Global,
+        form: LogForm,
+        file: Option<LogFile>,
+    ) -> Result<LogThreads, ServeFault>
+    where
+        R: Threads + Wait + Clock + AllocGlobal + Copy + Send + Sync + 'static,
+    {
+        let head = count_head(form);
+        let notes = LineThread::new(alloc)?;
+        let transfers = LineThread::new(alloc)?;
+        let is_logged = file.is_some();
+        start_notes(rt, head, Arc::try_clone(&notes)?)?;
+        match file {
+            Some(file) => {
+                let own = Arc::try_clone(&transfers)?;
+                let counts = Arc::try_clone(&notes.lines)?;
+                let lines = Arc::try_clone(&notes.lines)?;
+                start_transfers(rt, file, own, PlainNotes { form, lines }, counts)?;
+            }
+            None => transfers.signs.end(),
+        }
+        Ok(LogThreads {
+            form,
+            notes,
+            transfers,
+            is_logged,
+        })
+    }
+
+    /// The form of the notes.
+    pub fn form(&self) -> LogForm {
+        self.form
+    }
+
+    /// Notes without a time.
+    pub fn plain_notes(&self) -> Result<PlainNotes, AllocError> {
+        Ok(PlainNotes {
+            form: self.form,
+            lines: self.notes()?,
+        })
+    }
+
+    /// The lines of notes.
+    pub fn notes(&self) -> Result<Arc<SharedLines>, AllocError> {
+        Arc::try_clone(&self.notes.lines)
+    }
+
+    /// The lines of the transfer log, if there is one.
+    pub fn transfers(&self) -> Result<Option<Arc<SharedLines>>, AllocError> {
+        if !self.is_logged {
+            return Ok(None);
+        }
+        let lines = Arc::try_clone(&self.transfers.lines)?;
+        Ok(Some(lines))
+    }
+
+    /// No more lines come: waits until those of the transfer log are written, and then the notes, at most a second each.
+    /// Lines of the transfer log that are left then are lost: their number is the last note, and is returned.
+    pub fn leave<R: Wait + Clock + AllocGlobal>(&self, rt: &R) -> u64 {
+        self.transfers.leave(rt);
+        let lost = self.transfers.lines.give_up(rt);
+        if lost > 0 {
+            let line = transfers_dropped(rt.alloc(), count_head(self.form), lost);
+            self.notes.lines.note(rt, line);
+        }
+        self.notes.leave(rt);
+        lost
+    }
+}

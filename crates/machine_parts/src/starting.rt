@@ -1,0 +1,488 @@
+//! The files and sockets that a server needs from the machine at its start.
+
+use crate::asked::{AskedService, ReadText, SignPaths, WrittenPaths};
+use crate::log_file::LogFile;
+use crate::page_thread::PageSocket;
+use crate::ready_file::MachineReadyFile;
+use crate::running_file::RUNNING_MODE;
+use crate::sign_file::SignFile;
+use crate::stated_files::{FRONT, found_at, twin_of};
+use crate::status_file::{STATUS_MODE, StatusFile};
+use client_patience::Patience;
+use ftpd_program::{
+    IdleOption, ServeFault, StartFault, idle_sessions, idle_sync, is_for_nothing, is_free_for_log,
+    is_free_for_status, reads_input_again, stated_sessions,
+};
+use line_queue::LogForm;
+use server_config::{Config, ServedStore};
+use std::alloc::AllocError;
+use std::net::{Net, TcpListener, TcpStream};
+use std::{fs, io};
+
+/// The signs of the owner, those that there are to be.
+#[derive(Drop)]
+pub struct Signs {
+    pub stop: Option<SignFile>,
+    pub drain: Option<SignFile>,
+    /// The sign that the configuration is to be read again.
+    pub reload: Option<SignFile>,
+    /// The sign that sessions are to end, with its path again.
+    pub end: Option<(SignFile, String)>,
+}
+
+/// The files and the socket that show the state of a server, those that there are to be.
+#[derive(Drop)]
+pub struct Shown {
+    pub running: Option<StatusFile>,
+    pub status: Option<StatusFile>,
+    pub page: Option<PageSocket>,
+}
+
+/// The means of a server: its configuration, its files and sockets.
+#[derive(Drop)]
+pub struct Means {
+    pub read: ReadText,
+    pub signs: Signs,
+    pub shown: Shown,
+    pub form: LogForm,
+    /// The transfer log, if there is to be one, until its thread takes it.
+    pub log: Option<LogFile>,
+    /// Each file that is received is written to the device before its end is told.
+    pub syncs: bool,
+    /// The greatest number of sessions in which one user is logged in; 0 is no limit.
+    pub user_sessions: u32,
+    pub patience: Patience,
+}
+
+/// A server that may start, and its ready file, if it is to have one.
+#[derive(Drop)]
+pub struct Prepared {
+    pub means: Means,
+    pub ready: Option<MachineReadyFile>,
+}
+
+/// The fault of a start, and the reason in the machine's words, if it is known.
+#[derive(Drop)]
+pub struct Unprepared {
+    pub fault: ServeFault,
+    pub start: Option<StartFault>,
+}
+
+fn not_prepared(fault: ServeFault, start: StartFault) -> Unprepared {
+    Unprepared {
+        fault,
+        start: Some(start),
+    }
+}
+
+/// Number of the machine's error "Not a directory".
+const NOT_A_DIRECTORY: i32 = 20;
+
+/// Returns the machine's reason for which there is no folder at a path, if there is one.
+fn no_folder(machine: &HostRuntime, path: &str) -> Option<io::Error> {
+    match fs::metadata(machine, path) {
+        Ok(found) if found.is_dir() => None,
+        Ok(_) => Some(io::Error::from_raw_os_error(NOT_A_DIRECTORY)),
+        Err(reason) => Some(reason),
+    }
+}
+
+/// Returns the path of the folder of a file.
+fn folder_of(path: &str) -> &str {
+    match path.rsplit_once('/') {
+        None => ".",
+        Some(("", _)) => "/",
+        Some((folder, _)) => folder,
+    }
+}
+
+/// The reason for which no file can appear at a path.
+#[derive(Clone, Copy)]
+enum Hindrance {
+    /// There is something at the path.
+    There,
+    /// The machine's reason.
+    Reported(io::Error),
+}
+
+/// Returns the reason for which no file can appear at a path, if there is one.
+fn hindrance_at(machine: &HostRuntime, path: &str) -> Option<Hindrance> {
+    let reason = match fs::metadata(machine, path) {
+        Ok(_) => return Some(Hindrance::There),
+        Err(reason) if reason.kind() != io::ErrorKind::NotFound => Some(reason),
+        Err(_) => no_folder(machine, folder_of(path)),
+    };
+    match reason {
+        Some(reason) => Some(Hindrance::Reported(reason)),
+        None => None,
+    }
+}
+
+/// A sign of the owner's.
+#[derive(Clone, Copy)]
+enum Sign {
+    Stop,
+    Drain,
+    Reload,
+    End,
+}
+
+/// Returns the fault of a start whose sign could not be noticed at a path.
+fn sign_fault(sign: Sign, path: String, hindrance: Hindrance) -> StartFault {
+    match (sign, hindrance) {
+        (Sign::Stop, Hindrance::There) => StartFault::StopFileThere { path },
+        (Sign::Stop, Hindrance::Reported(reason)) => StartFault::StopFileUnseen { path, reason },
+        (Sign::Drain, Hindrance::There) => StartFault::DrainFileThere { path },
+        (Sign::Drain, Hindrance::Reported(reason)) => StartFault::DrainFileUnseen { path, reason },
+        (Sign::Reload, Hindrance::There) => StartFault::ReloadFileThere { path },
+        (Sign::Reload, Hindrance::Reported(reason)) => StartFault::ReloadFileUnseen {
+            path,
+            reason,
+        },
+        (Sign::End, Hindrance::There) => StartFault::EndFileThere { path },
+        (Sign::End, Hindrance::Reported(reason)) => StartFault::EndFileUnseen { path, reason },
+    }
+}
+
+/// Returns the sign at a path, if there is to be one. `Err` if no file there could be noticed.
+fn sign_if_any(
+    machine: &HostRuntime,
+    sign: Sign,
+    path: Option<String>,
+) -> Result<Option<SignFile>, StartFault> {
+    let Some(path) = path else {
+        return Ok(None);
+    };
+    match hindrance_at(machine, path.as_str()) {
+        Some(hindrance) => Err(sign_fault(sign, path, hindrance)),
+        None => Ok(Some(SignFile::new(*machine, path))),
+    }
+}
+
+/// Returns the end file at a path, with the path again, if there is to be one. `Err` if no file there could be noticed.
+fn end_if_any(
+    machine: &HostRuntime,
+    path: Option<String>,
+) -> Result<Option<(SignFile, String)>, Unprepared> {
+    let sign = part(sign_if_any(machine, Sign::End, path), ServeFault::EndFile)?;
+    let Some(sign) = sign else {
+        return Ok(None);
+    };
+    match String::from_str(machine.alloc(), sign.path()) {
+        Ok(path) => Ok(Some((sign, path))),
+        Err(_) => Err(Unprepared {
+            fault: ServeFault::Memory,
+            start: None,
+        }),
+    }
+}
+
+fn ready_if_any(
+    machine: &HostRuntime,
+    path: Option<String>,
+) -> Result<Option<MachineReadyFile>, StartFault> {
+    match path {
+        Some(path) => match ready_at(machine, path) {
+            Ok(ready) => Ok(Some(ready)),
+            Err(start) => Err(start),
+        },
+        None => Ok(None),
+    }
+}
+
+/// Returns the ready file at a path. `Err` if there is something at the path, or if no file could be made there.
+fn ready_at(machine: &HostRuntime, path: String) -> Result<MachineReadyFile, StartFault> {
+    match hindrance_at(machine, path.as_str()) {
+        Some(Hindrance::There) => Err(StartFault::ReadyFileThere { path }),
+        Some(Hindrance::Reported(reason)) => Err(StartFault::ReadyFileUnmade { path, reason }),
+        None => Ok(MachineReadyFile {
+            machine: *machine,
+            path,
+            is_there: false,
+        }),
+    }
+}
+
+/// Returns the form of a name; plain if none is stated. `Err` if no form has this name.
+fn form_named(name: Option<String>) -> Result<LogForm, StartFault> {
+    let Some(word) = name else {
+        return Ok(LogForm::Plain);
+    };
+    match word.as_str() {
+        "plain" => Ok(LogForm::Plain),
+        "journal" => Ok(LogForm::Journal),
+        _ => Err(StartFault::UnknownForm { word }),
+    }
+}
+
+/// Returns the number of sessions that a word states; 0, which is no limit, if none is stated. `Err` if it states none.
+fn sessions_in(word: Option<String>) -> Result<u32, StartFault> {
+    let Some(word) = word else {
+        return Ok(0);
+    };
+    match stated_sessions(word.as_str()) {
+        Some(sessions) => Ok(sessions),
+        None => Err(StartFault::NoSessions { word }),
+    }
+}
+
+/// Adds a line on an option, if it has no effect.
+fn add_idle(warnings: &mut String, option: Option<IdleOption>) -> Result<(), AllocError> {
+    match option {
+        Some(option) => writeln!(warnings, "{option}"),
+        None => Ok(()),
+    }
+}
+
+/// Returns the texts of warnings, a line each, with those of options that have no effect.
+fn with_idle(
+    warnings: String,
+    config: &Config,
+    syncs: bool,
+    user_sessions: u32,
+) -> Result<String, Unprepared> {
+    let mut warnings = warnings;
+    let is_in_memory = matches!(&config.store, ServedStore::Memory(_));
+    let sync = add_idle(&mut warnings, idle_sync(syncs, is_in_memory));
+    let sessions = add_idle(
+        &mut warnings,
+        idle_sessions(user_sessions, config.numbers.max_cons),
+    );
+    if sync.is_err() || sessions.is_err() {
+        return Err(Unprepared {
+            fault: ServeFault::Memory,
+            start: None,
+        });
+    }
+    Ok(warnings)
+}
+
+/// Returns the transfer log at a path, if there is to be one. `Err` if its file cannot be opened.
+fn log_at(machine: &HostRuntime, path: Option<String>) -> Result<Option<LogFile>, StartFault> {
+    match path {
+        None => Ok(None),
+        Some(path) => match LogFile::at(*machine, log_path(machine, path)?) {
+            Ok(file) => Ok(Some(file)),
+            Err((path, reason)) => Err(StartFault::TransferLogUnopened { path, reason }),
+        },
+    }
+}
+
+/// Returns the fault of a start whose folder is not there, if it is not.
+fn folder_fault(machine: &HostRuntime, store: &ServedStore) -> Option<StartFault> {
+    let ServedStore::Folder(folder) = store else {
+        return None;
+    };
+    let reason = no_folder(machine, folder.as_str())?;
+    match String::from_str(machine.alloc(), folder.as_str()) {
+        Ok(path) => Some(StartFault::Folder { path, reason }),
+        Err(_) => None,
+    }
+}
+
+/// Returns the path of a status, at which nothing else is. `Err` if there is.
+fn status_path(machine: &HostRuntime, path: String) -> Result<String, StartFault> {
+    let mut octets = [0; FRONT];
+    match found_at(machine, path.as_str(), &mut octets) {
+        Ok(found) if is_free_for_status(found) => Ok(path),
+        Ok(_) => Err(StartFault::NoStatus { path }),
+        Err(reason) => Err(StartFault::StatusUnwritten { path, reason }),
+    }
+}
+
+/// Returns the path of a transfer log, at which nothing else is. `Err` if there is.
+fn log_path(machine: &HostRuntime, path: String) -> Result<String, StartFault> {
+    let mut octets = [0; FRONT];
+    match found_at(machine, path.as_str(), &mut octets) {
+        Ok(found) if is_free_for_log(found) => Ok(path),
+        Ok(_) => Err(StartFault::NoTransferLog { path }),
+        Err(reason) => Err(StartFault::TransferLogUnopened { path, reason }),
+    }
+}
+
+/// Fails if two paths of a service are those of one file.
+fn check_twins(machine: &HostRuntime, service: &AskedService) -> Result<(), Unprepared> {
+    match twin_of(machine, machine.alloc(), service) {
+        Ok(None) => Ok(()),
+        Ok(Some(path)) => Err(not_prepared(ServeFault::OnePath, StartFault::OnePath { path })),
+        Err(_) => Err(Unprepared {
+            fault: ServeFault::Memory,
+            start: None,
+        }),
+    }
+}
+
+/// Returns the status file at these paths, if there is to be one. `Err` if none can be written there.
+fn status_at(
+    machine: &HostRuntime,
+    paths: Option<(String, String)>,
+) -> Result<Option<StatusFile>, StartFault> {
+    let Some((path, beside)) = paths else {
+        return Ok(None);
+    };
+    let path = status_path(machine, path)?;
+    let file = StatusFile::new(*machine, path, beside, STATUS_MODE);
+    match file.try_out() {
+        Ok(()) => Ok(Some(file)),
+        Err(reason) => Err(StartFault::StatusUnwritten {
+            path: file.into_path(),
+            reason,
+        }),
+    }
+}
+
+/// Returns the running file at these paths, if there is to be one. Whether it can be written is noted later.
+fn running_at(machine: &HostRuntime, paths: Option<(String, String)>) -> Option<StatusFile> {
+    let (path, beside) = paths?;
+    Some(StatusFile::new(*machine, path, beside, RUNNING_MODE))
+}
+
+/// Returns the socket of the status page at a port, if there is to be one. `Err` if it cannot be had.
+fn page_at<R>(rt: &R, port: Option<u16>) -> Result<Option<PageSocket>, StartFault>
+where
+    R: Net<Listener = TcpListener, Stream = TcpStream>,
+{
+    let Some(port) = port else {
+        return Ok(None);
+    };
+    match PageSocket::new(rt, port) {
+        Ok(socket) => Ok(Some(socket)),
+        Err(reason) => Err(StartFault::StatusPortTaken { port, reason }),
+    }
+}
+
+/// A part of a service, or the fault of its start.
+fn part<T>(made: Result<T, StartFault>, fault: ServeFault) -> Result<T, Unprepared> {
+    match made {
+        Ok(part) => Ok(part),
+        Err(start) => Err(not_prepared(fault, start)),
+    }
+}
+
+/// Returns the signs at these paths. `Err` says what could not be had.
+fn signs_at(machine: &HostRuntime, paths: SignPaths) -> Result<Signs, Unprepared> {
+    let SignPaths {
+        stop,
+        drain,
+        reload,
+        end,
+    } = paths;
+    let stop = part(sign_if_any(machine, Sign::Stop, stop), ServeFault::Stopped)?;
+    let drain = part(
+        sign_if_any(machine, Sign::Drain, drain),
+        ServeFault::Stopped,
+    )?;
+    let reload = part(
+        sign_if_any(machine, Sign::Reload, reload),
+        ServeFault::ReloadFile,
+    )?;
+    let end = end_if_any(machine, end)?;
+    Ok(Signs {
+        stop,
+        drain,
+        reload,
+        end,
+    })
+}
+
+/// Returns what shows the state, and the transfer log, at these paths and this port. `Err` says what could not be had.
+fn shown_at<R>(
+    rt: &R,
+    machine: &HostRuntime,
+    written: WrittenPaths,
+    port: Option<u16>,
+) -> Result<(Shown, Option<LogFile>), Unprepared>
+where
+    R: Net<Listener = TcpListener, Stream = TcpStream>,
+{
+    let WrittenPaths {
+        ready: _,
+        log,
+        status,
+        running,
+    } = written;
+    let running = running_at(machine, running);
+    let status = part(status_at(machine, status), ServeFault::StatusFile)?;
+    let page = part(page_at(rt, port), ServeFault::StatusPort)?;
+    let log = part(log_at(machine, log), ServeFault::TransferLog)?;
+    let shown = Shown {
+        running,
+        status,
+        page,
+    };
+    Ok((shown, log))
+}
+
+/// Fails if options contradict each other.
+fn check_options(patience: Patience, read: &ReadText, signs: &SignPaths) -> Result<(), Unprepared> {
+    if is_for_nothing(patience, signs.drain.is_some()) {
+        return Err(not_prepared(ServeFault::DrainSeconds, StartFault::NothingDrains));
+    }
+    if reads_input_again(read.path.as_str(), signs.reload.is_some()) {
+        return Err(not_prepared(ServeFault::ReloadFile, StartFault::InputAgain));
+    }
+    Ok(())
+}
+
+/// The configuration of a service, with warnings of options that have no effect. `Err` if memory runs out.
+fn warned(read: ReadText, syncs: bool, user_sessions: u32) -> Result<ReadText, Unprepared> {
+    let ReadText {
+        path,
+        config,
+        warnings,
+        octets,
+    } = read;
+    let warnings = with_idle(warnings, &config, syncs, user_sessions)?;
+    Ok(ReadText {
+        path,
+        config,
+        warnings,
+        octets,
+    })
+}
+
+/// Prepares a service. `Err` says what could not be had.
+pub fn prepare<R>(
+    rt: &R,
+    machine: &HostRuntime,
+    service: AskedService,
+) -> Result<Prepared, Unprepared>
+where
+    R: Net<Listener = TcpListener, Stream = TcpStream>,
+{
+    check_twins(machine, &service)?;
+    let AskedService {
+        read,
+        signs,
+        mut written,
+        log_form,
+        status_port,
+        syncs,
+        user_sessions,
+        patience,
+    } = service;
+    let form = part(form_named(log_form), ServeFault::LogForm)?;
+    let user_sessions = part(sessions_in(user_sessions), ServeFault::UserSessions)?;
+    check_options(patience, &read, &signs)?;
+    let read = warned(read, syncs, user_sessions)?;
+    let signs = signs_at(machine, signs)?;
+    let ready = part(
+        ready_if_any(machine, written.ready.take()),
+        ServeFault::ReadyFile,
+    )?;
+    if let Some(start) = folder_fault(machine, &read.config.store) {
+        return Err(not_prepared(ServeFault::Store, start));
+    }
+    let (shown, log) = shown_at(rt, machine, written, status_port)?;
+    let means = Means {
+        read,
+        signs,
+        shown,
+        form,
+        log,
+        syncs,
+        user_sessions,
+        patience,
+    };
+    Ok(Prepared { means, ready })
+}

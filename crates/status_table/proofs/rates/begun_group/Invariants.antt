@@ -1,0 +1,9 @@
+use Rattle.std.proofs.Common.{◌≡◌, min, take}
+use Rattle.std.specs.Prelude.{if◌then◌else◌}
+use Rattle.std.specs.List.{sum_by}
+use Rattle.status_table.specs.Rates.{is_of, most, since_begin}
+use Rattle.status_table.proofs.rates.begun_group.Given as goal
+
+abbrev pub invariant-loop-transfer : goal.invariant-loop-transfer
+invariant-loop-transfer l =
+    l.total ≡ min (sum_by (λ t. if is_of l.way l.name t then since_begin l.now t else 0) (take l.transfer-index l.now.transfers.items)) most

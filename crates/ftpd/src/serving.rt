@@ -350,9 +350,8 @@ where
     ensures issued { IfOk result (λ s. s.issued ≡ granted_to Server (rounds_of s)) }
     ensures every_second { IfOk result (λ s. StretchesKeep (rounds_of s)) }
     ensures kept { IfOk result (λ s. IsWithinRates (rounds_of s) s.opened s.latest) }
-    ensures fixed { config.parts.limits.server ≢ 0
-        → IfOk result (λ s.
-        s.issued ≤ seconds_from s.opened s.latest * config.parts.limits.server) }
+    ensures fixed { IfOk result (λ s. config.parts.limits.server ≢ 0
+        → s.issued ≤ seconds_from s.opened s.latest * config.parts.limits.server) }
 {
     serve_config(rt, config, handler, machine, signs, leaves, output)
 }
@@ -374,9 +373,8 @@ where
     ensures every_second { IfOk result (λ s. StretchesKeep (rounds_of s)) }
     ensures kept { IfOk result (λ s. IsWithinRates (rounds_of s) s.opened s.latest) }
     ensures fixed { guidance.reload ≡ None
-        → config.parts.limits.server ≢ 0
-        → IfOk result (λ s.
-        s.issued ≤ seconds_from s.opened s.latest * config.parts.limits.server) }
+        → IfOk result (λ s. config.parts.limits.server ≢ 0
+        → s.issued ≤ seconds_from s.opened s.latest * config.parts.limits.server) }
 {
     let Guidance {
         fixed,
@@ -411,9 +409,8 @@ where
     ensures every_second { IfOk result (λ s. StretchesKeep (rounds_of s)) }
     ensures kept { IfOk result (λ s. IsWithinRates (rounds_of s) s.opened s.latest) }
     ensures fixed { means.signs.reload ≡ None
-        → means.read.config.limits.server ≢ 0
-        → IfOk result (λ s.
-        s.issued ≤ seconds_from s.opened s.latest * means.read.config.limits.server) }
+        → IfOk result (λ s. means.read.config.limits.server ≢ 0
+        → s.issued ≤ seconds_from s.opened s.latest * means.read.config.limits.server) }
 {
     let Means {
         read,
@@ -474,9 +471,8 @@ where
     ensures every_second { IfOk result (λ s. StretchesKeep (rounds_of s)) }
     ensures kept { IfOk result (λ s. IsWithinRates (rounds_of s) s.opened s.latest) }
     ensures fixed { means.signs.reload ≡ None
-        → means.read.config.limits.server ≢ 0
-        → IfOk result (λ s.
-        s.issued ≤ seconds_from s.opened s.latest * means.read.config.limits.server) }
+        → IfOk result (λ s. means.read.config.limits.server ≢ 0
+        → s.issued ≤ seconds_from s.opened s.latest * means.read.config.limits.server) }
 {
     let mut means = means;
     let log = LogThreads::start(rt, machine.alloc(), means.form, means.log.take())?;

@@ -3,7 +3,7 @@
 /// The policy for browsers: they may run the script of the page and use its style, by their hashes, and ask the server
 /// itself. `tools/page-policy --write` computes the hashes.
 pub const POLICY: &str =
-    "default-src 'none'; connect-src 'self'; script-src 'sha256-SVsJ9zZXhJDvIXaQRS31GN+cYFXh7MV6tlm7HNv2dRE='; style-src 'sha256-S2OK/3jFGzhxX59B5bvWp9SZKq5+ulgFhhsqoTbxAT4='; base-uri 'none'; form-action 'none'; frame-ancestors 'none'";
+    "default-src 'none'; connect-src 'self'; script-src 'sha256-tAD4mQWDZOjJidfCLyRvSeiag3UW5mbDNPzX8J4hUmk='; style-src 'sha256-S2OK/3jFGzhxX59B5bvWp9SZKq5+ulgFhhsqoTbxAT4='; base-uri 'none'; form-action 'none'; frame-ancestors 'none'";
 
 /// The page. It asks for `status.json` once a second, and shows each text in it as text.
 pub const PAGE: &str = r##"<!doctype html>
@@ -185,7 +185,7 @@ function setSize(chart, wide, high) {
   chart.replaceChildren();
 }
 
-// What holds a transfer back: a limit, by the name that `ftpd plan` gives it, or its client.
+// The limit that holds a transfer back, by the name that `ftpd plan` gives it; its client for none.
 function limitName(kind, { direction, group, user }, most) {
   if (kind === "direction") return "server " + direction;
   if (kind === "group") return `group ${cut(group ?? "?", most)} ${direction}`;

@@ -1,0 +1,12 @@
+mod OwnSums
+mod Reaching
+mod Debts
+mod Given
+mod Accounts
+mod Kept
+mod Earning
+mod Rated
+mod RowsKept
+mod PartsLeft
+mod Sure
+mod Tenths

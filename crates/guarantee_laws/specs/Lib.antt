@@ -1,0 +1,4 @@
+pub mod Account
+pub mod Reached
+pub mod SessionRounds
+pub mod Sure

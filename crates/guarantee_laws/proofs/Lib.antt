@@ -10,3 +10,4 @@ mod RowsKept
 mod PartsLeft
 mod Sure
 mod Tenths
+mod Uncut

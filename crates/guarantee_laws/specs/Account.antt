@@ -1,5 +1,5 @@
 -- The account of a guarantee in the rounds of a second: what is granted, still owed, and lost.
-use Rattle.std.specs.Prelude.{◌≡◌, ℕ, ◌+◌, ◌-◌, ◌*◌, ◌/◌, ◌≤◌, max, true, nat_le, if◌then◌else◌, List, [], ◌∷◌, ◌++◌, sum_by}
+use Rattle.std.specs.Prelude.{◌≡◌, ℕ, ◌+◌, ◌-◌, ◌*◌, ◌/◌, ◌≤◌, max, Bool, true, ◌&&◌, nat_le, if◌then◌else◌, List, [], ◌∷◌, ◌++◌, sum_by}
 use Rattle.line_rates.specs.Rates.{Rates}
 use Rattle.round_pace.specs.declared.credit.TheConstants.{TICKS, MOST_OWED}
 use Rattle.round_pace.specs.Earned.{tick_of, share}
@@ -82,6 +82,29 @@ GuaranteesToTheOctet =
     → cut_in rates s p (hs ++ h ∷ []) ≡ 0
     → share (guarantee rates s) (ticks_from second p.begun (tick_of h.now + 1))
     ≤ granted_in s (hs ++ h ∷ [])
+
+-- the same as a test
+abbrev pub asks_for_all : Rates → SessionWay → Paced → Held → Bool
+asks_for_all rates s p h =
+    asks_in rates s p h && nat_le (owed s (offered_in p h) / TICKS) (handed_in rates s p h)
+
+-- In each of some rounds, the guarantee for the ticks of the second that have begun since the
+-- session was handed in all whole octets that it was owed is less than that of a tenth of a second,
+-- by an octet.
+abbrev pub AreInTime : Rates → SessionWay → ℕ → ℕ → Paced → List Held → Type 0
+AreInTime rates s second last p [] = Unit {0}
+AreInTime rates s second last p (h ∷ hs) =
+    (guarantee rates s * ticks_from second last (tick_of h.now + 1) + (TICKS - 1)
+    ≤ guarantee rates s * MOST_OWED)
+    × AreInTime rates s second
+    (if asks_for_all rates s p h then tick_of h.now + 1 else last) (after p h) hs
+
+-- Then nothing is cut, from the beginning of the second on.
+abbrev pub NothingIsCut : Type 0
+NothingIsCut =
+    (rates : Rates) (s : SessionWay) (second : ℕ) (p : Paced) (hs : List Held) → IsReached rates p
+    → AreHeld p hs → AreIn second hs → p.begun ≤ TICKS * second
+    → AreInTime rates s second p.begun p hs → cut_in rates s p hs ≡ 0
 
 -- Its rounds are then such as are owed a guarantee, and nothing of it is cut.
 abbrev pub RoundsAreOwed : Type 0

@@ -1,6 +1,6 @@
 //! Laws over the definitions.
 
-ghost use Rattle.guarantee_laws.specs.Account.{SecondsAreWhole, GuaranteesAreAccounted, GuaranteesOverTime, GuaranteesToTheOctet, RoundsAreOwed, UncutIsPrompt};
+ghost use Rattle.guarantee_laws.specs.Account.{SecondsAreWhole, GuaranteesAreAccounted, GuaranteesOverTime, GuaranteesToTheOctet, NothingIsCut, RoundsAreOwed, UncutIsPrompt};
 ghost use Rattle.guarantee_laws.specs.Reached.{NewIsReached, EachRoundIsReached};
 ghost use Rattle.guarantee_laws.specs.SessionRounds.{TenthIsEnough};
 ghost use Rattle.guarantee_laws.specs.Sure.{AsksAreSure, AsksKeepGuarantees};
@@ -27,6 +27,7 @@ pub fn guarantees_are_kept_over_time()
     ensures accounted { GuaranteesAreAccounted }
     ensures kept { GuaranteesOverTime }
     ensures octet { GuaranteesToTheOctet }
+    ensures uncut { NothingIsCut }
     ensures second { SecondsAreWhole }
 {
     histories_keep_rates();

@@ -1,6 +1,7 @@
 use Rattle.guarantee_laws.proofs.Accounts.{accounted}
 use Rattle.guarantee_laws.proofs.Kept.{over_time, to_the_octet}
 use Rattle.guarantee_laws.proofs.Tenths.{seconds_are_whole}
+use Rattle.guarantee_laws.proofs.Uncut.{nothing_is_cut}
 use Rattle.guarantee_laws.proofs.laws.guarantees_are_kept_over_time.Goals as goal
 
 pub returns : goal.returns
@@ -14,5 +15,6 @@ returns c =
       accounted = accounted begin stay changed;
       kept = over_time begin stay changed next gives;
       octet = to_the_octet begin stay changed next gives;
+      uncut = nothing_is_cut begin stay changed next gives;
       second = seconds_are_whole;
     }

@@ -11,3 +11,5 @@ mod PartsLeft
 mod Sure
 mod Tenths
 mod Uncut
+mod OneAsk
+mod Examples

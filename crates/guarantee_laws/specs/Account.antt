@@ -90,7 +90,7 @@ asks_for_all rates s p h =
 
 -- In each of some rounds, the guarantee for the ticks of the second that have begun since the
 -- session was handed in all whole octets that it was owed is less than that of a tenth of a second,
--- by an octet.
+-- by 499 500ths of an octet.
 abbrev pub AreInTime : Rates → SessionWay → ℕ → ℕ → Paced → List Held → Type 0
 AreInTime rates s second last p [] = Unit {0}
 AreInTime rates s second last p (h ∷ hs) =

@@ -1,13 +1,14 @@
 //! Laws over the definitions.
 
 ghost use Rattle.guarantee_laws.specs.Account.{SecondsAreWhole, GuaranteesAreAccounted, GuaranteesOverTime, GuaranteesToTheOctet, NothingIsCut, RoundsAreOwed, UncutIsPrompt};
+ghost use Rattle.guarantee_laws.specs.Example.{SomeRoundsMeetPremises};
 ghost use Rattle.guarantee_laws.specs.Reached.{NewIsReached, EachRoundIsReached};
 ghost use Rattle.guarantee_laws.specs.SessionRounds.{TenthIsEnough};
 ghost use Rattle.guarantee_laws.specs.Sure.{AsksAreSure, AsksKeepGuarantees};
 
 use round_pace::{
     floors_fit_what_is_offered, guarantees_are_kept, guarantees_are_offered, histories_keep_rates,
-    stretches_keep_rates,
+    rows_are_handed_in, stretches_keep_rates,
 };
 
 /// The laws below hold of rounds that were held from a pace that a history has reached. A new pace is one, and so is
@@ -16,6 +17,14 @@ pub fn paces_are_reached()
     ensures new { NewIsReached }
     ensures reached { EachRoundIsReached }
 {
+    stretches_keep_rates();
+}
+
+/// Some history meets all premises of the laws below.
+pub fn some_rounds_meet_premises()
+    ensures example { SomeRoundsMeetPremises }
+{
+    rows_are_handed_in();
     stretches_keep_rates();
 }
 

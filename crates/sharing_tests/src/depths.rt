@@ -93,7 +93,7 @@ fn worked_depths(rt: HostRuntime) {
     }
 }
 
-/// What a user can have is more than a leaf may want, and so is the limit above it.
+/// A user that can have more than a leaf may want, below a limit that is as large.
 static TOO_LARGE: Shape = Branch(Some(MAX_WANT + 1), &ALL_THERE_IS);
 
 #[test]

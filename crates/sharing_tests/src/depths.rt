@@ -3,7 +3,7 @@
 use super::trees::Shape::{Branch, Leaf};
 use super::trees::{Shape, tree};
 use crate::expect::holds;
-use depth_users::{DepthFault, allot_at, owners_at};
+use depth_users::{allot_at, owners_at};
 use limit_tree::MAX_WANT;
 
 /// Ann's transfer, which is no branch, and the three of paul.
@@ -90,17 +90,5 @@ fn worked_depths(rt: HostRuntime) {
         holds(&rt, found.as_slice() == *owners);
         let (shared, _) = allot_at(rt.alloc(), &tree, *depth).expect(&rt, "grants");
         holds(&rt, shared.as_slice() == *grants);
-    }
-}
-
-/// A user that can have more than a leaf may want, below a limit that is as large.
-static TOO_LARGE: Shape = Branch(Some(MAX_WANT + 1), &ALL_THERE_IS);
-
-#[test]
-fn a_user_that_is_too_large(rt: HostRuntime) {
-    let tree = tree(&rt, &TOO_LARGE);
-    match allot_at(rt.alloc(), &tree, 1) {
-        Err(fault) => holds(&rt, fault == DepthFault::UserTooLarge),
-        Ok(_) => holds(&rt, false),
     }
 }

@@ -1,6 +1,5 @@
 //! The examples in the heads of the crates that these tests are named after.
 
-use depth_users::{allot_at, owners_at};
 use grant_certificate::{Certificate, Verdict, check, seal};
 use limit_tree::{Node, Tree};
 use line_rates::{Ask, Limits, Way, tree_of};
@@ -97,24 +96,5 @@ fn rate_floors(rt: HostRuntime) -> Result<(), Fail> {
         // a session of user 1, whose guarantee is counted until it is released
         floors.release(1);
     }
-    Ok(())
-}
-
-#[test]
-fn depth_users(rt: HostRuntime) -> Result<(), Fail> {
-    let alloc = rt.alloc();
-    let first = Node::Leaf { want: 50, floor: 0 };
-    let second = Node::Leaf { want: 50, floor: 0 };
-    let kids = vec![in alloc; first, second]?;
-    let paul = Node::Branch { limit: None, kids };
-    let ann = Node::Leaf { want: 50, floor: 0 };
-    let kids = vec![in alloc; ann, paul]?;
-    let limit = Some(12);
-    let tree = Tree::new(Node::Branch { limit, kids })?;
-    // ann's transfer, node 1, and paul's branch, node 2
-    let owners = owners_at(alloc, &tree, 1)?;
-    assert!(rt; owners.as_slice() == [1, 2, 2].as_slice());
-    let (grants, _certificate) = allot_at(alloc, &tree, 1)?;
-    assert!(rt; grants.as_slice() == [6, 3, 3].as_slice());
     Ok(())
 }

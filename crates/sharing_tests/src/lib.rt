@@ -9,6 +9,8 @@ mod bounds;
 #[cfg(test)]
 mod checking;
 #[cfg(test)]
+mod depths;
+#[cfg(test)]
 mod examples;
 #[cfg(test)]
 mod expect;

@@ -1,4 +1,8 @@
-"""Runs programs and tells the time of the processor that they took, and what `valgrind` counts."""
+"""Runs programs and tells the time of the processor that they took, and what `valgrind` counts.
+
+`BENCH_UNTIL` is the moment by the machine's clock (`time.monotonic`) from which on a part of the bench begins no further row, and `QUICK`
+asks the parts `peers` and `grows` for their smallest sizes, by which only the bench itself is tried.
+"""
 
 import os
 import re
@@ -6,6 +10,26 @@ import shutil
 import statistics
 import subprocess
 import sys
+import time
+
+UNTIL = float(os.environ.get("BENCH_UNTIL", "inf"))
+QUICK = bool(os.environ.get("QUICK"))
+LEFT_OUT = []
+
+
+def in_time(items, what=""):
+    """Each of these, until the part's time is over. `tell` names below its table those that were not done."""
+    items = list(items)
+    LEFT_OUT.extend(f"{what}{it}" for it in items)
+    for it in items:
+        if time.monotonic() < UNTIL:
+            yield it
+            LEFT_OUT.remove(f"{what}{it}")
+
+
+def seconds_of(process):
+    """What a process that runs has taken of the processor with all its threads, those that have ended too, by its own clock (clock_getcpuclockid(3))."""
+    return time.clock_gettime(~process << 3 | 2)
 
 
 def run(words, output):
@@ -49,8 +73,14 @@ def counted(words, output, tool, what):
 
 
 def tell(head, rows):
+    """Prints a table, and the rows that it lacks, also if it is interrupted."""
     print("| " + " | ".join(head) + " |")
     print("|---|" + "---:|" * (len(head) - 1))
-    for row in rows:
-        print("| " + " | ".join(row) + " |", flush=True)
-    print()
+    try:
+        for row in rows:
+            print("| " + " | ".join(row) + " |", flush=True)
+    finally:
+        print()
+        if LEFT_OUT:
+            print(f"Left out: {'; '.join(LEFT_OUT)}.\n", flush=True)
+            LEFT_OUT.clear()

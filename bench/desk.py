@@ -9,7 +9,7 @@ no `valgrind`. A hand-off is an ask and its answer: microseconds of the processo
 
 import sys
 
-from clock import counted, median, tell
+from clock import counted, in_time, median, tell
 
 ASKS = [1, 16, 64]
 TIMES = 2_000
@@ -67,9 +67,9 @@ def hands_row(bench_desk, desk, folder, runs):
 def main(folder, bench_desk, desk, runs="21"):
     programs = [[bench_desk, "rounds", "system"], [bench_desk, "rounds", "heap"], [desk, "rounds"]]
     same(programs, folder)
-    tell(HEAD, (row for asks in ASKS for row in rows_of(asks, programs, folder, int(runs))))
+    tell(HEAD, (row for asks in in_time(ASKS, "asks: ") for row in rows_of(asks, programs, folder, int(runs))))
     head = ["a hand-off here (us)", "plain word (us)", "here / plain", "hand-offs here", "hand-offs plain"]
-    tell(head, [hands_row(bench_desk, desk, folder, int(runs))])
+    tell(head, (hands_row(bench_desk, desk, folder, int(runs)) for _ in in_time(["hand-offs"])))
     taken = median([bench_desk, "crowd", str(CROWDS)], f"{folder}/told", 1)
     with open(f"{folder}/told", encoding="utf-8") as it:
         tell(["a crowd", "processor (ms)"], [[it.read().strip(), f"{taken:,.0f}"]])

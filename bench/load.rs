@@ -4,11 +4,14 @@
 //! load PORT down SESSIONS TIMES PATH       so many sessions download a file so often, each in turn
 //! load PORT up SESSIONS TIMES OCTETS       they store so many octets each time
 //! load PORT rates SKIP SECONDS PATH USER:OCTETS..   clients read on, each at most so many octets a second (0: all that comes)
+//! load PORT list SESSIONS TIMES PATH       they list a folder so often
+//! load PORT login SESSIONS TIMES           they log in and quit so often
 //! load PORT hold SESSIONS                  they log in, and wait until standard input ends
 //! ```
 //!
-//! `down` and `up` print the octets moved and the seconds that it took; `rates` how many octets a second each client had behind
-//! the first SKIP seconds. A session that is told anything but what it waits for ends the program.
+//! `down` and `up` print the octets moved and the seconds that it took, `list` and `login` the number of listings and logins in place
+//! of the octets; `rates` how many octets a second each client had behind the first SKIP seconds. A session that is told anything but
+//! what it waits for ends the program. All log in as ann, or as `LOGIN=NAME` has it; a reply may have several lines.
 
 use std::io::{BufRead, BufReader, Read, Write};
 use std::net::TcpStream;
@@ -16,7 +19,7 @@ use std::os::fd::AsRawFd;
 use std::sync::atomic::{AtomicU64, Ordering};
 use std::sync::{Arc, Barrier};
 use std::time::{Duration, Instant};
-use std::{env, thread};
+use std::{env, panic, process, thread};
 
 extern "C" {
     fn setsockopt(socket: i32, level: i32, name: i32, value: *const i32, length: u32) -> i32;
@@ -45,8 +48,11 @@ impl Session {
 
     fn wants(&mut self, code: &str) -> String {
         let mut line = String::new();
-        self.reader.read_line(&mut line).unwrap();
-        assert!(line.starts_with(code), "{line:?}, wanted {code}");
+        while line.is_empty() || line.as_bytes().get(3) == Some(&b'-') {
+            line.clear();
+            self.reader.read_line(&mut line).unwrap();
+            assert!(line.starts_with(code), "{line:?}, wanted {code}");
+        }
         line
     }
 
@@ -62,9 +68,10 @@ impl Session {
         TcpStream::connect(("127.0.0.1", numbers[4] * 256 + numbers[5])).unwrap()
     }
 
-    fn download(&mut self, path: &str, buffer: &mut [u8]) -> u64 {
+    /// What comes over a data connection by this line, in octets.
+    fn fetch(&mut self, line: &str, buffer: &mut [u8]) -> u64 {
         let mut data = self.data();
-        self.says(&format!("RETR {path}"), "150");
+        self.says(line, "1");
         let mut octets = 0;
         loop {
             match data.read(buffer).unwrap() {
@@ -72,13 +79,15 @@ impl Session {
                 count => octets += count as u64,
             }
         }
+        // (ProFTPD says 226 only once its client has closed)
+        drop(data);
         self.wants("226");
         octets
     }
 
     fn upload(&mut self, path: &str, octets: u64, buffer: &[u8]) -> u64 {
         let mut data = self.data();
-        self.says(&format!("STOR {path}"), "150");
+        self.says(&format!("STOR {path}"), "1");
         let mut left = octets;
         while left > 0 {
             let count = left.min(buffer.len() as u64);
@@ -91,6 +100,11 @@ impl Session {
     }
 }
 
+/// Who logs in.
+fn login() -> String {
+    env::var("LOGIN").unwrap_or("ann".to_string())
+}
+
 /// So many sessions at once, each of which does its part so often.
 fn many(port: u16, sessions: usize, times: u32, part: impl Fn(&mut Session, usize, &mut [u8]) -> u64 + Send + Sync + 'static) {
     let start = Arc::new(Barrier::new(sessions + 1));
@@ -99,7 +113,7 @@ fn many(port: u16, sessions: usize, times: u32, part: impl Fn(&mut Session, usiz
         .map(|number| {
             let (start, part) = (start.clone(), part.clone());
             thread::spawn(move || {
-                let mut session = Session::new(port, "ann");
+                let mut session = Session::new(port, &login());
                 let mut buffer = vec![7; BUFFER];
                 start.wait();
                 let octets = (0..times).map(|_| part(&mut session, number, &mut buffer)).sum::<u64>();
@@ -163,21 +177,38 @@ fn rates(port: u16, skip: f64, seconds: f64, path: &str, clients: &[String]) {
 }
 
 fn hold(port: u16, sessions: usize) {
-    let held: Vec<_> = (0..sessions).map(|_| Session::new(port, "ann")).collect();
+    let held: Vec<_> = (0..sessions).map(|_| Session::new(port, &login())).collect();
     println!("held");
     let _ = std::io::stdin().read_to_end(&mut Vec::new());
     drop(held);
 }
 
 fn main() {
+    // (a session that fails ends the program, whatever the others wait for)
+    let told = panic::take_hook();
+    panic::set_hook(Box::new(move |fault| {
+        told(fault);
+        process::exit(1);
+    }));
     let words: Vec<String> = env::args().collect();
     let port = words[1].parse().unwrap();
     let number = |place: usize| words[place].parse::<u64>().unwrap();
     match words[2].as_str() {
         "down" => {
             let path = words[5].clone();
-            many(port, number(3) as usize, number(4) as u32, move |session, _, buffer| session.download(&path, buffer));
+            many(port, number(3) as usize, number(4) as u32, move |session, _, buffer| session.fetch(&format!("RETR {path}"), buffer));
         }
+        "list" => {
+            let path = words[5].clone();
+            many(port, number(3) as usize, number(4) as u32, move |session, _, buffer| {
+                session.fetch(&format!("LIST {path}"), buffer);
+                1
+            });
+        }
+        "login" => many(port, number(3) as usize, number(4) as u32, move |_, _, _| {
+            Session::new(port, &login()).says("QUIT", "221");
+            1
+        }),
         "up" => {
             let octets = number(5);
             many(port, number(3) as usize, number(4) as u32, move |session, place, buffer| session.upload(&format!("up{place}"), octets, buffer));

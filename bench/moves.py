@@ -8,7 +8,7 @@ moves nothing; a program that moves other octets than the other ends the bench.
 
 import sys
 
-from clock import least, tell
+from clock import in_time, least, tell
 
 OCTETS = 1_048_576
 TIMES = 400
@@ -34,8 +34,8 @@ def row_of(way, data_type, folder, bench_work, moves, runs):
 
 
 def main(folder, bench_work, moves, runs="3"):
-    forms = [(way, data_type) for data_type in ("image", "text") for way in ("out", "in")]
-    tell(HEAD, (row_of(way, data_type, folder, bench_work, moves, int(runs)) for way, data_type in forms))
+    forms = [f"{way} {data_type}" for data_type in ("image", "text") for way in ("out", "in")]
+    tell(HEAD, (row_of(*form.split(), folder, bench_work, moves, int(runs)) for form in in_time(forms)))
 
 
 main(*sys.argv[1:])

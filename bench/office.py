@@ -16,7 +16,7 @@ import sys
 import threading
 import time
 
-from clock import tell
+from clock import in_time, tell
 from pace import DOWN, UP, Transfer, read_all
 from serve import Running
 
@@ -26,7 +26,7 @@ GROUPS = {"sales": 3_000_000, "works": 4_000_000, "press": 0}
 OTHERS = [f"user{number}" for number in range(1, 39)]
 LISTER = "lister"
 # How many downloads and uploads of others there are beside ann's download.
-CASES = [(8, 0), (8, 4), (20, 4), (38, 0), (38, 4)]
+CASES = {"8 and 0": (8, 0), "8 and 4": (8, 4), "20 and 4": (20, 4), "38 and 0": (38, 0), "38 and 4": (38, 4)}
 
 
 def users():
@@ -92,13 +92,14 @@ def of(shares, due):
 
 def rows(folder, program):
     rates = f"down_rate = {DOWN_RATE}\nup_rate = {UP_RATE}"
-    for downs, ups in CASES:
+    for name in in_time(CASES):
+        downs, ups = CASES[name]
         with Running(folder, program, False, rates, users(), tables()) as server:
             ann, other, upload = planned(server, downs, ups)
             shares, wait, used = measured(server, downs, ups)
         down, up = shares[: downs + 1], shares[downs + 1 :]
         line = f"{sum(down) / DOWN_RATE:.3f}" + (f", {sum(up) / UP_RATE:.3f}" if up else "")
-        yield [f"{downs} and {ups}", f"{down[0] / ann:.3f}", of(down[1:], other), of(up, upload), line, f"{wait * 1e3:.0f} ms", f"{used * 100:.1f} %"]
+        yield [name, f"{down[0] / ann:.3f}", of(down[1:], other), of(up, upload), line, f"{wait * 1e3:.0f} ms", f"{used * 100:.1f} %"]
 
 
 def main(folder, program):

@@ -15,7 +15,7 @@ import sys
 import threading
 import time
 
-from clock import tell
+from clock import in_time, tell
 from serve import MEGABYTE, Running
 
 WARM, COUNTED = 2.5, 6
@@ -200,7 +200,8 @@ CASES = {
 
 
 def rows(folder, servers):
-    for name, case in CASES.items():
+    for name in in_time(CASES):
+        case = CASES[name]
         for server, program in servers:
             shares, count, octets, used = measured(folder, program, case)
             parts = [had / due for had, due in zip(shares, case[3]) if due]

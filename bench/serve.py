@@ -15,7 +15,7 @@ import sys
 import threading
 import time
 
-from clock import tell
+from clock import in_time, seconds_of, tell
 
 MEGABYTE = 1_048_576
 BIG, MIDDLE, SMALL = 512, 32, 1_000
@@ -68,8 +68,12 @@ class Running:
     def __enter__(self):
         self.log = open(f"{self.folder}/log", "wb")
         self.process = subprocess.Popen(self.words, stdout=subprocess.PIPE, stderr=self.log)
-        if self.process.stdout.readline() != b"ready\n":
-            sys.exit(f"bench: {' '.join(self.words)} does not serve")
+        with contextlib.ExitStack() as held:
+            # (it is ended if it does not serve, or if this is interrupted)
+            held.callback(Running.__exit__, self)
+            if self.process.stdout.readline() != b"ready\n":
+                sys.exit(f"bench: {' '.join(self.words)} does not serve")
+            held.pop_all()
         return self
 
     def __exit__(self, *_):
@@ -80,9 +84,7 @@ class Running:
 
     def seconds(self):
         """What it has taken of the processor."""
-        with open(f"/proc/{self.process.pid}/stat", encoding="utf-8") as it:
-            fields = it.read().rpartition(")")[2].split()
-        return (int(fields[11]) + int(fields[12])) / os.sysconf("SC_CLK_TCK")
+        return seconds_of(self.process.pid)
 
     def memory(self):
         """What it holds, in MB."""
@@ -90,18 +92,26 @@ class Running:
             return next(int(line.split()[1]) for line in it if line.startswith("VmRSS")) / 1_024
 
 
-def make_files(folder):
-    os.makedirs(f"{folder}/files/many")
-    block = os.urandom(MEGABYTE)
-    for name, count in (("big", BIG), ("middle", MIDDLE)):
-        with open(f"{folder}/files/{name}", "wb") as it:
-            for _ in range(count):
-                it.write(block)
-    with open(f"{folder}/files/small", "wb") as it:
-        it.write(block[:1_024])
-    for number in range(ENTRIES):
-        with open(f"{folder}/files/many/entry{number}", "wb"):
+def make_file(path, octets):
+    """A file of this length, of one random block again and again."""
+    block = os.urandom(min(octets, MEGABYTE))
+    with open(path, "wb") as it:
+        for _ in range(octets // len(block)):
+            it.write(block)
+
+
+def make_folder(path, entries):
+    """A folder of so many empty files."""
+    os.makedirs(path)
+    for number in range(entries):
+        with open(f"{path}/entry{number}", "wb"):
             pass
+
+
+def make_files(folder):
+    make_folder(f"{folder}/files/many", ENTRIES)
+    for name, octets in (("big", BIG * MEGABYTE), ("middle", MIDDLE * MEGABYTE), ("small", 1_024)):
+        make_file(f"{folder}/files/{name}", octets)
 
 
 def loaded(load, server, words):
@@ -115,7 +125,8 @@ def loaded(load, server, words):
 
 
 def throughput(folder, servers, load, runs):
-    for name, (words, unit, what) in ROWS.items():
+    for name in in_time(ROWS):
+        words, unit, what = ROWS[name]
         best, least = {}, {}
         for _ in range(runs):
             for is_plain, program in servers:
@@ -128,9 +139,10 @@ def throughput(folder, servers, load, runs):
 
 
 def idle(folder, servers, load):
-    for is_plain, program in servers:
+    for name in in_time(("ftpd", "plain"), "idle "):
+        is_plain, program = servers[name == "plain"]
         with Running(folder, program, is_plain) as server:
-            row = ["plain" if is_plain else "ftpd"]
+            row = [name]
             for sessions in (0, SESSIONS):
                 with contextlib.ExitStack() as held:
                     if sessions:
@@ -164,7 +176,8 @@ SKIPPED, COUNTED = 12, 10
 
 
 def divisions(folder, program, load):
-    for name, (rates, users, clients, parts) in DIVISIONS.items():
+    for name in in_time(DIVISIONS):
+        rates, users, clients, parts = DIVISIONS[name]
         with Running(folder, program, False, rates, users) as server:
             before = server.seconds()
             words = [load, str(server.port), "rates", str(SKIPPED), str(COUNTED), "big", *clients]
@@ -212,7 +225,7 @@ def listing(folder, program):
             other.says("SIZE small")
             waits.append(time.monotonic() - asked)
             time.sleep(0.002)
-        yield [f"STAT of {ENTRIES} entries", f"{min(took) * 1_000:.0f}", f"{max(waits) * 1_000:.1f}"]
+        return [f"STAT of {ENTRIES} entries", f"{min(took) * 1_000:.0f}", f"{max(waits) * 1_000:.1f}"]
 
 
 def main(folder, ftpd, plain, load, runs="3"):
@@ -221,7 +234,7 @@ def main(folder, ftpd, plain, load, runs="3"):
     tell(["what", "ftpd", "plain", "ftpd / plain", "ftpd: processor s", "plain", "ftpd / plain"], throughput(folder, servers, load, int(runs)))
     tell(["idle", "no session", "MB", f"{SESSIONS} sessions", "MB"], idle(folder, servers, load))
     tell(["division of 4 MiB/s", "MiB/s each", "of what each ought to have", "of the rate", "processor"], divisions(folder, ftpd, load))
-    tell(["a long listing", "it takes (ms)", "others wait at most (ms)"], listing(folder, ftpd))
+    tell(["a long listing", "it takes (ms)", "others wait at most (ms)"], (listing(folder, ftpd) for _ in in_time(["a long listing"])))
 
 
 if __name__ == "__main__":

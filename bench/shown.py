@@ -11,7 +11,7 @@ import sys
 import threading
 import time
 
-from clock import tell
+from clock import in_time, tell
 from serve import ROWS, SESSIONS, Running, loaded, make_files
 
 PARTS = ("/", "/status.json", "/metrics")
@@ -47,7 +47,8 @@ KINDS = (Running, Shown)
 
 
 def throughput(folder, program, load, runs):
-    for name, (words, unit, what) in ROWS.items():
+    for name in in_time(ROWS):
+        words, unit, what = ROWS[name]
         best, least = {}, {}
         for _ in range(runs):
             for kind in KINDS:
@@ -60,8 +61,8 @@ def throughput(folder, program, load, runs):
 
 
 def idle(folder, program):
-    for kind in KINDS:
-        row = ["with a status" if kind is Shown else "without"]
+    for name in in_time(("without", "with a status"), "idle "):
+        kind, row = KINDS[name != "without"], [name]
         with kind(folder, program, False) as server, contextlib.ExitStack() as held:
             for sessions in (0, SESSIONS):
                 for _ in range(sessions):

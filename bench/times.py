@@ -10,7 +10,7 @@ it). What is printed goes to a file of the folder, and an answer other than 0 en
 
 import sys
 
-from clock import least, tell
+from clock import in_time, least, tell
 
 NAMES = ["empty", "groups", "deep", "large", "nested", "largest", "colliding", "crowded"]
 HEAD = ["sheet", "octets", "lines", "nodes", "wants", "whole", "open", "bare", "reading", "sharing", "printing", "check", "yardstick", "MB"]
@@ -67,8 +67,8 @@ def tree_row(folder, bench_work, runs):
 
 
 def main(folder, shares, yardstick, bench_work, runs="3"):
-    tell(HEAD, (row_of(name, folder, shares, yardstick, int(runs)) for name in NAMES))
-    tell(TREE_HEAD, [tree_row(folder, bench_work, int(runs))])
+    tell(HEAD, (row_of(name, folder, shares, yardstick, int(runs)) for name in in_time(NAMES)))
+    tell(TREE_HEAD, (tree_row(folder, bench_work, int(runs)) for _ in in_time(["the large tree"])))
 
 
 main(*sys.argv[1:])

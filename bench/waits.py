@@ -6,13 +6,12 @@ FOLDER lies in a file system in memory. Each row is one server; its processor ti
 """
 
 import contextlib
-import os
 import re
 import socket
 import sys
 import time
 
-from clock import tell
+from clock import in_time, tell
 from serve import ENTRIES, Running, Talk, make_files
 
 FEW, MANY = 64, 510
@@ -57,7 +56,8 @@ CASES = {
 
 
 def idle(folder, program):
-    for name, (begin, number) in CASES.items():
+    for name in in_time(CASES):
+        begin, number = CASES[name]
         with Running(folder, program, False) as server, contextlib.ExitStack() as held:
             for _ in range(number):
                 begin(held, server.port)
@@ -71,7 +71,7 @@ def listings(folder, program):
     with Running(folder, program, False) as server:
         talk = Talk(server.port)
         talk.says("CWD many")
-        for command in ("NLST", "LIST", "MLSD"):
+        for command in in_time(("NLST", "LIST", "MLSD")):
             before, begun = server.seconds(), time.monotonic()
             for _ in range(LISTED):
                 with socket.create_connection(passive(talk)) as data:

@@ -334,8 +334,67 @@ where
     })
 }
 
-/// Serves with what was prepared, and with the threads that write its lines. Without a reload file the rates stay as they
-/// are.
+/// Serves a configuration whose rates stay as they are.
+fn serve_fixed<R, W>(
+    rt: &R,
+    config: ServedConfig,
+    handler: MachineNotes<R>,
+    machine: &HostRuntime,
+    signs: FixedSigns<R>,
+    leaves: &StopFlag,
+    output: &mut W,
+) -> Result<Settlement<OfProgram>, ServeFault>
+where
+    R: Threads + ServerRuntime + RoundClock + Copy + Send + Sync + 'static,
+    W: TextWriter,
+    ensures issued { IfOk result (λ s. s.issued ≡ granted_to Server (rounds_of s)) }
+    ensures every_second { IfOk result (λ s. StretchesKeep (rounds_of s)) }
+    ensures kept { IfOk result (λ s. IsWithinRates (rounds_of s) s.opened s.latest) }
+    ensures fixed { IfOk result (λ s. config.parts.limits.server ≢ 0
+        → s.issued ≤ seconds_from s.opened s.latest * config.parts.limits.server) }
+{
+    serve_config(rt, config, handler, machine, signs, leaves, output)
+}
+
+/// Serves a configuration with these signs and threads, which end with the server. Without a reload file the rates stay
+/// as they are.
+fn serve_guided<R, W>(
+    rt: &R,
+    config: ServedConfig,
+    handler: MachineNotes<R>,
+    machine: &HostRuntime,
+    guidance: Guidance<R>,
+    output: &mut W,
+) -> Result<Settlement<OfProgram>, ServeFault>
+where
+    R: Threads + ServerRuntime + RoundClock + Copy + Send + Sync + 'static,
+    W: TextWriter,
+    ensures issued { IfOk result (λ s. s.issued ≡ granted_to Server (rounds_of s)) }
+    ensures every_second { IfOk result (λ s. StretchesKeep (rounds_of s)) }
+    ensures kept { IfOk result (λ s. IsWithinRates (rounds_of s) s.opened s.latest) }
+    ensures fixed { guidance.reload ≡ None
+        → IfOk result (λ s. config.parts.limits.server ≢ 0
+        → s.issued ≤ seconds_from s.opened s.latest * config.parts.limits.server) }
+{
+    let Guidance {
+        fixed,
+        reload,
+        leaves,
+        threads,
+    } = guidance;
+    let served = match reload {
+        Some(reload) => {
+            let signs = MachineSigns { fixed, reload };
+            serve_config(rt, config, handler, machine, signs, &leaves, output)
+        }
+        None => serve_fixed(rt, config, handler, machine, fixed, &leaves, output),
+    };
+    threads.leave(rt);
+    served
+}
+
+/// Serves with what was prepared, and with the threads that write its lines. Without a reload file no more is issued
+/// than the line gives at its rate.
 fn serve_logged<R, W>(
     rt: &R,
     machine: &HostRuntime,
@@ -349,6 +408,9 @@ where
     ensures issued { IfOk result (λ s. s.issued ≡ granted_to Server (rounds_of s)) }
     ensures every_second { IfOk result (λ s. StretchesKeep (rounds_of s)) }
     ensures kept { IfOk result (λ s. IsWithinRates (rounds_of s) s.opened s.latest) }
+    ensures fixed { means.signs.reload ≡ None
+        → IfOk result (λ s. means.read.config.limits.server ≢ 0
+        → s.issued ≤ seconds_from s.opened s.latest * means.read.config.limits.server) }
 {
     let Means {
         read,
@@ -369,21 +431,8 @@ where
     } = Cells::new(rt.alloc(), is_shown)?;
     let handler = keeper_of(rt, machine, log, &read, start, kept)?;
     let (config, followed) = followed_of(rt.alloc(), read, syncs, user_sessions, patience, start)?;
-    let Guidance {
-        fixed,
-        reload,
-        leaves,
-        threads,
-    } = guidance_of(rt, machine, signs, shown, followed, (cell, watched), log)?;
-    let served = match reload {
-        Some(reload) => {
-            let signs = MachineSigns { fixed, reload };
-            serve_config(rt, config, handler, machine, signs, &leaves, output)
-        }
-        None => serve_config(rt, config, handler, machine, fixed, &leaves, output),
-    };
-    threads.leave(rt);
-    served
+    let guidance = guidance_of(rt, machine, signs, shown, followed, (cell, watched), log)?;
+    serve_guided(rt, config, handler, machine, guidance, output)
 }
 
 /// The outcome of a server that lost this number of lines of its transfer log at the end.
@@ -421,6 +470,9 @@ where
     ensures issued { IfOk result (λ s. s.issued ≡ granted_to Server (rounds_of s)) }
     ensures every_second { IfOk result (λ s. StretchesKeep (rounds_of s)) }
     ensures kept { IfOk result (λ s. IsWithinRates (rounds_of s) s.opened s.latest) }
+    ensures fixed { means.signs.reload ≡ None
+        → IfOk result (λ s. means.read.config.limits.server ≢ 0
+        → s.issued ≤ seconds_from s.opened s.latest * means.read.config.limits.server) }
 {
     let mut means = means;
     let log = LogThreads::start(rt, machine.alloc(), means.form, means.log.take())?;

@@ -5,7 +5,8 @@ ghost use Rattle.std.specs.Prelude.{◌≡◌};
 use crate::expect::holds;
 use httpdate::HttpDate;
 use server_status::{
-    AccountStatus, Direction, EndCounts, GroupStatus, HeldRounds, LineRates, Status, TransferStatus,
+    AccountStatus, Direction, EndCounts, GroupStatus, HeldRounds, LineRates, SessionStatus, Status,
+    TransferStatus,
 };
 use status_page::{MachineClock, MicrosClock, PAGE, Timed, metrics_text, serve_request};
 use std::alloc::AllocError;
@@ -32,6 +33,9 @@ ftpd_users 2
 # HELP ftpd_sessions Connected clients.
 # TYPE ftpd_sessions gauge
 ftpd_sessions 3
+# HELP ftpd_sessions_idle Connected clients that transfer nothing.
+# TYPE ftpd_sessions_idle gauge
+ftpd_sessions_idle 2
 # HELP ftpd_sessions_max Most clients at once.
 # TYPE ftpd_sessions_max gauge
 ftpd_sessions_max 64
@@ -196,10 +200,33 @@ fn accounts_of<R: AllocGlobal>(rt: &R) -> Result<Vec<AccountStatus>, AllocError>
     Ok(accounts)
 }
 
-fn status_of<R: AllocGlobal>(
-    rt: &R,
+/// A session of nobody yet, which was last seen to do something at this moment.
+fn session_of(session: u64, active: u64) -> SessionStatus {
+    SessionStatus {
+        session,
+        user: None,
+        group: None,
+        peer: [192, 0, 2, 9],
+        begun: 0,
+        active,
+        guaranteed_down: 0,
+        guaranteed_up: 0,
+    }
+}
+
+/// Two sessions that transfer nothing, one of them for a microsecond, and one that transfers at this moment.
+fn sessions_of<R: AllocGlobal>(rt: &R) -> Result<Vec<SessionStatus>, AllocError> {
+    let mut sessions = Vec::with_capacity(rt.alloc(), 3)?;
+    sessions.push(session_of(1, 61_999_998))?;
+    sessions.push(session_of(2, 61_999_999))?;
+    sessions.push(session_of(3, 5))?;
+    Ok(sessions)
+}
+
+fn status_of(
     groups: Vec<GroupStatus>,
     transfers: Vec<TransferStatus>,
+    sessions: Vec<SessionStatus>,
     accounts: Vec<AccountStatus>,
 ) -> Status {
     Status {
@@ -239,7 +266,7 @@ fn status_of<R: AllocGlobal>(
         refused: 8,
         lost_lines: 14,
         transfers,
-        sessions_now: Vec::new(rt.alloc()),
+        sessions_now: sessions,
         accounts,
     }
 }
@@ -247,7 +274,8 @@ fn status_of<R: AllocGlobal>(
 fn status<R: AllocGlobal>(rt: &R) -> Result<Status, AllocError> {
     let groups = groups_of(rt)?;
     let transfers = transfers_of(rt)?;
-    Ok(status_of(rt, groups, transfers, accounts_of(rt)?))
+    let sessions = sessions_of(rt)?;
+    Ok(status_of(groups, transfers, sessions, accounts_of(rt)?))
 }
 
 #[test]

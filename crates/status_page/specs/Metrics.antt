@@ -1,5 +1,5 @@
 -- A status in Prometheus' text format, version 0.0.4.
-use Rattle.std.specs.Prelude.{ℕ, ◌+◌, ◌-◌, ◌/◌, ◌==◌, if◌then◌else◌, nat_eq, min, length, List, [], ◌∷◌, ◌++◌, codes, string_bytes}
+use Rattle.std.specs.Prelude.{ℕ, ◌+◌, ◌-◌, ◌/◌, ◌==◌, if◌then◌else◌, nat_eq, nat_lt, min, length, List, [], ◌∷◌, ◌++◌, codes, string_bytes}
 use Rattle.std.specs.Fmt.{decimal}
 use Rattle.std.specs.List.{flat_map, sum_by}
 use Rattle.std.specs.Option.{option_map_or}
@@ -8,6 +8,7 @@ use Rattle.server_status.specs.declared.status.EndCounts.{EndCounts}
 use Rattle.server_status.specs.declared.status.GroupStatus.{GroupStatus}
 use Rattle.server_status.specs.declared.status.HeldRounds.{HeldRounds}
 use Rattle.server_status.specs.declared.status.LineRates.{LineRates}
+use Rattle.server_status.specs.declared.status.SessionStatus.{SessionStatus}
 use Rattle.server_status.specs.declared.status.Status.{Status}
 use Rattle.server_status.specs.declared.status.TransferStatus.{TransferStatus}
 use Rattle.status_page.specs.Escapes.{escaped}
@@ -68,10 +69,19 @@ build_lines status =
     (status.micros / 1_000_000)
     ∷ []
 
+-- 1 for a session that has done nothing since some moment before this one: it transfers nothing
+abbrev pub is_idle : ℕ → SessionStatus → ℕ
+is_idle now session = if nat_lt session.active now then 1 else 0
+
+abbrev pub idle : ℕ → List SessionStatus → ℕ
+idle now sessions = sum_by (is_idle now) sessions
+
 unfoldable pub session_lines : Status → List Line
 session_lines status =
     gauge (codes "ftpd_users") (codes "Users of the configuration.") status.users
     ∷ gauge (codes "ftpd_sessions") (codes "Connected clients.") status.sessions
+    ∷ gauge (codes "ftpd_sessions_idle") (codes "Connected clients that transfer nothing.")
+    (idle status.micros status.sessions_now.items)
     ∷ gauge (codes "ftpd_sessions_max") (codes "Most clients at once.") status.max_sessions
     ∷ counter (codes "ftpd_login_failures_total") (codes "Wrong passwords.") status.failed_logins
     ∷ counter (codes "ftpd_refused_connections_total") (codes "Refused connections.")

@@ -3,7 +3,7 @@
 /// The policy for browsers: they may run the script of the page and use its style, by their hashes, and ask the server
 /// itself. `tools/page-policy --write` computes the hashes.
 pub const POLICY: &str =
-    "default-src 'none'; connect-src 'self'; script-src 'sha256-FmSRe2vhUWrajVpE4D+IBBhO3QieVcjWCZd1w8Gw16w='; style-src 'sha256-S2OK/3jFGzhxX59B5bvWp9SZKq5+ulgFhhsqoTbxAT4='; base-uri 'none'; form-action 'none'; frame-ancestors 'none'";
+    "default-src 'none'; connect-src 'self'; script-src 'sha256-tAD4mQWDZOjJidfCLyRvSeiag3UW5mbDNPzX8J4hUmk='; style-src 'sha256-S2OK/3jFGzhxX59B5bvWp9SZKq5+ulgFhhsqoTbxAT4='; base-uri 'none'; form-action 'none'; frame-ancestors 'none'";
 
 /// The page. It asks for `status.json` once a second, and shows each text in it as text.
 pub const PAGE: &str = r##"<!doctype html>
@@ -185,12 +185,13 @@ function setSize(chart, wide, high) {
   chart.replaceChildren();
 }
 
-// The limit of a kind that holds a transfer back, by the name that `ftpd plan` gives it.
+// The limit that holds a transfer back, by the name that `ftpd plan` gives it; its client for none.
 function limitName(kind, { direction, group, user }, most) {
   if (kind === "direction") return "server " + direction;
   if (kind === "group") return `group ${cut(group ?? "?", most)} ${direction}`;
   if (kind === "user") return `user ${cut(user, most)} ${direction}`;
-  return kind === "session" ? "session " + direction : kind;
+  if (kind === "session") return "session " + direction;
+  return kind === "nothing" ? "client" : kind;
 }
 
 // Whose limit it is: each user has a rate of a session of their own.
@@ -364,7 +365,7 @@ function addMark(list, style, text) {
 function nameLimit(list, { limit, kind, held, style }, level) {
   const promised = held.filter(r => r.transfer.guaranteed !== null).length, rest = held.length - promised;
   const parts = [];
-  if (kind === "nothing") parts.push(held.length === 1 ? "its client asks for no more" : held.length + " clients ask for no more");
+  if (kind === "nothing") parts.push(held.length === 1 ? "asks for no more" : held.length + " ask for no more");
   else {
     if (rest > 0) parts.push(rest === 1 ? rateText(level) : `${rest} transfers, ${rateText(level)} each`);
     if (promised > 0) parts.push(promised + " with a guarantee");

@@ -1,10 +1,10 @@
 //! The samples of a status, but for those of its limits.
 
 ghost use Rattle.std.specs.Prelude.{◌≡◌, ◌≤◌, length, map};
-ghost use Rattle.status_page.specs.Metrics.{build_lines, byte_lines, counter, end_line, end_lines, further, gauge, login_lines, moved_in_all, round_lines, session_lines, transfer_lines, waiting};
+ghost use Rattle.status_page.specs.Metrics.{build_lines, byte_lines, counter, end_line, end_lines, further, gauge, idle, login_lines, moved_in_all, round_lines, session_lines, transfer_lines, waiting};
 ghost use Rattle.status_page.specs.Samples.{line_of};
 
-use server_status::{EndCounts, HeldRounds, Status, TransferStatus};
+use server_status::{EndCounts, HeldRounds, SessionStatus, Status, TransferStatus};
 
 /// A sample of a metric. If it is the first, it has the type and the meaning of the metric; otherwise these are empty.
 #[derive(Clone, Copy)]
@@ -83,14 +83,34 @@ pub(crate) fn build_samples(status: &Status) -> [Sample; 3]
     ]
 }
 
+/// Number of sessions that transfer nothing at this moment: who transfers is active now.
+fn idle(now: u64, sessions: &[SessionStatus]) -> usize
+    ensures idle { result ≡ idle now sessions.now }
+    ensures few { result ≤ length sessions.now }
+{
+    let mut count: usize = 0;
+    for session in sessions {
+        if session.active < now {
+            count += 1;
+        }
+    }
+    count
+}
+
 /// The users and the sessions.
 #[tactic(auto, unfolding(crate::specs::Metrics::session_lines))]
-pub(crate) fn session_samples(status: &Status) -> [Sample; 5]
+pub(crate) fn session_samples(status: &Status) -> [Sample; 6]
     ensures lines { map line_of result ≡ session_lines status.now }
 {
+    let idle = idle(status.micros, status.sessions_now.as_slice());
     [
         gauge("ftpd_users", "Users of the configuration.", status.users),
         gauge("ftpd_sessions", "Connected clients.", status.sessions),
+        gauge(
+            "ftpd_sessions_idle",
+            "Connected clients that transfer nothing.",
+            idle as u64,
+        ),
         gauge(
             "ftpd_sessions_max",
             "Most clients at once.",

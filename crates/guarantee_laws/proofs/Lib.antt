@@ -1,0 +1,15 @@
+mod OwnSums
+mod Reaching
+mod Debts
+mod Given
+mod Accounts
+mod Kept
+mod Earning
+mod Rated
+mod RowsKept
+mod PartsLeft
+mod Sure
+mod Tenths
+mod Uncut
+mod OneAsk
+mod Examples

@@ -43,8 +43,8 @@ pub record IsKept (read : ReadConfig) (keeps : Bool) (kept : ReadText) : Type 0 
   pub octets : option_map (λ octets. octets.items) kept.octets
       ≡ cond keeps (Some read.octets.now) None
 
--- the octets of the configuration are needed if it may be read again, or if there is to be a running
--- file
+-- the octets of the configuration are needed if it may be read again, or if there is to be a
+-- running file
 abbrev pub needs_octets : ServeFiles → Bool
 needs_octets files = is_some files.reload_file || is_some files.running_file
 

@@ -49,15 +49,15 @@ AreOfStart start = AreFixed start.numbers (string_bytes start.root) start.capaci
 abbrev pub AreOfConfig : Config → FixedValues → Type 0
 AreOfConfig config = AreFixed config.numbers (root_of config.store) (capacity_of config.store)
 
--- nothing hinders a server from taking a configuration: no key that cannot change has another value,
--- and the maximum number of connections is not above that of the start
+-- Nothing hinders a server from taking a configuration: no key that cannot change has another
+-- value, and the maximum number of connections is not above that of the start.
 abbrev pub IsUnhindered : AtStart → Config → Type 0
 IsUnhindered start config =
     (before : FixedValues) × (after : FixedValues) × AreOfStart start before
     × AreOfConfig config after × IsFixedKey before after None
     × IsCountFault start.numbers.max_cons 0 config.numbers.max_cons None
 
--- words that have this text, or none for want of memory
+-- words that have this text, or none for lack of memory
 abbrev pub AreWords : List ℕ → Option (List ℕ) → Type 0
 AreWords text None = Unit {0}
 AreWords text (Some words) = words ≡ text
@@ -77,7 +77,7 @@ abbrev pub IsHindrance : AtStart → Config → Option (Option (List ℕ)) → T
 IsHindrance start config None = IsUnhindered start config
 IsHindrance start config (Some words) = IsHindered start config words
 
--- the octets are a configuration with a fault; none for want of memory
+-- the octets are a configuration with a fault; none for lack of memory
 abbrev pub IsNoConfig : List ℕ → Option (List ℕ) → Type 0
 IsNoConfig octets None = Unit {0}
 IsNoConfig octets (Some words) =
@@ -106,8 +106,8 @@ IsPastFault config known (Some words) =
     (groups_with_past config.limits known.limits) (users_with_past config.limits known.limits))
     fault
 
--- The parts of a configuration: its users and settings are the terms, and its names are known beside
--- those that were.
+-- The parts of a configuration: its users and settings are the terms, and its names are known
+-- beside those that were.
 pub record AreParts (config : Config) (limits : Rates) (known : Known) (next : NextConfig)
     : Type 0 where
   pub users : (arc_value next.terms).users ≡ config.users

@@ -5,6 +5,9 @@
 //! thread alone. So functions on files and the console name the runtime itself, and functions that start threads have a
 //! type parameter for their permission.
 
+ghost use Rattle.std.specs.Prelude.{◌≡◌, Some, None, IfOk, cond, option_map, string_bytes};
+ghost use Rattle.machine_parts.specs.Asked.{AreSigns, AreWritten, IsAsked, IsKept, and_beside, both_texts};
+
 use client_patience::Patience;
 use ftpd_program::{ReadConfig, ServeFault, ServeFiles, Server};
 use server_config::Config;
@@ -74,17 +77,24 @@ pub struct AskedServer {
 
 impl AskedServer {
     /// No service yet.
-    pub fn new() -> AskedServer {
+    pub fn new() -> AskedServer
+        ensures none { result.service ≡ None }
+    {
         AskedServer { service: None }
     }
 
     /// Returns the service, if a server was asked for.
-    pub fn into_service(self) -> Option<AskedService> {
+    pub fn into_service(self) -> Option<AskedService>
+        ensures service { result ≡ self.service }
+    {
         self.service
     }
 }
 
-fn copied(alloc: Global, path: Option<&str>) -> Result<Option<String>, AllocError> {
+fn copied(alloc: Global, path: Option<&str>) -> Result<Option<String>, AllocError>
+    ensures copied { IfOk result
+        (λ own. option_map string_bytes own ≡ option_map (λ t. t.now) path.entry) }
+{
     match path {
         Some(path) => {
             let own = String::from_str(alloc, path)?;
@@ -95,17 +105,23 @@ fn copied(alloc: Global, path: Option<&str>) -> Result<Option<String>, AllocErro
 }
 
 /// A copy of octets, if there is to be one.
-fn copied_octets(alloc: Global, keeps: bool, octets: &[u8]) -> Result<Option<Vec<u8>>, AllocError> {
+fn copied_octets(alloc: Global, keeps: bool, octets: &[u8]) -> Result<Option<Vec<u8>>, AllocError>
+    ensures copied { IfOk result (λ own. option_map (λ octets. octets.items) own
+        ≡ cond keeps (Some octets.now) None) }
+{
     if !keeps {
         return Ok(None);
     }
-    let mut copy = Vec::with_capacity(alloc, octets.len())?;
-    copy.extend_from_slice(octets)?;
+    let copy = Vec::from_slice(alloc, octets)?;
     Ok(Some(copy))
 }
 
 /// A path, with that of a new file beside it.
-fn with_beside(alloc: Global, path: Option<&str>) -> Result<Option<(String, String)>, AllocError> {
+fn with_beside(alloc: Global, path: Option<&str>) -> Result<Option<(String, String)>, AllocError>
+    ensures both { IfOk result
+        (λ own. option_map (λ both. both_texts both) own
+        ≡ option_map (λ t. and_beside t.now) path.entry) }
+{
     match path {
         Some(path) => {
             let own = String::from_str(alloc, path)?;
@@ -117,7 +133,9 @@ fn with_beside(alloc: Global, path: Option<&str>) -> Result<Option<(String, Stri
 }
 
 /// The configuration, whose octets are kept if they are needed.
-fn kept_text(alloc: Global, read: ReadConfig<'_>, keeps: bool) -> Result<ReadText, AllocError> {
+fn kept_text(alloc: Global, read: ReadConfig<'_>, keeps: bool) -> Result<ReadText, AllocError>
+    ensures kept { IfOk result (IsKept read.entry keeps) }
+{
     let ReadConfig {
         path,
         config,
@@ -136,7 +154,9 @@ fn kept_text(alloc: Global, read: ReadConfig<'_>, keeps: bool) -> Result<ReadTex
 }
 
 /// The paths of signs.
-fn sign_paths(alloc: Global, files: &ServeFiles<'_>) -> Result<SignPaths, AllocError> {
+fn sign_paths(alloc: Global, files: &ServeFiles<'_>) -> Result<SignPaths, AllocError>
+    ensures signs { IfOk result (AreSigns files.now) }
+{
     Ok(SignPaths {
         stop: copied(alloc, files.stop_file)?,
         drain: copied(alloc, files.drain_file)?,
@@ -146,12 +166,36 @@ fn sign_paths(alloc: Global, files: &ServeFiles<'_>) -> Result<SignPaths, AllocE
 }
 
 /// The paths of files that are written.
-fn written_paths(alloc: Global, files: &ServeFiles<'_>) -> Result<WrittenPaths, AllocError> {
+fn written_paths(alloc: Global, files: &ServeFiles<'_>) -> Result<WrittenPaths, AllocError>
+    ensures written { IfOk result (AreWritten files.now) }
+{
     Ok(WrittenPaths {
         ready: copied(alloc, files.ready_file)?,
         log: copied(alloc, files.transfer_log)?,
         status: with_beside(alloc, files.status)?,
         running: with_beside(alloc, files.running_file)?,
+    })
+}
+
+/// The service that files and a patience ask for, with a configuration that was read.
+fn asked_service(
+    alloc: Global,
+    read: ReadConfig<'_>,
+    files: &ServeFiles<'_>,
+    patience: Patience,
+) -> Result<AskedService, AllocError>
+    ensures asked { IfOk result (IsAsked read.entry files.now patience) }
+{
+    let keeps = files.reload_file.is_some() || files.running_file.is_some();
+    Ok(AskedService {
+        read: kept_text(alloc, read, keeps)?,
+        signs: sign_paths(alloc, files)?,
+        written: written_paths(alloc, files)?,
+        log_form: copied(alloc, files.log_form)?,
+        status_port: files.status_port,
+        syncs: files.syncs,
+        user_sessions: copied(alloc, files.user_sessions)?,
+        patience,
     })
 }
 
@@ -164,22 +208,7 @@ impl<W: TextWriter> Server<W> for AskedServer {
         patience: Patience,
         _output: &mut W,
     ) -> Result<(), ServeFault> {
-        let keeps = files.reload_file.is_some() || files.running_file.is_some();
-        let read = kept_text(alloc, read, keeps)?;
-        let signs = sign_paths(alloc, &files)?;
-        let written = written_paths(alloc, &files)?;
-        let log_form = copied(alloc, files.log_form)?;
-        let user_sessions = copied(alloc, files.user_sessions)?;
-        self.service = Some(AskedService {
-            read,
-            signs,
-            written,
-            log_form,
-            status_port: files.status_port,
-            syncs: files.syncs,
-            user_sessions,
-            patience,
-        });
+        self.service = Some(asked_service(alloc, read, &files, patience)?);
         Ok(())
     }
 }

@@ -1,5 +1,10 @@
 //! The facts of a configuration that a status shows.
 
+ghost use Rattle.std.specs.Prelude.{◌≡◌, IfSome, map, string_bytes};
+ghost use Rattle.std.specs.FinMap as finite;
+ghost use Rattle.config_change.specs.Past.{with_numbers};
+ghost use Rattle.machine_parts.specs.Facts.{AreFacts, stated_user};
+
 use event_word::micros;
 use line_rates::{Limits, Name, Way};
 use server_config::Config;
@@ -29,15 +34,11 @@ pub fn start_of(machine: &HostRuntime) -> Start {
 }
 
 /// A copy of limits. `None` if memory runs out.
-pub fn copied_limits(alloc: Global, limits: &Limits) -> Option<Limits> {
-    let mut groups = Vec::with_capacity(alloc, limits.groups().len()).ok()?;
-    for group in limits.groups() {
-        groups.push(*group).ok()?;
-    }
-    let mut users = Vec::with_capacity(alloc, limits.users().len()).ok()?;
-    for user in limits.users() {
-        users.push(*user).ok()?;
-    }
+pub fn copied_limits(alloc: Global, limits: &Limits) -> Option<Limits>
+    ensures same { IfSome result (λ copy. copy ≡ limits.now) }
+{
+    let groups = Vec::from_slice(alloc, limits.groups()).ok()?;
+    let users = Vec::from_slice(alloc, limits.users()).ok()?;
     let both = limits.rate(Name::Server);
     let down = limits.rate(Name::Direction(Way::Down));
     let up = limits.rate(Name::Direction(Way::Up));
@@ -57,7 +58,10 @@ fn stated_groups(alloc: Global, config: &Config) -> Option<Vec<StatedGroup>> {
 }
 
 /// The names of all groups of a configuration that has its numbers, those of the past too. `None` if memory runs out.
-fn group_names(alloc: Global, config: &Config) -> Option<Vec<String>> {
+fn group_names(alloc: Global, config: &Config) -> Option<Vec<String>>
+    ensures names { IfSome result (λ names.
+        map string_bytes names.items ≡ map string_bytes config.now.groups.items) }
+{
     let mut names = Vec::with_capacity(alloc, config.groups.len()).ok()?;
     for name in &config.groups {
         names
@@ -68,7 +72,10 @@ fn group_names(alloc: Global, config: &Config) -> Option<Vec<String>> {
 }
 
 /// The users that a configuration has, with their numbers. `None` if memory runs out.
-fn stated_users(alloc: Global, config: &Config) -> Option<Vec<StatedUser>> {
+fn stated_users(alloc: Global, config: &Config) -> Option<Vec<StatedUser>>
+    ensures users { IfSome result (λ stated. map stated_user stated.items
+        ≡ with_numbers config.now.users (finite.keys config.now.users.users)) }
+{
     let names = config.users.names(alloc).ok()?;
     let mut stated = Vec::with_capacity(alloc, names.len()).ok()?;
     for name in &names {
@@ -87,7 +94,9 @@ pub fn facts_of(
     start: Start,
     config: &Config,
     limits: &Limits,
-) -> Option<StatusFacts> {
+) -> Option<StatusFacts>
+    ensures facts { IfSome result (AreFacts start config.now limits.now) }
+{
     Some(StatusFacts {
         limits: copied_limits(alloc, limits)?,
         stated: stated_groups(alloc, config)?,

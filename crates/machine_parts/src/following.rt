@@ -1,10 +1,16 @@
 //! The configuration that a running server takes next.
 
+ghost use Rattle.std.specs.Prelude.{◌≡◌, IfErr, IfOk, IfSome, option_map, string_bytes};
+ghost use Rattle.line_rates.specs.Rates.{Rates};
+ghost use Rattle.config_change.specs.Past.{KeepPast};
+ghost use Rattle.machine_parts.specs.Following.{AreParts, IsHindrance, IsNoConfig, IsNumberedAs, IsPastFault, IsUnnumbered, capacity_of, root_of};
+ghost use Rattle.server_config.specs.Configs.{IsConfigText};
+
 use crate::facts::{Start, copied_limits, facts_of};
 use crate::known::Known;
-use config_change::{FixedValues, count_fault, fixed_key, renumbered, with_past};
+use config_change::{FixedValues, RenumberFault, count_fault, fixed_key, renumbered, with_past};
 use line_rates::{Limits, Name, Way};
-use server_config::{Config, ServedStore, ServerNumbers};
+use server_config::{Config, ConfigFault, ServedStore, ServerNumbers};
 use server_house::Terms;
 use status_keeper::StatusFacts;
 use std::alloc::{AllocError, Global};
@@ -35,12 +41,17 @@ pub struct NextConfig {
 }
 
 /// A reason in words; none if memory runs out.
-pub fn words<T: Display>(alloc: Global, reason: &T) -> Option<String> {
+pub fn words<T: Display>(alloc: Global, reason: &T) -> Option<String>
+    ensures words { IfSome result
+        (λ text. IfSome (T.output reason.now) (λ octets. string_bytes text ≡ octets)) }
+{
     format!(in alloc; "{reason}").ok()
 }
 
 // The root of a store, as a configuration states it.
-fn root_of(store: &ServedStore) -> &str {
+fn root_of(store: &ServedStore) -> &str
+    ensures root { result.now ≡ root_of store.now }
+{
     match store {
         ServedStore::Memory(_) => "memory",
         ServedStore::Folder(folder) => folder.as_str(),
@@ -48,7 +59,9 @@ fn root_of(store: &ServedStore) -> &str {
 }
 
 // The capacity of a store in memory, as a configuration states it; 0 for a folder.
-fn capacity_of(store: &ServedStore) -> u64 {
+fn capacity_of(store: &ServedStore) -> u64
+    ensures capacity { result ≡ capacity_of store.now }
+{
     match store {
         ServedStore::Memory(store) => store.capacity(),
         ServedStore::Folder(_) => 0,
@@ -62,7 +75,12 @@ impl AtStart {
         numbers: ServerNumbers,
         store: &ServedStore,
         start: Start,
-    ) -> Result<AtStart, AllocError> {
+    ) -> Result<AtStart, AllocError>
+        ensures numbers { IfOk result (λ at_start. at_start.numbers ≡ numbers) }
+        ensures root { IfOk result (λ at_start. string_bytes at_start.root ≡ root_of store.now) }
+        ensures capacity { IfOk result (λ at_start. at_start.capacity ≡ capacity_of store.now) }
+        ensures start { IfOk result (λ at_start. at_start.start ≡ start) }
+    {
         Ok(AtStart {
             numbers,
             root: String::from_str(alloc, root_of(store))?,
@@ -72,7 +90,10 @@ impl AtStart {
     }
 
     // The reason for which a configuration cannot be taken while the server runs, if there is one.
-    fn hindrance(&self, alloc: Global, config: &Config) -> Option<Option<String>> {
+    fn hindrance(&self, alloc: Global, config: &Config) -> Option<Option<String>>
+        ensures hindrance { IsHindrance self.now config.now
+            (option_map (λ words. option_map string_bytes words) result) }
+    {
         let old = FixedValues {
             numbers: self.numbers,
             root: self.root.as_str(),
@@ -122,33 +143,63 @@ pub fn limit_words(alloc: Global, known: &Known, name: Name) -> Option<String> {
     reported.ok()
 }
 
-// The configuration of octets of the file at a path. `Err` is the reason for which they are none, with the path.
-fn config_of(alloc: Global, path: &str, octets: &[u8]) -> Result<Config, Option<String>> {
+// The configuration of octets of the file at a path. `Err` is the reason for which they are none, with the path; none
+// without memory.
+fn config_of(alloc: Global, path: &str, octets: &[u8]) -> Result<Config, Option<String>>
+    ensures config { IfOk result (IsConfigText octets.now) }
+    ensures refused { IfErr result
+        (λ words. IsNoConfig octets.now (option_map string_bytes words)) }
+{
     match Config::read(alloc, octets) {
         Ok(config) => Ok(config),
+        Err(ConfigFault::Memory) => Err(None),
         Err(fault) => Err(format!(in alloc; "{path}: {fault}").ok()),
     }
 }
 
-// A configuration with the numbers that its names are known by.
-fn with_numbers(alloc: Global, config: Config, known: &Known) -> Result<Config, Option<String>> {
+// A configuration with the numbers that its names are known by. `Err` is the reason for which it cannot have them; none
+// without memory.
+fn with_numbers(alloc: Global, config: Config, known: &Known) -> Result<Config, Option<String>>
+    ensures numbered { IfOk result (IsNumberedAs config known.now) }
+    ensures refused { IfErr result
+        (λ words. IsUnnumbered config known.now (option_map string_bytes words)) }
+{
     let Ok(earlier) = known.authorizer(alloc) else {
         return Err(None);
     };
     match renumbered(alloc, config, &earlier, &known.groups) {
         Ok(config) => Ok(config),
+        Err(RenumberFault::Memory) => Err(None),
         Err(fault) => Err(words(alloc, &fault)),
     }
 }
 
-// The parts of a configuration with these limits, the names of which follow those that were known.
+// The limits of a configuration with those of the past. `Err` is the reason for which there are none; none without memory.
+fn past_limits(alloc: Global, config: &Config, known: &Known) -> Result<Limits, Option<String>>
+    ensures limits { IfOk result (KeepPast config.now.limits known.now.limits) }
+    ensures refused { IfErr result
+        (λ words. IsPastFault config.now known.now (option_map string_bytes words)) }
+{
+    match with_past(alloc, &config.limits, &known.limits) {
+        Ok(limits) => Ok(limits),
+        Err(RenumberFault::Memory) => Err(None),
+        Err(fault) => Err(words(alloc, &fault)),
+    }
+}
+
+// The parts of a configuration with these limits, the names of which follow those that were known. `Err` is lack of
+// memory.
 fn parts_of(
     alloc: Global,
     config: Config,
     limits: Limits,
     known: &Known,
     facts: Option<StatusFacts>,
-) -> Result<NextConfig, Option<String>> {
+) -> Result<NextConfig, Option<String>>
+    ensures parts { IfOk result (AreParts config limits known.now) }
+    ensures facts { IfOk result (λ next. next.facts ≡ facts) }
+    ensures refused { IfErr result (λ words. words ≡ None) }
+{
     let Some(copy) = copied_limits(alloc, &limits) else {
         return Err(None);
     };
@@ -184,15 +235,12 @@ pub fn next_config(
     at_start: &AtStart,
     known: &Known,
 ) -> Result<NextConfig, Option<String>> {
-    let config = config_of(alloc, path, octets)?;
-    if let Some(reason) = at_start.hindrance(alloc, &config) {
+    let read = config_of(alloc, path, octets)?;
+    if let Some(reason) = at_start.hindrance(alloc, &read) {
         return Err(reason);
     }
-    let config = with_numbers(alloc, config, known)?;
-    let limits = match with_past(alloc, &config.limits, &known.limits) {
-        Ok(limits) => limits,
-        Err(fault) => return Err(words(alloc, &fault)),
-    };
+    let config = with_numbers(alloc, read, known)?;
+    let limits = past_limits(alloc, &config, known)?;
     let facts = facts_of(alloc, at_start.start, &config, &limits);
     parts_of(alloc, config, limits, known, facts)
 }

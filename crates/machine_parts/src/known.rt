@@ -1,6 +1,8 @@
 //! The names of users and groups that a server knows by numbers.
 
+ghost use Rattle.std.specs.Prelude.{◌≡◌, ◌+◌, ◌-◌, IfOk, OnOk, option_map};
 ghost use Rattle.machine_parts.specs.Known.{AreBelow};
+ghost use Rattle.machine_parts.specs.Names.{AreKnown, HasNumbers, name_in};
 
 use authorizer::{Authorizer, AuthorizerFault};
 use config_change::{NumberedName, known_names};
@@ -40,11 +42,22 @@ fn next_number(users: &[NumberedName]) -> u64
     next
 }
 
+/// Has an authorizer use a number for nobody.
+fn skip_one(users: &mut Authorizer) -> Result<(), AuthorizerFault>
+    ensures users { OnOk result (users.new.users ≡ users.old.users) }
+    ensures next { OnOk result (users.new.next ≡ users.old.next + 1) }
+{
+    users.add_user(NOBODY, "", "/", "")?;
+    users.remove_user(NOBODY)
+}
+
 /// Has an authorizer use the numbers from one up to another for nobody.
-fn skip(users: &mut Authorizer, from: u64, to: u64) -> Result<(), AuthorizerFault> {
-    for _ in from..to {
-        users.add_user(NOBODY, "", "/", "")?;
-        users.remove_user(NOBODY)?;
+fn skip(users: &mut Authorizer, from: u64, to: u64) -> Result<(), AuthorizerFault>
+    ensures users { OnOk result (users.new.users ≡ users.old.users) }
+    ensures next { OnOk result (users.new.next ≡ users.old.next + (to - from)) }
+{
+    for _number in from..to {
+        skip_one(users)?;
     }
     Ok(())
 }
@@ -69,7 +82,12 @@ impl Known {
         earlier: &[NumberedName],
         groups: Vec<String>,
         limits: Limits,
-    ) -> Result<Known, AllocError> {
+    ) -> Result<Known, AllocError>
+        ensures names { IfOk result
+            (λ known. AreKnown users.now earlier.now known.users.items) }
+        ensures groups { IfOk result (λ known. known.groups ≡ groups) }
+        ensures limits { IfOk result (λ known. known.limits ≡ limits) }
+    {
         let mut numbered = known_names(alloc, users, earlier)?;
         numbered.sort_unstable_by_key(|user| user.number);
         Ok(Known {
@@ -93,12 +111,17 @@ impl Known {
     }
 
     /// The names of all who are or were users, with their numbers.
-    pub fn users(&self) -> &[NumberedName] {
+    pub fn users(&self) -> &[NumberedName]
+        ensures users { result.now ≡ self.now.users.items }
+    {
         self.users.as_slice()
     }
 
     /// The name of the user with a number.
-    pub fn user(&self, number: u32) -> Option<&str> {
+    pub fn user(&self, number: u32) -> Option<&str>
+        ensures name { option_map (λ name. name.now) result
+            ≡ name_in self.now.users.items number }
+    {
         for user in &self.users {
             if user.number == number {
                 return Some(user.name.as_str());
@@ -108,11 +131,17 @@ impl Known {
     }
 
     /// An authorizer in which users of these names have these numbers, and new ones get others than anybody has had.
-    pub fn authorizer(&self, alloc: Global) -> Result<Authorizer, AuthorizerFault> {
+    /// `Err` is lack of memory, or that two names have one number, or that two users have one name.
+    pub fn authorizer(&self, alloc: Global) -> Result<Authorizer, AuthorizerFault>
+        ensures numbers { IfOk result (HasNumbers self.now.users.items self.now.next) }
+    {
         let mut users = Authorizer::new(alloc)?;
         let mut next = 0;
         for user in &self.users {
             let number = u64::from(user.number);
+            if number < next {
+                return Err(AuthorizerFault::NoNumber);
+            }
             skip(&mut users, next, number)?;
             users.add_user(user.name.as_str(), "", "/", "")?;
             next = number + 1;

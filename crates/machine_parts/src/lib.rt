@@ -10,6 +10,9 @@
 //!
 //! Each call on the machine is made here alone. `ftpd_program`, `transfer_log`, `config_change` and others decide on its
 //! answer.
+//!
+//! Decisions that need no machine have contracts: `asked` and `stated_options` on the service that the words state,
+//! `following`, `facts` and [`Known`] on the parts of a reload. [`next_config`] puts these together.
 #![tactic(auto)]
 
 mod asked;
@@ -30,6 +33,7 @@ mod running_file;
 mod sign_file;
 mod starting;
 mod stated_files;
+mod stated_options;
 mod status_file;
 mod status_thread;
 mod threads;
@@ -50,7 +54,8 @@ pub use page_thread::PageSocket;
 pub use ready_file::MachineReadyFile;
 pub use running_file::RunningWriter;
 pub use sign_file::{SignFile, SignLook};
-pub use starting::{Means, Prepared, Shown, Signs, Unprepared, prepare};
+pub use starting::{Means, Prepared, Shown, Signs, prepare};
+pub use stated_options::Unprepared;
 pub use status_file::StatusFile;
 pub use status_thread::StatusWriter;
 pub use threads::{OwnThreads, ReadPaths, another};

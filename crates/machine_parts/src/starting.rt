@@ -7,15 +7,14 @@ use crate::ready_file::MachineReadyFile;
 use crate::running_file::RUNNING_MODE;
 use crate::sign_file::SignFile;
 use crate::stated_files::{FRONT, found_at, twin_of};
+use crate::stated_options::{
+    Unprepared, check_options, form_named, not_prepared, part, sessions_in, warned,
+};
 use crate::status_file::{STATUS_MODE, StatusFile};
 use client_patience::Patience;
-use ftpd_program::{
-    IdleOption, ServeFault, StartFault, idle_sessions, idle_sync, is_for_nothing, is_free_for_log,
-    is_free_for_status, reads_input_again, stated_sessions,
-};
+use ftpd_program::{ServeFault, StartFault, is_free_for_log, is_free_for_status};
 use line_queue::LogForm;
-use server_config::{Config, ServedStore};
-use std::alloc::AllocError;
+use server_config::ServedStore;
 use std::net::{Net, TcpListener, TcpStream};
 use std::{fs, io};
 
@@ -59,20 +58,6 @@ pub struct Means {
 pub struct Prepared {
     pub means: Means,
     pub ready: Option<MachineReadyFile>,
-}
-
-/// The fault of a start, and the reason in the machine's words, if it is known.
-#[derive(Drop)]
-pub struct Unprepared {
-    pub fault: ServeFault,
-    pub start: Option<StartFault>,
-}
-
-fn not_prepared(fault: ServeFault, start: StartFault) -> Unprepared {
-    Unprepared {
-        fault,
-        start: Some(start),
-    }
 }
 
 /// Number of the machine's error "Not a directory".
@@ -203,60 +188,6 @@ fn ready_at(machine: &HostRuntime, path: String) -> Result<MachineReadyFile, Sta
     }
 }
 
-/// Returns the form of a name; plain if none is stated. `Err` if no form has this name.
-fn form_named(name: Option<String>) -> Result<LogForm, StartFault> {
-    let Some(word) = name else {
-        return Ok(LogForm::Plain);
-    };
-    match word.as_str() {
-        "plain" => Ok(LogForm::Plain),
-        "journal" => Ok(LogForm::Journal),
-        _ => Err(StartFault::UnknownForm { word }),
-    }
-}
-
-/// Returns the number of sessions that a word states; 0, which is no limit, if none is stated. `Err` if it states none.
-fn sessions_in(word: Option<String>) -> Result<u32, StartFault> {
-    let Some(word) = word else {
-        return Ok(0);
-    };
-    match stated_sessions(word.as_str()) {
-        Some(sessions) => Ok(sessions),
-        None => Err(StartFault::NoSessions { word }),
-    }
-}
-
-/// Adds a line on an option, if it has no effect.
-fn add_idle(warnings: &mut String, option: Option<IdleOption>) -> Result<(), AllocError> {
-    match option {
-        Some(option) => writeln!(warnings, "{option}"),
-        None => Ok(()),
-    }
-}
-
-/// Returns the texts of warnings, a line each, with those of options that have no effect.
-fn with_idle(
-    warnings: String,
-    config: &Config,
-    syncs: bool,
-    user_sessions: u32,
-) -> Result<String, Unprepared> {
-    let mut warnings = warnings;
-    let is_in_memory = matches!(&config.store, ServedStore::Memory(_));
-    let sync = add_idle(&mut warnings, idle_sync(syncs, is_in_memory));
-    let sessions = add_idle(
-        &mut warnings,
-        idle_sessions(user_sessions, config.numbers.max_cons),
-    );
-    if sync.is_err() || sessions.is_err() {
-        return Err(Unprepared {
-            fault: ServeFault::Memory,
-            start: None,
-        });
-    }
-    Ok(warnings)
-}
-
 /// Returns the transfer log at a path, if there is to be one. `Err` if its file cannot be opened.
 fn log_at(machine: &HostRuntime, path: Option<String>) -> Result<Option<LogFile>, StartFault> {
     match path {
@@ -351,14 +282,6 @@ where
     }
 }
 
-/// A part of a service, or the fault of its start.
-fn part<T>(made: Result<T, StartFault>, fault: ServeFault) -> Result<T, Unprepared> {
-    match made {
-        Ok(part) => Ok(part),
-        Err(start) => Err(not_prepared(fault, start)),
-    }
-}
-
 /// Returns the signs at these paths. `Err` says what could not be had.
 fn signs_at(machine: &HostRuntime, paths: SignPaths) -> Result<Signs, Unprepared> {
     let SignPaths {
@@ -411,34 +334,6 @@ where
         page,
     };
     Ok((shown, log))
-}
-
-/// Fails if options contradict each other.
-fn check_options(patience: Patience, read: &ReadText, signs: &SignPaths) -> Result<(), Unprepared> {
-    if is_for_nothing(patience, signs.drain.is_some()) {
-        return Err(not_prepared(ServeFault::DrainSeconds, StartFault::NothingDrains));
-    }
-    if reads_input_again(read.path.as_str(), signs.reload.is_some()) {
-        return Err(not_prepared(ServeFault::ReloadFile, StartFault::InputAgain));
-    }
-    Ok(())
-}
-
-/// The configuration of a service, with warnings of options that have no effect. `Err` if memory runs out.
-fn warned(read: ReadText, syncs: bool, user_sessions: u32) -> Result<ReadText, Unprepared> {
-    let ReadText {
-        path,
-        config,
-        warnings,
-        octets,
-    } = read;
-    let warnings = with_idle(warnings, &config, syncs, user_sessions)?;
-    Ok(ReadText {
-        path,
-        config,
-        warnings,
-        octets,
-    })
 }
 
 /// Prepares a service. `Err` says what could not be had.

@@ -10,7 +10,7 @@ pub enum DepthFault {
     #[error("out of memory")]
     Memory,
     /// A user can have more octets than a leaf may want, `MAX_WANT`, and limits above it hold it back.
-    #[error("UserTooLarge")]
+    #[error("a user can have too much")]
     UserTooLarge,
 }
 

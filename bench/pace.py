@@ -105,7 +105,7 @@ def segments(server):
 def measured(folder, program, case):
     """The octets a second of each transfer, the segments a second, their octets a second, and the server's share of a core."""
     rates, users, clients = case[:3]
-    with Running(folder, program, False, rates, users) as server:
+    with Running(folder, program, False, rates, users, words=case[4] if len(case) > 4 else ()) as server:
         transfers = [Transfer(server, *it) for it in clients]
         fast = [it for it in transfers if it.line == DOWN and not it.speed]
         is_over = threading.Event()
@@ -154,7 +154,10 @@ def guaranteed(rate, number, floor):
 
 LINE = 4 * MEGABYTE
 DRIBBLES = [("ann", UP, 0, 1_400, 0.014)] * 5
-# case: lines of the server's table, users, transfers (user, command, and how it reads or sends), and what each ought to have
+# Words of a server whose line is shared among users, of whom two share it here.
+AMONG_USERS = ("--share-by", "users")
+PAIR = (("ann", ""), ("bob", ""))
+# case: lines of the server's table, users, transfers (user, command, and how it reads or sends), what each ought to have, and more words of the command line
 CASES = {
     "64 downloads at 2,000,000": equal(2_000_000, 64, DOWN),
     "64 downloads at 200,000": equal(200_000, 64, DOWN),
@@ -191,6 +194,22 @@ CASES = {
         (("ann", "session_down_rate = 300000"), ("bob", "")),
         [("ann", DOWN)] * 4 + [("bob", DOWN)] * 4,
         [300_000] * 4 + [700_000] * 4,
+    ),
+    "4 MiB among users: one download, and eight of another": (f"rate = {LINE}", PAIR, [("ann", DOWN)] + [("bob", DOWN)] * 8, [LINE / 2] + [LINE / 16] * 8, AMONG_USERS),
+    "4 MiB among users: one download, and 60 of another": (f"rate = {LINE}", PAIR, [("ann", DOWN)] + [("bob", DOWN)] * 60, [LINE / 2] + [LINE / 120] * 60, AMONG_USERS),
+    "4 MiB among users: one download, and eight sessions' rates of 128 KiB": (
+        f"rate = {LINE}",
+        (("ann", ""), ("bob", f"session_down_rate = {LINE // 32}")),
+        [("ann", DOWN)] + [("bob", DOWN)] * 8,
+        [LINE * 3 / 4] + [LINE / 32] * 8,
+        AMONG_USERS,
+    ),
+    "4 MiB among users: a guarantee of 3 MiB, and eight of another": (
+        f"rate = {LINE}",
+        (("ann", f"session_down_floor = {3 * MEGABYTE}"), ("bob", "")),
+        [("ann", DOWN)] + [("bob", DOWN)] * 8,
+        [3 * MEGABYTE] + [MEGABYTE / 8] * 8,
+        AMONG_USERS,
     ),
     "1 MB: a download beside five uploads that dribble": ("rate = 1000000", (("ann", ""), ("bob", "")), [("bob", DOWN), *DRIBBLES], [500_000] + [100_000] * 5),
     "a user without a limit, and 1 user with a rate": unlimited_beside(1),

@@ -50,9 +50,9 @@ def ports(count):
 
 
 class Running:
-    """A server that runs. `rates` are lines of its table, `users` its users: (name, more lines), and `groups` the tables of its groups."""
+    """A server that runs. `rates` are lines of its table, `users` its users: (name, more lines), `groups` the tables of its groups, and `words` more words of its command line."""
 
-    def __init__(self, folder, program, is_plain, rates="", users=(("ann", ""),), groups=""):
+    def __init__(self, folder, program, is_plain, rates="", users=(("ann", ""),), groups="", words=()):
         self.folder, self.program, self.is_plain = folder, program, is_plain
         self.port = ports(1_000)
         first, last = self.port + 1, self.port + 999
@@ -63,7 +63,7 @@ class Running:
         text = head + groups + "".join(f'[[user]]\nname = "{name}"\npassword = "secret"\nhome = "/"\nperms = "elradfmw"\n{more}\n' for name, more in users)
         with open(f"{folder}/ftpd.toml", "w", encoding="utf-8") as it:
             it.write(text)
-        self.words = [program, "serve", f"{folder}/ftpd.toml"]
+        self.words = [program, "serve", f"{folder}/ftpd.toml", *words]
 
     def __enter__(self):
         self.log = open(f"{self.folder}/log", "wb")

@@ -13,15 +13,21 @@ _ftpd_words() {
         return
     fi
     [[ ${COMP_WORDS[1]} == serve ]] && options="$2 $options"
-    [[ ${COMP_WORDS[1]} == share ]] && options="--svg $options"
+    [[ ${COMP_WORDS[1]} == share ]] && options="--svg --by $options"
+    [[ ${COMP_WORDS[1]} == check ]] && options="--by $options"
     [[ ${COMP_WORDS[1]} == top ]] && options="$4 $options"
     [[ ${COMP_WORDS[1]} == usage ]] && options="$5 $options"
     [[ ${COMP_WORDS[1]} == plan || ${COMP_WORDS[1]} == check-config ]] && options="$3 $options"
+    [[ ${COMP_WORDS[1]} == plan ]] && options="--share-by $options"
     [[ ${COMP_WORDS[1]} == check-config ]] && options="--against --against-running $options"
     if [[ ${COMP_WORDS[1]} == help ]]; then
         [[ $COMP_CWORD -gt 2 ]] || mapfile -t COMPREPLY < <(compgen -W "$1" -- "$word")
     elif [[ $before == --*-timeout || $before == --*-delay || $before == --*-seconds || $before == --*-sessions || $before == --status-port || $before == --rows || $before == --first || $before == --day ]]; then
         return # a number, or a day
+    elif [[ $before == --by && ${COMP_WORDS[1]} != usage ]]; then
+        return # a depth
+    elif [[ $before == --share-by ]]; then
+        mapfile -t COMPREPLY < <(compgen -W 'sessions users' -- "$word")
     elif [[ $before == --by ]]; then
         mapfile -t COMPREPLY < <(compgen -W 'user file hour address' -- "$word")
     elif [[ $before == --log-form ]]; then
@@ -34,7 +40,7 @@ _ftpd_words() {
 }
 
 _ftpd() {
-    _ftpd_words 'share check check-config migrate script serve plan top usage help' '--stop-file --ready-file --drain-file --reload-file --running-file --transfer-log --log-form --status --status-port --login-timeout --idle-timeout --login-delay --drain-seconds --end-file --user-sessions --sync' '--json' '--once --rows' '--day --by --first --json --csv'
+    _ftpd_words 'share check check-config migrate script serve plan top usage help' '--stop-file --ready-file --drain-file --reload-file --running-file --transfer-log --log-form --status --status-port --login-timeout --idle-timeout --login-delay --drain-seconds --end-file --user-sessions --sync --share-by' '--json' '--once --rows' '--day --by --first --json --csv'
 }
 
 _sheets() {

@@ -93,6 +93,7 @@ def a_status_file():
         status = next_status(server)
         same((status["version"], status["unit"], status["sessions"], status["transfers"]), (1, "octets", 0, []), "the first status")
         same(status["line"], {"both": 3_000_000, "down": 2_900_000, "up": 2_800_000}, "its rates")
+        same(status["shared_among"], "sessions", "among whom it is shared")
         same(os.stat(f"{server.place}/status.json").st_mode & 0o777, 0o640, "its mode")
         client = Client(server)
         same(client.retrieve("f"), b"a\nb", "a file")

@@ -108,7 +108,8 @@ def top(past, now, rows):
             used("down ", total(past, now, "down"), line["down"]) + used("   up ", total(past, now, "up"), line["up"])
             + used("   both ", both(past, now), line["both"]),
             f"{len(idle(now))} idle" + used("   guaranteed down ", now["guaranteed_down"] or 0, line["down"])
-            + used("   up ", now["guaranteed_up"] or 0, line["up"])] + level(past, now, "down", rows) + level(past, now, "up", rows)
+            + used("   up ", now["guaranteed_up"] or 0, line["up"]),
+            *(["shared among users"] if now["shared_among"] == "users" else [])] + level(past, now, "down", rows) + level(past, now, "up", rows)
 
 
 def entry(earlier, past, now, it):

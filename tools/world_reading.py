@@ -1,15 +1,15 @@
 r"""The table of events of the core of sharing, read a second time: tools/random-worlds compares the world that was proved with it.
 
 It is written from the table as docs/world.md and docs/rates.md tell it. A lane is a small object, a tree of a tick is a list of
-names with their limits, and grants are given octet by octet. It takes the script of crates/test_world_steps line by line and says what
-that program is to print.
+names with their limits, and grants are given octet by octet: to leaves, or to users and then to the leaves of each. It takes the
+script of crates/test_world_steps line by line and says what that program is to print.
 
     reading = Reading()
     assert reading.answer("world 1 30 0 0") == ""
     assert reading.answer("sit 0") == "done\n"
     assert reading.answer("sit 1") == "NoLane\n"
 """
-from dataclasses import dataclass, field
+from dataclasses import dataclass, field, replace
 
 MOST_WANT = 4_294_967_295
 MOST_ISSUED = 2**62
@@ -52,6 +52,8 @@ class Rates:
     groups: dict = field(default_factory=dict)
     # For each user the group, the rates, those of each session, and what each session is guaranteed.
     users: dict = field(default_factory=dict)
+    # Whether the line is shared among users, and not among sessions.
+    by_users: bool = False
 
     def names(self, ask):
         """What an ask is counted under, from the server down, each with its rate."""
@@ -95,30 +97,76 @@ def in_leaf_order(rates, asks):
     return sorted_from(1, asks)
 
 
+def filled(held, wants, caps):
+    """What each ends with: octet by octet to the one with the least of those with room, the first of several. A cap is the most
+    that some of them may have together, with their places."""
+    held = list(held)
+    while True:
+        full = {it for most, places in caps if sum(held[it] for it in places) == most for it in places}
+        with_room = [it for it, want in enumerate(wants) if held[it] < want and it not in full]
+        if not with_room:
+            return held
+        held[min(with_room, key=lambda it: (held[it], it))] += 1
+
+
+def user_of(ask):
+    """Whose share an ask is from, where a line is shared among users: each has one for each way."""
+    return ask.way, ask.user
+
+
+def most_of(leaves, places, caps):
+    """What one user can have: each session up to its cap, and together up to each cap on exactly the user's leaves."""
+    sessions = {}
+    for place in places:
+        sessions.setdefault(leaves[place][1].session, []).append(place)
+    of_each = {tuple(its): sum(leaves[it][1].want for it in its) for its in sessions.values()}
+    for most, its in caps:
+        if tuple(its) in of_each:
+            of_each[tuple(its)] = min(of_each[tuple(its)], most)
+    return min([sum(of_each.values())] + [most for most, its in caps if its == places])
+
+
+def users_grants(leaves, floors, wants, caps):
+    """What each leaf gets where users share: first the total of each user, and then each total among its leaves. None where a
+    user can have more than a tree may want."""
+    users = {}
+    for place, (_, ask) in enumerate(leaves):
+        users.setdefault(user_of(ask), []).append(place)
+    owned = list(users.values())
+    most = [most_of(leaves, places, caps) for places in owned]
+    if max(most, default=0) > MOST_WANT:
+        return None
+    # (a cap that is not inside a user is on whole users)
+    outer = [(cap, [it for it, places in enumerate(owned) if set(places) <= set(its)]) for cap, its in caps]
+    outer = [(cap, its) for cap, its in outer if its]
+    totals = filled([sum(floors[it] for it in places) for places in owned], most, outer)
+    return filled(floors, wants, caps + list(zip(totals, owned)))
+
+
 def grants_of(rates, tick, asks):
-    """What each ask gets, by lane: from its floor on octet by octet to the one with the least of those with room; None where
-    the floors do not fit."""
+    """What each ask gets, by lane; or the fault, where there is one."""
     leaves = in_leaf_order(rates, asks)
-    held = [rates.floor(ask) for _, ask in leaves]
+    floors, wants = [rates.floor(ask) for _, ask in leaves], [ask.want for _, ask in leaves]
     limits, below = {}, {}
     for place, (_, ask) in enumerate(leaves):
         for name, rate in rates.names(ask):
             below.setdefault(name, []).append(place)
             if rate:
                 limits[name] = limit(rate, tick)
-    if any(sum(held[it] for it in below[name]) > most for name, most in limits.items()):
-        return None
-    while True:
-        full = {it for name, most in limits.items() if sum(held[it] for it in below[name]) == most for it in below[name]}
-        with_room = [it for it, (_, ask) in enumerate(leaves) if held[it] < ask.want and it not in full]
-        if not with_room:
-            return {lane: octets for (lane, _), octets in zip(leaves, held)}
-        held[min(with_room, key=lambda it: (held[it], it))] += 1
+    caps = [(most, below[name]) for name, most in limits.items()]
+    if any(sum(floors[it] for it in places) > most for most, places in caps):
+        return "FloorsOver"
+    held = users_grants(leaves, floors, wants, caps) if rates.by_users else filled(floors, wants, caps)
+    if held is None:
+        return "Unshared"
+    return {lane: octets for (lane, _), octets in zip(leaves, held)}
 
 
 class Reading:
     def __init__(self):
         self.next_groups, self.next_users = {}, {}
+        # How many decisions among users are not what they would be among sessions.
+        self.unlike = 0
         self.begin(0, Rates())
 
     def begin(self, lanes, rates):
@@ -144,8 +192,8 @@ class Reading:
                 self.next_users[int(user)] = (None if group == "-" else int(group), (down, up), (session_down, session_up), (floor_down, floor_up))
                 return ""
             case "world":
-                lanes, server, down, up = map(int, words)
-                self.begin(lanes, Rates(server, (down, up), self.next_groups, self.next_users))
+                lanes, server, down, up = map(int, words[:4])
+                self.begin(lanes, Rates(server, (down, up), self.next_groups, self.next_users, words[4:] == ["users"]))
                 self.next_groups, self.next_users = {}, {}
                 return ""
             case "run":
@@ -175,8 +223,10 @@ class Reading:
         if any(ask.want > MOST_WANT for _, ask in asks):
             return "TooMuch"
         grants = grants_of(self.rates, tick, asks)
-        if grants is None:
-            return "FloorsOver"
+        if isinstance(grants, str):
+            return grants
+        if self.rates.by_users:
+            self.unlike += grants != grants_of(replace(self.rates, by_users=False), tick, asks)
         total = sum(grants.values())
         if self.issued + total > MOST_ISSUED:
             return "BookFull"

@@ -4,24 +4,35 @@ use Rattle.std.specs.Prelude.{IsPermutation}
 use Rattle.std.proofs.lemmas.List.Sorted.{IsPermutation-map}
 use Rattle.line_rates.specs.FloorSums.{FloorsFit}
 use Rattle.line_rates.specs.Rates.{Rates}
-use Rattle.line_rates.specs.Refused.{HasFault, IsFaultOf}
+use Rattle.limit_tree.specs.declared.fault.TreeFault.{TreeFault}
+use Rattle.limit_tree.specs.declared.fault.TreeFault.TheVariants.{TooDeep, TooManyLeaves, WantTooLarge, LimitTooLarge, FloorTooLarge, FloorsOverLimit}
+use Rattle.line_rates.specs.Refused.{HasFault, IsNotOfFloors}
 use Rattle.line_rates.specs.TickTree.{Asker, ask_in}
 use Rattle.line_rates.specs.declared.ask.Ask.{Ask}
-use Rattle.line_rates.specs.declared.fault.PlanFault.{PlanFault}
-use Rattle.line_rates.specs.declared.fault.PlanFault.TheVariants.{Tree, Memory}
+use Rattle.line_rates.specs.declared.fault.PlanFault.TheVariants.{Tree as Planned}
 use Rattle.ask_shares.specs.Leaves.{AreNumbered}
-use Rattle.ask_shares.specs.Shares.{IsShareFault}
+use Rattle.ask_shares.specs.Faults.{IsNotOfGuarantees}
+use Rattle.ask_shares.specs.Shares.{HasTreeFault}
+use Rattle.ask_shares.specs.declared.fault.NotShared.TheVariants.{Tree}
 use Rattle.ask_shares.proofs.Shared.{mapped_is}
 
 pub numbered_asks : (asks : List Ask) (numbered : List Asker) → AreNumbered asks numbered → map ask_in numbered ≡ asks
 numbered_asks asks numbered are = mapped_is ask_in numbered asks are.count (λ i x e. (are.each i x e).1)
 
-pub fault_is : (A : Type 0) (rates : Rates) (tick : ℕ) (asks : List Ask) (numbered : List Asker) (fault : PlanFault) → AreNumbered asks numbered → IsFaultOf A rates tick numbered fault → IsShareFault A rates tick asks fault
-fault_is A rates tick asks numbered (Tree fault) are has = record {
+pub fault_is : (A : Type 0) (rates : Rates) (tick : ℕ) (asks : List Ask) (numbered : List Asker) (fault : TreeFault) → AreNumbered asks numbered → HasFault A rates tick numbered fault → HasTreeFault A rates tick asks fault
+fault_is A rates tick asks numbered fault are has = record {
   order = map ask_in has.order;
   root = has.root;
   all = subst (λ x. IsPermutation x (map ask_in has.order)) (numbered_asks asks numbered are) (IsPermutation-map ask_in numbered has.order has.all);
   tree = has.tree;
   is = has.is;
 }
-fault_is A rates tick asks numbered Memory are has = tt
+
+-- and a fault that is not of floors is not of guarantees
+pub of_floors : (fault : TreeFault) → IsNotOfFloors (Planned fault) → IsNotOfGuarantees (Tree fault)
+of_floors TooDeep is = tt
+of_floors TooManyLeaves is = tt
+of_floors WantTooLarge is = tt
+of_floors LimitTooLarge is = tt
+of_floors FloorTooLarge is = tt
+of_floors (FloorsOverLimit branch) is = is

@@ -6,7 +6,8 @@ use Rattle.std.specs.List.Sorted.{IsNonDecreasingBy}
 use Rattle.std.proofs.lemmas.List.{get_or-map}
 use Rattle.std.proofs.lemmas.List.Sorted.{All-permutation, IsPermutation-map, IsPermutation-trans, length_permutation, sum_by-IsPermutation}
 use Rattle.std.proofs.lemmas.Option.{get_or_from_slice_get, slice_get-get_or, slice_get_within}
-use Rattle.limit_tree.specs.Sharing.{LimitTree, IsBest, IsWithin}
+use Rattle.limit_tree.specs.Sharing.{LimitTree, IsWithin}
+use Rattle.fair_terms.specs.Fair.{IsFair, fair_within}
 use Rattle.line_rates.specs.Granted.{Granted, GrantsKeepNames, granted_ask, granted_octets, granted_under}
 use Rattle.line_rates.specs.Names.{bears, floor_of}
 use Rattle.line_rates.specs.Rates.{Rates}
@@ -79,7 +80,7 @@ tree_shares rates tick order lanes t leaves tree best =
       tree = t;
       of_tick = here;
       floors = here.floors ∙ floors_are rates leaves (λ i s e. (are.each i s e).floor);
-      best = subst (IsBest t) (sym grants) best.best;
+      best = subst (λ x. IsFair rates.share_by x t (map share_grant leaves)) (sym asks) (subst (λ x. IsFair rates.share_by order t x) (sym grants) best.best);
       held = λ i s e. subst (λ x. IsHeldBy rates tick x t (map share_grant leaves) i s.held) (sym asks) (subst (λ x. IsHeldBy rates tick order t x i s.held) (sym grants) (are.each i s e).held);
     }
 
@@ -145,7 +146,7 @@ ask_shares rates tick asks numbered order lanes t leaves shares are p same tree 
 pub names_are_kept : (rates : Rates) (tick : ℕ) (leaves shares : List AskShare) → GrantsKeepNames → AreTreeShares rates tick leaves → IsPermutation leaves shares → KeepNames rates tick shares
 names_are_kept rates tick leaves shares law are moved = λ n most limit.
     let tree : IsTickTree rates tick (map granted_ask (map share_granted leaves)) are.tree = subst (λ x. IsTickTree rates tick x are.tree) (sym (granted_asks leaves)) are.of_tick in
-    let within = subst (λ x. IsWithin are.tree x) (sym (granted_grants leaves)) are.best.within in
+    let within = subst (λ x. IsWithin are.tree x) (sym (granted_grants leaves)) (fair_within rates.share_by (map share_ask leaves) are.tree (map share_grant leaves) are.best) in
     let kept = law rates tick are.tree (map share_granted leaves) tree within n most limit in
     let sum = sum_by-IsPermutation (λ g. if bears rates n g.ask then g.octets else 0) (map share_granted leaves) (map share_granted shares) (IsPermutation-map share_granted leaves shares moved) in
     omega (arith, kept, sum)

@@ -1,6 +1,7 @@
 -- The shares of the leaves of the tree of a tick, and the places of asks.
 use Rattle.std.specs.Prelude.{◌≡◌, ℕ, List, length, slice_get, Some}
-use Rattle.limit_tree.specs.Sharing.{LimitTree, IsBest}
+use Rattle.limit_tree.specs.Sharing.{LimitTree}
+use Rattle.fair_terms.specs.Fair.{IsFair}
 use Rattle.line_rates.specs.declared.ask.Ask.{Ask}
 use Rattle.line_rates.specs.Names.{floor_of}
 use Rattle.line_rates.specs.Rates.{Rates}
@@ -36,10 +37,10 @@ pub record AreLeafShares (rates : Rates) (tick : ℕ) (asks : List Ask) (lanes :
   pub each : (i : ℕ) (s : AskShare) → slice_get shares i ≡ Some s
       → IsLeafShare rates tick asks lanes t g i s
 
--- shares of best grants
+-- shares of fair grants
 pub record AreBestLeaves (rates : Rates) (tick : ℕ) (asks : List Ask) (lanes : List ℕ)
     (t : LimitTree) (shares : List AskShare) : Type 0 where
   pub grants : List ℕ
   pub count : length asks ≡ length grants
-  pub best : IsBest t grants
+  pub best : IsFair rates.share_by asks t grants
   pub are : AreLeafShares rates tick asks lanes t grants shares

@@ -1,8 +1,9 @@
 -- The shares of asks in a tick.
-use Rattle.std.specs.Prelude.{◌≡◌, ◌≤◌, ℕ, List, map, slice_get, Some, IsPermutation, ⊤}
+use Rattle.std.specs.Prelude.{◌≡◌, ◌≤◌, ℕ, List, map, slice_get, Some, IsPermutation}
 use Rattle.limit_tree.specs.Faults.{tree_fault}
 use Rattle.limit_tree.specs.Outline.{limits, places}
-use Rattle.limit_tree.specs.Sharing.{LimitTree, IsBest}
+use Rattle.limit_tree.specs.Sharing.{LimitTree}
+use Rattle.fair_terms.specs.Fair.{IsFair}
 use Rattle.limit_tree.specs.declared.fault.TreeFault.{TreeFault}
 use Rattle.limit_tree.specs.declared.node.Node.{Node}
 use Rattle.line_rates.specs.Granted.{Granted, granted_under}
@@ -11,8 +12,6 @@ use Rattle.line_rates.specs.TickTree.{IsTickTree}
 use Rattle.line_rates.specs.Ticks.{rate_limit}
 use Rattle.line_rates.specs.declared.ask.Ask.{Ask}
 use Rattle.line_rates.specs.declared.ask.Name.{Name}
-use Rattle.line_rates.specs.declared.fault.PlanFault.{PlanFault}
-use Rattle.line_rates.specs.declared.fault.PlanFault.TheVariants.{Tree, Memory}
 use Rattle.held_names.specs.Held.{IsHeldBy}
 use Rattle.ask_shares.specs.declared.share.AskShare.{AskShare}
 
@@ -25,13 +24,13 @@ share_floor s = s.floor
 abbrev pub share_grant : AskShare → ℕ
 share_grant s = s.grant
 
--- Shares in the order of the leaves of the tree of the tick: best grants, the floors of the leaves,
+-- Shares in the order of the leaves of the tree of the tick: fair grants, the floors of the leaves,
 -- and for each leaf with less than it wants the name of a bottleneck.
 pub record AreTreeShares (rates : Rates) (tick : ℕ) (leaves : List AskShare) : Type 0 where
   pub tree : LimitTree
   pub of_tick : IsTickTree rates tick (map share_ask leaves) tree
   pub floors : tree.floors ≡ map share_floor leaves
-  pub best : IsBest tree (map share_grant leaves)
+  pub best : IsFair rates.share_by (map share_ask leaves) tree (map share_grant leaves)
   pub held : (i : ℕ) (s : AskShare) → slice_get leaves i ≡ Some s
       → IsHeldBy rates tick (map share_ask leaves) tree (map share_grant leaves) i s.held
 
@@ -62,7 +61,3 @@ pub record HasTreeFault (A : Type 0) (rates : Rates) (tick : ℕ) (asks : List A
   pub all : IsPermutation asks order
   pub tree : IsTickTree rates tick order (limits (places root))
   pub is : tree_fault (places root) ≡ Some fault
-
-abbrev pub IsShareFault : (A : Type 0) → Rates → ℕ → List Ask → PlanFault → Type 0
-IsShareFault A rates tick asks (Tree fault) = HasTreeFault A rates tick asks fault
-IsShareFault A rates tick asks Memory = ⊤

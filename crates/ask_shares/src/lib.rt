@@ -17,10 +17,14 @@
 //! ```
 #![tactic(auto)]
 
+mod fault;
 mod leaves;
 mod share;
 mod sharing;
 
-pub use line_rates::{Ask, GroupRate, Limits, LimitsFault, Name, PlanFault, UserRate, Way};
+pub use fault::NotShared;
+pub use line_rates::{
+    Ask, GroupRate, Limits, LimitsFault, Name, PlanFault, ShareBy, UserRate, Way,
+};
 pub use share::AskShare;
 pub use sharing::{MAX_ASKS, share_asks};

@@ -5,12 +5,13 @@ ghost use Rattle.std.specs.List.{All};
 ghost use Rattle.std.specs.List.Sorted.{IsNonDecreasingBy};
 ghost use Rattle.limit_tree.specs.Outline.{limits as seen};
 ghost use Rattle.line_rates.specs.FloorSums.{FloorsFit};
-ghost use Rattle.line_rates.specs.Refused.{IsNotOfFloors};
 ghost use Rattle.line_rates.specs.TickTree.{Asker, IsPlan};
 ghost use Rattle.ask_shares.specs.Leaves.{AreNumbered, share_place};
-ghost use Rattle.ask_shares.specs.Shares.{AreAskShares, IsShareFault, KeepNames};
+ghost use Rattle.ask_shares.specs.Faults.{IsAskFault, IsNotOfGuarantees, IsUnshared};
+ghost use Rattle.ask_shares.specs.Shares.{AreAskShares, KeepNames};
 
-use crate::leaves::best_shares;
+use crate::fault::NotShared;
+use crate::leaves::fair_leaves;
 use crate::share::AskShare;
 use line_rates::{Ask, Limits, Plan, PlanFault, grants_keep_names, tree_of};
 use std::alloc::{AllocError, Allocator};
@@ -60,53 +61,56 @@ fn sort_by_place<A: Allocator>(shares: &mut Vec<AskShare, A>)
 }
 
 // The shares of asks, from the plan of their tick.
-fn shares_in<L: Allocator, P: Allocator, A: Allocator + Clone>(
+fn shares_in<L: Allocator, A: Allocator + Clone>(
     alloc: A,
     limits: &Limits<L>,
     tick: u64,
     asks: &[Ask],
-    plan: &Plan<P>,
-) -> Result<Vec<AskShare, A>, AllocError>
+    plan: Plan<A>,
+) -> Result<Vec<AskShare, A>, NotShared>
     requires plan { (numbered : List Asker) × AreNumbered asks.now numbered
-        × IsPlan limits.now tick numbered (seen plan.now.tree) plan.now.lanes.items }
+        × IsPlan limits.now tick numbered (seen plan.tree) plan.lanes.items }
     ensures shares { IfOk result (λ shares. AreAskShares limits.now tick asks.now shares.items) }
     ensures names { IfOk result (λ shares. KeepNames limits.now tick shares.items) }
+    ensures fault { IfErr result (IsUnshared limits.now.share_by) }
 {
     grants_keep_names();
-    let order = in_order(alloc.clone()?, asks, &plan.lanes)?;
-    let mut shares = best_shares(alloc, limits, tick, &order, plan)?;
+    let Plan { tree, lanes } = plan;
+    let order = in_order(alloc.clone()?, asks, &lanes)?;
+    let mut shares = fair_leaves(alloc, limits, tick, &order, &lanes, tree)?;
     sort_by_place(&mut shares);
     Ok(shares)
 }
 
-/// The shares of asks in a tick, in the order of the asks: best grants (max-min fair in whole units) within the limits of
-/// the server, the directions, the groups, users and sessions in that tick, each ask with at least its guarantee; and for
-/// each ask that gets less than it wants, a limit that holds it back.
+/// The shares of asks in a tick, in the order of the asks: fair grants within the limits of the server, the directions,
+/// the groups, users and sessions in that tick, each ask with at least its guarantee; and for each ask that gets less
+/// than it wants, a limit that holds it back. Grants are max-min fair in whole units among the asks, or if the line is
+/// shared among users, among these and then among the asks of each.
 ///
 /// A tick is a tenth of a second; its limits are those of a rate in the tick of that number, modulo 10, so that ten
 /// consecutive ticks hand out each rate to the unit. Which asks are of one session is the caller's: each ask has the
 /// guarantee of its session for itself.
 ///
-/// Returns `PlanFault::Tree` if an ask wants more than `MAX_WANT`, or if the guarantees of the asks under one name are above
-/// its limit in the tick; `PlanFault::Memory` if memory runs out.
+/// Returns `Tree` if an ask wants more than `MAX_WANT`, or if the guarantees of the asks under one name are above its
+/// limit in the tick; `Memory` if memory runs out; among users `Unshared` if no such shares are found, since a user wants
+/// more than `MAX_WANT` together.
 pub fn share_asks<L: Allocator, A: Allocator + Clone>(
     alloc: A,
     limits: &Limits<L>,
     tick: u64,
     asks: &[Ask],
-) -> Result<Vec<AskShare, A>, PlanFault>
+) -> Result<Vec<AskShare, A>, NotShared>
     requires few { length asks.now ≤ MAX_ASKS }
     ensures shares { IfOk result (λ shares. AreAskShares limits.now tick asks.now shares.items) }
     ensures names { IfOk result (λ shares. KeepNames limits.now tick shares.items) }
-    ensures fault { IfErr result (IsShareFault A limits.now tick asks.now) }
-    ensures floors { FloorsFit limits.now tick asks.now → IfErr result IsNotOfFloors }
+    ensures fault { IfErr result (IsAskFault A limits.now tick asks.now) }
+    ensures floors { FloorsFit limits.now tick asks.now → IfErr result IsNotOfGuarantees }
 {
     let numbered = numbered(alloc.clone()?, asks)?;
-    match tree_of(alloc.clone()?, limits, tick, &numbered) {
-        Ok(plan) => {
-            let shares = shares_in(alloc, limits, tick, asks, &plan)?;
-            Ok(shares)
-        }
-        Err(fault) => Err(fault),
-    }
+    let plan = match tree_of(alloc.clone()?, limits, tick, &numbered) {
+        Ok(plan) => plan,
+        Err(PlanFault::Tree(fault)) => return Err(NotShared::Tree(fault)),
+        Err(PlanFault::Memory) => return Err(NotShared::Memory),
+    };
+    shares_in(alloc, limits, tick, asks, plan)
 }

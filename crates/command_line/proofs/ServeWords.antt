@@ -461,12 +461,12 @@ timed_taken config login idle_time delay drain plain second third fourth fifth =
 abbrev unsynced : Row
 unsynced = record { id = codes "sync"; values = codes "false" ∷ []; count = None; source = Some DefaultValue; reading = AsWritten }
 
--- no number of seconds is stated
+-- no number of seconds is stated, and no way of sharing
 abbrev pub AreUnstated : List Row → Type 0
 AreUnstated rows =
     (first_of (codes "login-timeout") rows ≡ None)
     × (first_of (codes "idle-timeout") rows ≡ None) × (first_of (codes "login-delay") rows ≡ None)
-    × (first_of (codes "drain-seconds") rows ≡ None)
+    × (first_of (codes "drain-seconds") rows ≡ None) × (first_of (codes "share-by") rows ≡ None)
 
 -- what the parser makes of the words of `serve` with no option
 pub record Serves (config : Text) : Type 0 where
@@ -499,7 +499,7 @@ serves config plain =
       no_path = refl;
       no_ready = refl;
       portless = refl;
-      usual = (refl, refl, refl, refl);
+      usual = (refl, refl, refl, refl, refl);
     }
 
 -- what the parser makes of the words of `serve` with each option in seconds
@@ -515,6 +515,7 @@ pub record ServesTimed (config login idle_time delay drain : Text) : Type 0 wher
   pub second : first_of (codes "idle-timeout") rows ≡ Some idle_time
   pub third : first_of (codes "login-delay") rows ≡ Some delay
   pub fourth : first_of (codes "drain-seconds") rows ≡ Some drain
+  pub unshared : first_of (codes "share-by") rows ≡ None
 
 timed_entered : (config login idle_time delay drain : Text) → subcommand_of ftpd (timed_words config login idle_time delay drain)
     ≡ Some (codes "serve", rows_after rules [] (config ∷ codes "--login-timeout" ∷ login ∷ codes "--idle-timeout" ∷ idle_time ∷ codes "--login-delay" ∷ delay ∷ codes "--drain-seconds" ∷ drain ∷ []))
@@ -543,6 +544,7 @@ serves_timed config login idle_time delay drain plain second third fourth fifth 
       second = refl;
       third = refl;
       fourth = refl;
+      unshared = refl;
     }
 
 -- the words of `serve` with a stop file
@@ -581,7 +583,7 @@ serves_until config path plain also =
       portless = refl;
       stop_file = refl;
       no_ready = refl;
-      usual = (refl, refl, refl, refl);
+      usual = (refl, refl, refl, refl, refl);
     }
 
 -- what the parser makes of the words of `serve` with a stop file and a ready file
@@ -617,7 +619,7 @@ serves_ready config path ready plain also third =
       portless = refl;
       stop_file = refl;
       ready_file = refl;
-      usual = (refl, refl, refl, refl);
+      usual = (refl, refl, refl, refl, refl);
     }
 
 -- what the parser makes of the words of `serve` with a transfer log and a form of notes
@@ -653,7 +655,7 @@ serves_logged config path form plain also third =
       portless = refl;
       transfer_log = refl;
       log_form = refl;
-      usual = (refl, refl, refl, refl);
+      usual = (refl, refl, refl, refl, refl);
     }
 
 -- what the parser makes of the words of `serve` with a status file and a port
@@ -687,5 +689,5 @@ serves_status config path port plain also third =
       of = refl;
       status = refl;
       status_port = refl;
-      usual = (refl, refl, refl, refl);
+      usual = (refl, refl, refl, refl, refl);
     }

@@ -8,6 +8,9 @@ use Rattle.command_line.specs.Given.{IsPlainWord}
 use Rattle.command_line.specs.Numbers.{AreLinesIn, IsNumber, IsNumberOf, IsNumberOr, IsPortIn, IsStated, IsUnnumberedBy}
 use Rattle.command_line.specs.Stated.{IsServeUnnumberedIn, IsStatedBy, IsUnnumbered}
 use Rattle.command_line.specs.Timed.{IsPatienceIn, IsSeconds, IsUntimedIn, usual_patience}
+use Rattle.command_line.specs.Ways.{IsUnknownWayIn, IsWayIn, IsWayOf}
+use Rattle.line_rates.specs.declared.share_by.ShareBy.{ShareBy}
+use Rattle.line_rates.specs.declared.share_by.ShareBy.TheVariants.{Sessions}
 use Rattle.client_patience.specs.declared.patience.Patience.{Patience}
 use Rattle.command_line.specs.declared.numbers.NumberForm.{NumberForm}
 use Rattle.command_line.specs.declared.numbers.NumberForm.TheVariants.{Seconds, Port, Lines}
@@ -65,6 +68,9 @@ usual rows none =
 pub no_port : (rows : List Row) → first_of (codes "status-port") rows ≡ None → IsPortIn rows None
 no_port rows none = subst (λ (o : Option (List ℕ)). IsStated Port o None) (sym none) tt
 
+usual_way : (rows : List Row) → first_of (codes "share-by") rows ≡ None → IsWayIn rows Sessions
+usual_way rows none = subst (λ (o : Option (List ℕ)). IsWayOf o Sessions) (sym none) refl
+
 pub usual_lines : (rows : List Row) → first_of (codes "rows") rows ≡ None → AreLinesIn rows ROWS
 usual_lines rows none = stated_as Lines ROWS (codes "rows") rows None ROWS none refl
 
@@ -101,13 +107,23 @@ untimed rows p fault is (inr (inl one)) = refused_by Seconds _ _ rows _ fault is
 untimed rows p fault is (inr (inr (inl one))) = refused_by Seconds _ _ rows _ fault is.2 one
 untimed rows p fault is (inr (inr (inr one))) = refused_by Seconds _ _ rows _ fault is.3 one
 
-unnumbered : (rows : List Row) (p : Patience) (port : Option ℕ) (fault : WordsFault) → IsPatienceIn rows p → IsPortIn rows port → IsServeUnnumberedIn rows fault → fault ≡ Memory
-unnumbered rows p port fault is also (inl one) = untimed rows p fault is one
-unnumbered rows p port fault is also (inr one) = refused_port rows port fault also one
+-- a refusal of an option that states a way of sharing is lack of memory
+refused_way : (rows : List Row) (way : ShareBy) (fault : WordsFault) → IsWayIn rows way → IsUnknownWayIn rows fault → fault ≡ Memory
+refused_way rows way Memory is without = refl
+refused_way rows way (Refused text is_help) is without =
+    absurd (without.2 way (subst (λ (o : Option (List ℕ)). IsWayOf o way) without.1 is))
 
-pub refused_stated : (found : Option (Text × List Row)) (p : Patience) (port : Option ℕ) (lines : ℕ) (fault : WordsFault) → IsStatedBy found p port lines → IsUnnumbered found fault → fault ≡ Memory
-refused_stated found p port lines fault stated (inl (rows, is, without)) = let states = stated.0 rows is in unnumbered rows p port fault states.0 states.1 without
-refused_stated found p port lines fault stated (inr (rows, is, without)) = refused_by Lines _ _ rows _ fault (stated.1 rows is) without
+unnumbered : (rows : List Row) (p : Patience) (port : Option ℕ) (way : ShareBy) (fault : WordsFault) → IsPatienceIn rows p → IsPortIn rows port → IsWayIn rows way
+    → IsServeUnnumberedIn rows fault → fault ≡ Memory
+unnumbered rows p port way fault is also by (inl one) = untimed rows p fault is one
+unnumbered rows p port way fault is also by (inr (inl one)) = refused_port rows port fault also one
+unnumbered rows p port way fault is also by (inr (inr one)) = refused_way rows way fault by one
+
+pub refused_stated : (found : Option (Text × List Row)) (p : Patience) (port : Option ℕ) (lines : ℕ) (way : ShareBy) (fault : WordsFault) → IsStatedBy found p port lines way → IsUnnumbered found fault
+    → fault ≡ Memory
+refused_stated found p port lines way fault stated (inl (rows, is, without)) = let states = stated.0 rows is in unnumbered rows p port way fault states.0 states.1 states.2 without
+refused_stated found p port lines way fault stated (inr (inl (rows, is, without))) = refused_by Lines _ _ rows _ fault (stated.1 rows is) without
+refused_stated found p port lines way fault stated (inr (inr (rows, is, without))) = refused_way rows way fault (stated.2 rows is) without
 
 -- the rows that the parser found
 same_found : (found : Option (Text × List Row)) (name also : Text) (rows other : List Row) → found ≡ Some (name, rows) → found ≡ Some (also, other)
@@ -123,25 +139,38 @@ apart_found found name also rows other apart is other_is =
 
 -- the numbers of `serve` are those of its rows
 pub serve_stated : (found : Option (Text × List Row)) (p : Patience) (port : Option ℕ) (rows : List Row) → found ≡ Some (codes "serve", rows) → IsPatienceIn rows p → IsPortIn rows port
-    → IsStatedBy found p port ROWS
-serve_stated found p port rows is states also = (
+    → first_of (codes "share-by") rows ≡ None → IsStatedBy found p port ROWS Sessions
+serve_stated found p port rows is states also unshared = (
   λ other equal.
       let same = ap (λ (f : Text × List Row). f.1) (same_found found _ _ rows other is equal) in
-      (subst (λ (r : List Row). IsPatienceIn r p) same states, subst (λ (r : List Row). IsPortIn r port) same also),
+      (subst (λ (r : List Row). IsPatienceIn r p) same states, subst (λ (r : List Row). IsPortIn r port) same also, subst (λ (r : List Row). IsWayIn r Sessions) same (usual_way rows unshared)),
+  λ other equal. absurd (apart_found found _ _ rows other refl is equal),
   λ other equal. absurd (apart_found found _ _ rows other refl is equal),
 )
 
 -- the number of lines of `top` is that of its rows
-pub top_stated : (found : Option (Text × List Row)) (lines : ℕ) (rows : List Row) → found ≡ Some (codes "top", rows) → AreLinesIn rows lines → IsStatedBy found usual_patience None lines
+pub top_stated : (found : Option (Text × List Row)) (lines : ℕ) (rows : List Row) → found ≡ Some (codes "top", rows) → AreLinesIn rows lines → IsStatedBy found usual_patience None lines Sessions
 top_stated found lines rows is states = (
   λ other equal. absurd (apart_found found _ _ rows other refl is equal),
   λ other equal.
       let same = ap (λ (f : Text × List Row). f.1) (same_found found _ _ rows other is equal) in
       subst (λ (r : List Row). AreLinesIn r lines) same states,
+  λ other equal. absurd (apart_found found _ _ rows other refl is equal),
+)
+
+-- `plan` without a way of sharing shares among sessions
+pub plan_stated : (found : Option (Text × List Row)) (rows : List Row) → found ≡ Some (codes "plan", rows) → first_of (codes "share-by") rows ≡ None → IsStatedBy found usual_patience None ROWS Sessions
+plan_stated found rows is unshared = (
+  λ other equal. absurd (apart_found found _ _ rows other refl is equal),
+  λ other equal. absurd (apart_found found _ _ rows other refl is equal),
+  λ other equal.
+      let same = ap (λ (f : Text × List Row). f.1) (same_found found _ _ rows other is equal) in
+      subst (λ (r : List Row). IsWayIn r Sessions) same (usual_way rows unshared),
 )
 
 -- another command states none
 pub refused_other : (found : Option (Text × List Row)) (name : Text) (rows : List Row) (fault : WordsFault) → bytes_eq name (codes "serve") ≡ false → bytes_eq name (codes "top") ≡ false
-    → found ≡ Some (name, rows) → IsUnnumbered found fault → fault ≡ Memory
-refused_other found name rows fault apart also is (inl (other, equal, without)) = absurd (apart_found found _ _ rows other apart is equal)
-refused_other found name rows fault apart also is (inr (other, equal, without)) = absurd (apart_found found _ _ rows other also is equal)
+    → bytes_eq name (codes "plan") ≡ false → found ≡ Some (name, rows) → IsUnnumbered found fault → fault ≡ Memory
+refused_other found name rows fault apart also and is (inl (other, equal, without)) = absurd (apart_found found _ _ rows other apart is equal)
+refused_other found name rows fault apart also and is (inr (inl (other, equal, without))) = absurd (apart_found found _ _ rows other also is equal)
+refused_other found name rows fault apart also and is (inr (inr (other, equal, without))) = absurd (apart_found found _ _ rows other and is equal)

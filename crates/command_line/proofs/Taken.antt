@@ -11,6 +11,7 @@ use Rattle.clap.specs.declared.error.kind.ErrorKind.TheVariants.{OutOfMemory}
 use Rattle.command_line.specs.declared.words.WordsFault.{WordsFault}
 use Rattle.command_line.specs.declared.words.WordsFault.TheVariants.{Memory, Refused}
 use Rattle.command_line.specs.Given.{IsPlainWord, IsRefusal, IsRefusedAs, is_flagged, running_words}
+use Rattle.command_line.proofs.PlanWords.{json_taken, json_words}
 
 -- a plain command has no global argument
 pub no_globals : (a b g d : Bool) → (a && (not b && (not g && d))) ≡ true → g ≡ false
@@ -37,6 +38,7 @@ pub record Shares (app : App) (word : List ℕ) : Type 0 where
   pub entered : subcommand_of app (codes "share" ∷ word ∷ []) ≡ Some (codes "share", rows)
   pub sheet : first_of (codes "SHEET") rows ≡ Some word
   pub unflagged : is_flagged (codes "svg") rows ≡ false
+  pub alone : first_of (codes "by") rows ≡ None
 
 -- the words of `share` that ask for a picture
 abbrev pub picture_words : Text → List Text
@@ -49,6 +51,7 @@ pub record Pictures (app : App) (word : List ℕ) : Type 0 where
   pub entered : subcommand_of app (picture_words word) ≡ Some (codes "share", rows)
   pub sheet : first_of (codes "SHEET") rows ≡ Some word
   pub flagged : is_flagged (codes "svg") rows ≡ true
+  pub alone : first_of (codes "by") rows ≡ None
 
 -- what the parser makes of the words of `check`
 pub record Checks (app : App) (first second : List ℕ) : Type 0 where
@@ -57,6 +60,7 @@ pub record Checks (app : App) (first second : List ℕ) : Type 0 where
   pub entered : subcommand_of app (codes "check" ∷ first ∷ second ∷ []) ≡ Some (codes "check", rows)
   pub sheet : first_of (codes "SHEET") rows ≡ Some first
   pub grants : first_of (codes "GRANTS") rows ≡ Some second
+  pub alone : first_of (codes "by") rows ≡ None
 
 -- ---- of `ftpd`
 
@@ -80,11 +84,16 @@ ftpd_share_unflagged : (b : ℕ) (bs : List ℕ) → (b == 45) ≡ false
 unfolding clap_on_literals
 ftpd_share_unflagged b bs ne = simp ne refl
 
+ftpd_share_alone : (b : ℕ) (bs : List ℕ) → (b == 45) ≡ false
+    → first_of (codes "by") (rows_in (subcommand_of ftpd (codes "share" ∷ (b ∷ bs) ∷ []))) ≡ None
+unfolding clap_on_literals
+ftpd_share_alone b bs ne = simp ne refl
+
 pub ftpd_shares : (word : List ℕ) → IsPlainWord word → Shares ftpd word
 ftpd_shares [] plain = absurd plain
 ftpd_shares (b ∷ bs) plain =
     let ne = ne_eqb _ _ plain in
-    record { rows = _; taken = ftpd_share_taken b bs ne; entered = ftpd_share_entered b bs ne; sheet = ftpd_share_first b bs ne; unflagged = ftpd_share_unflagged b bs ne }
+    record { rows = _; taken = ftpd_share_taken b bs ne; entered = ftpd_share_entered b bs ne; sheet = ftpd_share_first b bs ne; unflagged = ftpd_share_unflagged b bs ne; alone = ftpd_share_alone b bs ne }
 
 ftpd_picture_taken : (b : ℕ) (bs : List ℕ) → (b == 45) ≡ false → takes ftpd (picture_words (b ∷ bs)) ≡ true
 unfolding clap_on_literals
@@ -105,11 +114,16 @@ ftpd_picture_flagged : (b : ℕ) (bs : List ℕ) → (b == 45) ≡ false
 unfolding clap_on_literals
 ftpd_picture_flagged b bs ne = simp ne refl
 
+ftpd_picture_alone : (b : ℕ) (bs : List ℕ) → (b == 45) ≡ false
+    → first_of (codes "by") (rows_in (subcommand_of ftpd (picture_words (b ∷ bs)))) ≡ None
+unfolding clap_on_literals
+ftpd_picture_alone b bs ne = simp ne refl
+
 pub ftpd_pictures : (word : List ℕ) → IsPlainWord word → Pictures ftpd word
 ftpd_pictures [] plain = absurd plain
 ftpd_pictures (b ∷ bs) plain =
     let ne = ne_eqb _ _ plain in
-    record { rows = _; taken = ftpd_picture_taken b bs ne; entered = ftpd_picture_entered b bs ne; sheet = ftpd_picture_first b bs ne; flagged = ftpd_picture_flagged b bs ne }
+    record { rows = _; taken = ftpd_picture_taken b bs ne; entered = ftpd_picture_entered b bs ne; sheet = ftpd_picture_first b bs ne; flagged = ftpd_picture_flagged b bs ne; alone = ftpd_picture_alone b bs ne }
 
 ftpd_check_taken : (b d : ℕ) (bs ds : List ℕ) → (b == 45) ≡ false → (d == 45) ≡ false → takes ftpd (codes "check" ∷ (b ∷ bs) ∷ (d ∷ ds) ∷ []) ≡ true
 unfolding clap_on_literals
@@ -131,13 +145,18 @@ ftpd_check_second : (b d : ℕ) (bs ds : List ℕ) → (b == 45) ≡ false → (
 unfolding clap_on_literals
 ftpd_check_second b d bs ds ne nf = simp (ne, nf) refl
 
+ftpd_check_alone : (b d : ℕ) (bs ds : List ℕ) → (b == 45) ≡ false → (d == 45) ≡ false
+    → first_of (codes "by") (rows_in (subcommand_of ftpd (codes "check" ∷ (b ∷ bs) ∷ (d ∷ ds) ∷ []))) ≡ None
+unfolding clap_on_literals
+ftpd_check_alone b d bs ds ne nf = simp (ne, nf) refl
+
 pub ftpd_checks : (first second : List ℕ) → IsPlainWord first → IsPlainWord second → Checks ftpd first second
 ftpd_checks [] second plain also = absurd plain
 ftpd_checks (b ∷ bs) [] plain also = absurd also
 ftpd_checks (b ∷ bs) (d ∷ ds) plain also =
     let ne = ne_eqb _ _ plain in
     let nf = ne_eqb _ _ also in
-    record { rows = _; taken = ftpd_check_taken b d bs ds ne nf; entered = ftpd_check_entered b d bs ds ne nf; sheet = ftpd_check_first b d bs ds ne nf; grants = ftpd_check_second b d bs ds ne nf }
+    record { rows = _; taken = ftpd_check_taken b d bs ds ne nf; entered = ftpd_check_entered b d bs ds ne nf; sheet = ftpd_check_first b d bs ds ne nf; grants = ftpd_check_second b d bs ds ne nf; alone = ftpd_check_alone b d bs ds ne nf }
 
 check_config_taken : (b : ℕ) (bs : List ℕ) → (b == 45) ≡ false → takes ftpd (codes "check-config" ∷ (b ∷ bs) ∷ []) ≡ true
 unfolding clap_on_literals
@@ -367,7 +386,13 @@ pub record Plans (first second : List ℕ) : Type 0 where
   pub entered : subcommand_of ftpd (codes "plan" ∷ first ∷ second ∷ []) ≡ Some (codes "plan", rows)
   pub config : first_of (codes "CONFIG") rows ≡ Some first
   pub transfers : first_of (codes "TRANSFERS") rows ≡ Some second
+  pub unshared : first_of (codes "share-by") rows ≡ None
   pub unflagged : is_flagged (codes "json") rows ≡ false
+
+plan_unshared : (b d : ℕ) (bs ds : List ℕ) → (b == 45) ≡ false → (d == 45) ≡ false
+    → first_of (codes "share-by") (rows_in (subcommand_of ftpd (codes "plan" ∷ (b ∷ bs) ∷ (d ∷ ds) ∷ []))) ≡ None
+unfolding clap_on_literals
+plan_unshared b d bs ds ne nf = simp (ne, nf) refl
 
 pub plans : (first second : List ℕ) → IsPlainWord first → IsPlainWord second → Plans first second
 plans [] second plain also = absurd plain
@@ -375,15 +400,7 @@ plans (b ∷ bs) [] plain also = absurd also
 plans (b ∷ bs) (d ∷ ds) plain also =
     let ne = ne_eqb _ _ plain in
     let nf = ne_eqb _ _ also in
-    record { rows = _; taken = plan_taken b d bs ds ne nf; entered = plan_entered b d bs ds ne nf; config = plan_first b d bs ds ne nf; transfers = plan_second b d bs ds ne nf; unflagged = plan_unflagged b d bs ds ne nf }
-
--- the words of `plan` that ask for JSON
-abbrev pub json_words : Text → Text → List Text
-json_words first second = codes "plan" ∷ first ∷ second ∷ codes "--json" ∷ []
-
-json_taken : (b d : ℕ) (bs ds : List ℕ) → (b == 45) ≡ false → (d == 45) ≡ false → takes ftpd (json_words (b ∷ bs) (d ∷ ds)) ≡ true
-unfolding clap_on_literals
-json_taken b d bs ds ne nf = simp (ne, nf) refl
+    record { rows = _; taken = plan_taken b d bs ds ne nf; entered = plan_entered b d bs ds ne nf; config = plan_first b d bs ds ne nf; transfers = plan_second b d bs ds ne nf; unflagged = plan_unflagged b d bs ds ne nf; unshared = plan_unshared b d bs ds ne nf }
 
 json_entered : (b d : ℕ) (bs ds : List ℕ) → (b == 45) ≡ false → (d == 45) ≡ false
     → subcommand_of ftpd (json_words (b ∷ bs) (d ∷ ds)) ≡ Some (codes "plan", rows_in (subcommand_of ftpd (json_words (b ∷ bs) (d ∷ ds))))
@@ -412,7 +429,13 @@ pub record PlansJson (first second : List ℕ) : Type 0 where
   pub entered : subcommand_of ftpd (json_words first second) ≡ Some (codes "plan", rows)
   pub config : first_of (codes "CONFIG") rows ≡ Some first
   pub transfers : first_of (codes "TRANSFERS") rows ≡ Some second
+  pub unshared : first_of (codes "share-by") rows ≡ None
   pub flagged : is_flagged (codes "json") rows ≡ true
+
+json_unshared : (b d : ℕ) (bs ds : List ℕ) → (b == 45) ≡ false → (d == 45) ≡ false
+    → first_of (codes "share-by") (rows_in (subcommand_of ftpd (json_words (b ∷ bs) (d ∷ ds)))) ≡ None
+unfolding clap_on_literals
+json_unshared b d bs ds ne nf = simp (ne, nf) refl
 
 pub plans_json : (first second : List ℕ) → IsPlainWord first → IsPlainWord second → PlansJson first second
 plans_json [] second plain also = absurd plain
@@ -422,11 +445,12 @@ plans_json (b ∷ bs) (d ∷ ds) plain also =
     let nf = ne_eqb _ _ also in
     record {
       rows = _;
-      taken = json_taken b d bs ds ne nf;
+      taken = json_taken (b ∷ bs) (d ∷ ds) plain also;
       entered = json_entered b d bs ds ne nf;
       config = json_first b d bs ds ne nf;
       transfers = json_second b d bs ds ne nf;
       flagged = json_flagged b d bs ds ne nf;
+      unshared = json_unshared b d bs ds ne nf;
     }
 
 -- ---- of `sheets`
@@ -459,11 +483,16 @@ sheets_share_unflagged : (b : ℕ) (bs : List ℕ) → (b == 45) ≡ false
 unfolding clap_on_literals
 sheets_share_unflagged b bs ne = simp ne refl
 
+sheets_share_alone : (b : ℕ) (bs : List ℕ) → (b == 45) ≡ false
+    → first_of (codes "by") (rows_in (subcommand_of sheets (codes "share" ∷ (b ∷ bs) ∷ []))) ≡ None
+unfolding clap_on_literals
+sheets_share_alone b bs ne = simp ne refl
+
 pub sheets_shares : (word : List ℕ) → IsPlainWord word → Shares sheets word
 sheets_shares [] plain = absurd plain
 sheets_shares (b ∷ bs) plain =
     let ne = ne_eqb _ _ plain in
-    record { rows = _; taken = sheets_share_taken b bs ne; entered = sheets_share_entered b bs ne; sheet = sheets_share_first b bs ne; unflagged = sheets_share_unflagged b bs ne }
+    record { rows = _; taken = sheets_share_taken b bs ne; entered = sheets_share_entered b bs ne; sheet = sheets_share_first b bs ne; unflagged = sheets_share_unflagged b bs ne; alone = sheets_share_alone b bs ne }
 
 sheets_picture_taken : (b : ℕ) (bs : List ℕ) → (b == 45) ≡ false → takes sheets (picture_words (b ∷ bs)) ≡ true
 unfolding clap_on_literals
@@ -484,11 +513,16 @@ sheets_picture_flagged : (b : ℕ) (bs : List ℕ) → (b == 45) ≡ false
 unfolding clap_on_literals
 sheets_picture_flagged b bs ne = simp ne refl
 
+sheets_picture_alone : (b : ℕ) (bs : List ℕ) → (b == 45) ≡ false
+    → first_of (codes "by") (rows_in (subcommand_of sheets (picture_words (b ∷ bs)))) ≡ None
+unfolding clap_on_literals
+sheets_picture_alone b bs ne = simp ne refl
+
 pub sheets_pictures : (word : List ℕ) → IsPlainWord word → Pictures sheets word
 sheets_pictures [] plain = absurd plain
 sheets_pictures (b ∷ bs) plain =
     let ne = ne_eqb _ _ plain in
-    record { rows = _; taken = sheets_picture_taken b bs ne; entered = sheets_picture_entered b bs ne; sheet = sheets_picture_first b bs ne; flagged = sheets_picture_flagged b bs ne }
+    record { rows = _; taken = sheets_picture_taken b bs ne; entered = sheets_picture_entered b bs ne; sheet = sheets_picture_first b bs ne; flagged = sheets_picture_flagged b bs ne; alone = sheets_picture_alone b bs ne }
 
 sheets_check_taken : (b d : ℕ) (bs ds : List ℕ) → (b == 45) ≡ false → (d == 45) ≡ false → takes sheets (codes "check" ∷ (b ∷ bs) ∷ (d ∷ ds) ∷ []) ≡ true
 unfolding clap_on_literals
@@ -510,13 +544,18 @@ sheets_check_second : (b d : ℕ) (bs ds : List ℕ) → (b == 45) ≡ false →
 unfolding clap_on_literals
 sheets_check_second b d bs ds ne nf = simp (ne, nf) refl
 
+sheets_check_alone : (b d : ℕ) (bs ds : List ℕ) → (b == 45) ≡ false → (d == 45) ≡ false
+    → first_of (codes "by") (rows_in (subcommand_of sheets (codes "check" ∷ (b ∷ bs) ∷ (d ∷ ds) ∷ []))) ≡ None
+unfolding clap_on_literals
+sheets_check_alone b d bs ds ne nf = simp (ne, nf) refl
+
 pub sheets_checks : (first second : List ℕ) → IsPlainWord first → IsPlainWord second → Checks sheets first second
 sheets_checks [] second plain also = absurd plain
 sheets_checks (b ∷ bs) [] plain also = absurd also
 sheets_checks (b ∷ bs) (d ∷ ds) plain also =
     let ne = ne_eqb _ _ plain in
     let nf = ne_eqb _ _ also in
-    record { rows = _; taken = sheets_check_taken b d bs ds ne nf; entered = sheets_check_entered b d bs ds ne nf; sheet = sheets_check_first b d bs ds ne nf; grants = sheets_check_second b d bs ds ne nf }
+    record { rows = _; taken = sheets_check_taken b d bs ds ne nf; entered = sheets_check_entered b d bs ds ne nf; sheet = sheets_check_first b d bs ds ne nf; grants = sheets_check_second b d bs ds ne nf; alone = sheets_check_alone b d bs ds ne nf }
 
 -- ---- of both
 

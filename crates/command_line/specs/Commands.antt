@@ -28,17 +28,25 @@ flag_rule id = record (new_rule id) { long = Some id; action = Some SetTrue }
 abbrev pub bare : Text → App
 bare name = new_app name
 
--- `share SHEET [--svg]`
+-- `share SHEET [--svg] [--by DEPTH]`
 abbrev pub share : App
 share =
-    with_rule (with_rule (bare (codes "share")) (file_rule (codes "SHEET")))
-    (flag_rule (codes "svg"))
+    with_rule
+    (with_rule
+    (with_rule
+    (bare
+    (codes "share")) (file_rule (codes "SHEET"))) (flag_rule (codes "svg")))
+    (value_rule (codes "by"))
 
--- `check SHEET GRANTS`
+-- `check SHEET GRANTS [--by DEPTH]`
 abbrev pub check : App
 check =
-    with_rule (with_rule (bare (codes "check")) (file_rule (codes "SHEET")))
-    (file_rule (codes "GRANTS"))
+    with_rule
+    (with_rule
+    (with_rule
+    (bare
+    (codes "check")) (file_rule (codes "SHEET"))) (file_rule (codes "GRANTS")))
+    (value_rule (codes "by"))
 
 -- `check-config CONFIG [--json] [--against PATH] [--against-running]`
 abbrev pub check_config : App
@@ -102,28 +110,33 @@ abbrev pub with_sessions : App → App
 with_sessions app =
     with_rule (with_rule app (value_rule (codes "end-file"))) (value_rule (codes "user-sessions"))
 
+-- the command with the flag `--sync` and the option `--share-by`
+abbrev pub with_sync_and_way : App → App
+with_sync_and_way app =
+    with_rule (with_rule app (flag_rule (codes "sync"))) (value_rule (codes "share-by"))
+
 -- `serve CONFIG [--stop-file PATH] [--ready-file PATH] [--drain-file PATH] [--reload-file PATH]
 -- [--running-file PATH] [--transfer-log PATH] [--log-form FORM] [--status PATH]
 -- [--status-port PORT] [--login-timeout SECONDS] [--idle-timeout SECONDS] [--login-delay SECONDS]
--- [--drain-seconds SECONDS] [--end-file PATH] [--user-sessions N] [--sync]`
+-- [--drain-seconds SECONDS] [--end-file PATH] [--user-sessions N] [--sync] [--share-by WAY]`
 abbrev pub serve : App
 serve =
-    with_rule
+    with_sync_and_way
     (with_sessions
     (with_patience
     (with_status
     (with_logs (with_files (with_rule (bare (codes "serve")) (file_rule (codes "CONFIG"))))))))
-    (flag_rule (codes "sync"))
 
--- `plan CONFIG TRANSFERS [--json]`
+-- `plan CONFIG TRANSFERS [--json] [--share-by WAY]`
 abbrev pub plan : App
 plan =
     with_rule
     (with_rule
     (with_rule
+    (with_rule
     (bare
     (codes "plan")) (file_rule (codes "CONFIG"))) (file_rule (codes "TRANSFERS")))
-    (flag_rule (codes "json"))
+    (flag_rule (codes "json"))) (value_rule (codes "share-by"))
 
 -- `top STATUS [--once] [--rows N]`
 abbrev pub show : App

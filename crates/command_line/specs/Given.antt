@@ -10,6 +10,7 @@ use Rattle.command_line.specs.Commands.{ftpd}
 use Rattle.command_line.specs.Numbers.{AreLinesIn, IsPortIn}
 use Rattle.command_line.specs.Stated.{IsNumbered, IsUnnumbered}
 use Rattle.command_line.specs.Timed.{IsPatienceIn}
+use Rattle.command_line.specs.Ways.{IsWayIn}
 use Rattle.client_patience.specs.declared.patience.Patience.{Patience}
 use Rattle.command_line.specs.declared.words.SheetWords.{SheetWords}
 use Rattle.command_line.specs.declared.words.SheetWords.TheVariants.{Share, Check}
@@ -17,21 +18,24 @@ use Rattle.command_line.specs.declared.words.Words.{Words}
 use Rattle.command_line.specs.declared.words.Words.TheVariants.{Sheet, CheckConfig, Migrate, Script, Serve, Plan, Top, Usage}
 use Rattle.command_line.specs.declared.words.WordsFault.{WordsFault}
 use Rattle.command_line.specs.declared.words.WordsFault.TheVariants.{Refused, Memory}
+use Rattle.line_rates.specs.declared.share_by.ShareBy.TheVariants as share
 
 -- a word that is not empty and does not begin with `-`
 abbrev pub IsPlainWord : List ℕ → Type 0
 IsPlainWord [] = ⊥
 IsPlainWord (octet ∷ rest) = octet ≢ 45
 
--- the command `share` of that sheet, as a picture or in lines
-abbrev pub IsShare : List ℕ → Bool → SheetWords → Type 0
-IsShare word as_svg (Share sheet svg) = (sheet.now ≡ word) × (svg ≡ as_svg)
-IsShare word as_svg (Check sheet grants) = ⊥
+-- the command `share` of that sheet, as a picture or in lines, with that word of a depth, if any
+abbrev pub IsShare : List ℕ → Bool → Option (List ℕ) → SheetWords → Type 0
+IsShare word as_svg depth (Share sheet svg by) =
+    (sheet.now ≡ word) × (svg ≡ as_svg) × (option_map (λ w. w.now) by ≡ depth)
+IsShare word as_svg depth (Check sheet grants by) = ⊥
 
--- the command `check` of that sheet and those grants
-abbrev pub IsCheck : List ℕ → List ℕ → SheetWords → Type 0
-IsCheck first second (Share sheet svg) = ⊥
-IsCheck first second (Check sheet grants) = (sheet.now ≡ first) × (grants.now ≡ second)
+-- the command `check` of that sheet and those grants, with that word of a depth, if any
+abbrev pub IsCheck : List ℕ → List ℕ → Option (List ℕ) → SheetWords → Type 0
+IsCheck first second depth (Share sheet svg by) = ⊥
+IsCheck first second depth (Check sheet grants by) =
+    (sheet.now ≡ first) × (grants.now ≡ second) × (option_map (λ w. w.now) by ≡ depth)
 
 -- a command on a sheet with that property
 abbrev pub IsOfSheets : (SheetWords → Type 0) → Words → Type 0
@@ -40,7 +44,7 @@ IsOfSheets P (CheckConfig config json against running) = ⊥
 IsOfSheets P (Migrate config) = ⊥
 IsOfSheets P (Script config) = ⊥
 IsOfSheets P (Serve config files patience) = ⊥
-IsOfSheets P (Plan config transfers json) = ⊥
+IsOfSheets P (Plan config transfers json share_by) = ⊥
 IsOfSheets P (Top status once rows) = ⊥
 IsOfSheets P Usage = ⊥
 
@@ -54,7 +58,7 @@ IsCheckConfig word as_json other by_running (CheckConfig config json against run
 IsCheckConfig word as_json other by_running (Migrate config) = ⊥
 IsCheckConfig word as_json other by_running (Script config) = ⊥
 IsCheckConfig word as_json other by_running (Serve config files patience) = ⊥
-IsCheckConfig word as_json other by_running (Plan config transfers json) = ⊥
+IsCheckConfig word as_json other by_running (Plan config transfers json share_by) = ⊥
 IsCheckConfig word as_json other by_running (Top status once rows) = ⊥
 IsCheckConfig word as_json other by_running Usage = ⊥
 
@@ -79,7 +83,7 @@ IsMigrate word (CheckConfig config json against running) = ⊥
 IsMigrate word (Migrate config) = config.now ≡ word
 IsMigrate word (Script config) = ⊥
 IsMigrate word (Serve config files patience) = ⊥
-IsMigrate word (Plan config transfers json) = ⊥
+IsMigrate word (Plan config transfers json share_by) = ⊥
 IsMigrate word (Top status once rows) = ⊥
 IsMigrate word Usage = ⊥
 
@@ -90,7 +94,7 @@ IsScript word (CheckConfig config json against running) = ⊥
 IsScript word (Migrate config) = ⊥
 IsScript word (Script config) = config.now ≡ word
 IsScript word (Serve config files patience) = ⊥
-IsScript word (Plan config transfers json) = ⊥
+IsScript word (Plan config transfers json share_by) = ⊥
 IsScript word (Top status once rows) = ⊥
 IsScript word Usage = ⊥
 
@@ -104,7 +108,7 @@ IsServe word stop ready p (Script config) = ⊥
 IsServe word stop ready p (Serve config files patience) =
     (config.now ≡ word) × (option_map (λ w. w.now) files.stop_file ≡ stop)
     × (option_map (λ w. w.now) files.ready_file ≡ ready) × (patience ≡ p)
-IsServe word stop ready p (Plan config transfers json) = ⊥
+IsServe word stop ready p (Plan config transfers json share_by) = ⊥
 IsServe word stop ready p (Top status once rows) = ⊥
 IsServe word stop ready p Usage = ⊥
 
@@ -117,7 +121,7 @@ IsLoggedBy word path form (Script config) = ⊥
 IsLoggedBy word path form (Serve config files patience) =
     (config.now ≡ word) × (option_map (λ w. w.now) files.transfer_log ≡ path)
     × (option_map (λ w. w.now) files.log_form ≡ form)
-IsLoggedBy word path form (Plan config transfers json) = ⊥
+IsLoggedBy word path form (Plan config transfers json share_by) = ⊥
 IsLoggedBy word path form (Top status once rows) = ⊥
 IsLoggedBy word path form Usage = ⊥
 
@@ -133,7 +137,7 @@ IsStatusBy word path port (Script config) = ⊥
 IsStatusBy word path port (Serve config files patience) =
     (config.now ≡ word) × (option_map (λ w. w.now) files.status ≡ path)
     × (files.status_port ≡ port)
-IsStatusBy word path port (Plan config transfers json) = ⊥
+IsStatusBy word path port (Plan config transfers json share_by) = ⊥
 IsStatusBy word path port (Top status once rows) = ⊥
 IsStatusBy word path port Usage = ⊥
 
@@ -152,15 +156,17 @@ abbrev pub ready_words : List ℕ → List ℕ → List ℕ → List Text
 ready_words config stop ready =
     codes "serve" ∷ config ∷ codes "--stop-file" ∷ stop ∷ codes "--ready-file" ∷ ready ∷ []
 
--- the command `plan` of that configuration and those transfers, as JSON or not
+-- the command `plan` of that configuration and those transfers, as JSON or not, of a line that is
+-- shared among its sessions
 abbrev pub IsPlanWords : List ℕ → List ℕ → Bool → Words → Type 0
 IsPlanWords word stated as_json (Sheet words) = ⊥
 IsPlanWords word stated as_json (CheckConfig config json against running) = ⊥
 IsPlanWords word stated as_json (Migrate config) = ⊥
 IsPlanWords word stated as_json (Script config) = ⊥
 IsPlanWords word stated as_json (Serve config files patience) = ⊥
-IsPlanWords word stated as_json (Plan config transfers json) =
+IsPlanWords word stated as_json (Plan config transfers json share_by) =
     (config.now ≡ word) × (transfers.now ≡ stated) × (json ≡ as_json)
+    × (share_by ≡ share.Sessions)
 IsPlanWords word stated as_json (Top status once rows) = ⊥
 IsPlanWords word stated as_json Usage = ⊥
 
@@ -171,7 +177,7 @@ IsTop word only_once lines (CheckConfig config json against running) = ⊥
 IsTop word only_once lines (Migrate config) = ⊥
 IsTop word only_once lines (Script config) = ⊥
 IsTop word only_once lines (Serve config files patience) = ⊥
-IsTop word only_once lines (Plan config transfers json) = ⊥
+IsTop word only_once lines (Plan config transfers json share_by) = ⊥
 IsTop word only_once lines (Top status once rows) =
     (status.now ≡ word) × (once ≡ only_once) × (rows ≡ lines)
 IsTop word only_once lines Usage = ⊥
@@ -195,14 +201,16 @@ is_flagged id rows = is_true (first_of id rows)
 
 -- the parser found the command on a sheet, and the words after it
 abbrev pub IsSheetFound : Option (Text × List Row) → SheetWords → Type 0
-IsSheetFound found (Share sheet svg) =
+IsSheetFound found (Share sheet svg by) =
     (rows : List Row) × (found ≡ Some (codes "share", rows))
     × (first_of (codes "SHEET") rows ≡ Some sheet.now)
     × (svg ≡ is_flagged (codes "svg") rows)
-IsSheetFound found (Check sheet grants) =
+    × (first_of (codes "by") rows ≡ option_map (λ w. w.now) by)
+IsSheetFound found (Check sheet grants by) =
     (rows : List Row) × (found ≡ Some (codes "check", rows))
     × (first_of (codes "SHEET") rows ≡ Some sheet.now)
     × (first_of (codes "GRANTS") rows ≡ Some grants.now)
+    × (first_of (codes "by") rows ≡ option_map (λ w. w.now) by)
 
 -- the parser found the command, and the words after it
 abbrev pub IsFound : Option (Text × List Row) → Words → Type 0
@@ -233,12 +241,13 @@ IsFound found (Serve config files patience) =
     × (first_of (codes "end-file") rows ≡ option_map (λ w. w.now) files.end_file)
     × (first_of (codes "user-sessions") rows ≡ option_map (λ w. w.now) files.user_sessions)
     × (files.syncs ≡ is_flagged (codes "sync") rows)
+    × IsWayIn rows files.share_by
     × IsPortIn rows files.status_port × IsPatienceIn rows patience
-IsFound found (Plan config transfers json) =
+IsFound found (Plan config transfers json share_by) =
     (rows : List Row) × (found ≡ Some (codes "plan", rows))
     × (first_of (codes "CONFIG") rows ≡ Some config.now)
     × (first_of (codes "TRANSFERS") rows ≡ Some transfers.now)
-    × (json ≡ is_flagged (codes "json") rows)
+    × (json ≡ is_flagged (codes "json") rows) × IsWayIn rows share_by
 IsFound found (Top status once lines) =
     (rows : List Row) × (found ≡ Some (codes "top", rows))
     × (first_of (codes "STATUS") rows ≡ Some status.now)
@@ -268,11 +277,13 @@ IsRefusal kinds (Refused text is_help) =
     (kind : ErrorKind) × IsAmong kind kinds × (IsTrue is_help ↔ IsHelp kind)
 IsRefusal kinds Memory = Unit {0}
 
--- the parser of `ftpd` accepts the words, and each of them that is to be a number is one
+-- the parser of `ftpd` accepts the words, and each of them that is to be a number, or a way of
+-- sharing, is one
 abbrev pub IsTaken : List Text → Type 0
 IsTaken words = (fault_of ftpd words ≡ []) × IsNumbered (subcommand_of ftpd words)
 
--- memory ran out, or that is the refusal of the words: by the parser, or of a number
+-- memory ran out, or that is the refusal of the words: by the parser, or of a number or a way of
+-- sharing
 abbrev pub IsRefusedFor : List Text → WordsFault → Type 0
 IsRefusedFor words fault =
     IsRefusal (fault_of ftpd words) fault ⊎ IsUnnumbered (subcommand_of ftpd words) fault

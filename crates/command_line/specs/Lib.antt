@@ -4,3 +4,4 @@ pub mod Numbers
 pub mod Stated
 pub mod Timed
 pub mod Usages
+pub mod Ways

@@ -3,8 +3,8 @@ use Rattle.std.specs.Prelude.{◌≡◌, ◌≤◌, ◌++◌, ℕ, List, Option,
 use Rattle.std.specs.Str.Parse.{IsNumeral, digits_value}
 use Rattle.clap.specs.Words.{Row, Text, first_of}
 use Rattle.command_line.specs.declared.numbers.NumberForm.{NumberForm}
-use Rattle.command_line.specs.declared.numbers.NumberForm.TheVariants.{Seconds, Port, Lines}
-use Rattle.command_line.specs.declared.numbers.TheConstants.{LEAST_ROWS, MAX_PORT, MAX_SECONDS, MOST_ROWS, ROWS}
+use Rattle.command_line.specs.declared.numbers.NumberForm.TheVariants.{Seconds, Port, Lines, Depth}
+use Rattle.command_line.specs.declared.numbers.TheConstants.{LEAST_ROWS, MAX_PORT, MAX_SECONDS, MOST_DEPTH, MOST_ROWS, ROWS}
 use Rattle.command_line.specs.declared.words.WordsFault.{WordsFault}
 use Rattle.command_line.specs.declared.words.WordsFault.TheVariants.{Refused, Memory}
 
@@ -13,24 +13,28 @@ abbrev pub least_of : NumberForm → ℕ
 least_of Seconds = 0
 least_of Port = 1
 least_of Lines = LEAST_ROWS
+least_of Depth = 0
 
 -- the largest number of that form
 abbrev pub most_of : NumberForm → ℕ
 most_of Seconds = MAX_SECONDS
 most_of Port = MAX_PORT
 most_of Lines = MOST_ROWS
+most_of Depth = MOST_DEPTH
 
 -- the name of such a value in the help
 abbrev pub value_name : NumberForm → Text
 value_name Seconds = codes "SECONDS"
 value_name Port = codes "PORT"
 value_name Lines = codes "N"
+value_name Depth = codes "DEPTH"
 
 -- the kind of such a value, in words
 abbrev pub value_kind : NumberForm → Text
 value_kind Seconds = codes "a number of seconds"
 value_kind Port = codes "a port"
 value_kind Lines = codes "a number of lines"
+value_kind Depth = codes "a depth"
 
 -- the text states that number of that form, in digits
 abbrev pub IsNumber : NumberForm → List ℕ → ℕ → Type 0
@@ -95,3 +99,16 @@ IsUnnumberedBy form option rows (Refused text is_help) =
     (value : List ℕ) × (first_of option rows ≡ Some value)
     × ((n : ℕ) → IsNumber form value n → ⊥) × IsRefusalOf form option value (Refused text is_help)
 IsUnnumberedBy form option rows Memory = Unit {0}
+
+-- the depth that a word states, and none without a word
+abbrev pub IsDepthOf : Option (List ℕ) → Option ℕ → Type 0
+IsDepthOf word depth = IsStated Depth word depth
+
+-- memory ran out, or the word states no depth, which the fault refuses; without a word there is no
+-- fault
+abbrev pub IsNoDepthOf : Option (List ℕ) → WordsFault → Type 0
+IsNoDepthOf None fault = ⊥
+IsNoDepthOf (Some value) (Refused text is_help) =
+    ((n : ℕ) → IsNumber Depth value n → ⊥)
+    × IsRefusalOf Depth (codes "by") value (Refused text is_help)
+IsNoDepthOf (Some value) Memory = Unit {0}

@@ -2,7 +2,7 @@
 
 ghost use Rattle.std.specs.Prelude.{◌≡◌, IfOk, codes, false};
 ghost use Rattle.clap.specs.Words.{app_of, rule_of, with_rule};
-ghost use Rattle.command_line.specs.Commands.{bare, check, check_config, file_rule, flag_rule, ftpd, migrate, plan, script, serve, share, sheets, show, top, value_rule, with_files, with_logs, with_patience, with_sessions, with_sheets, with_status};
+ghost use Rattle.command_line.specs.Commands.{bare, check, check_config, file_rule, flag_rule, ftpd, migrate, plan, script, serve, share, sheets, show, top, value_rule, with_files, with_logs, with_patience, with_sessions, with_sheets, with_status, with_sync_and_way};
 
 use crate::usage::usage_command;
 use clap::{Arg, ArgAction, Command};
@@ -44,10 +44,10 @@ fn flag<'a>(alloc: Global, id: &'a str, help: &'a str) -> Arg<'a>
 const STATUSES: &str = "Status: 0 done, or yes; 1 a fault; 2 refused words; 3 no";
 
 const ABOUT_SHARE: &str =
-    "SHEET is read whole, and then shared. A line for each want goes to standard output, `PATH GRANT of WANT`, with\n`full NODE` after it if the limit at NODE holds it back, and last `total OCTETS`.\n\nExamples: sheets share lunch.sheet\n          sheets share lunch.sheet --svg > lunch.svg\n\nStatus: 0 done, or yes; 1 a fault; 2 refused words; 3 no";
+    "SHEET is read whole, and then shared. A line for each want goes to standard output, `PATH GRANT of WANT`, with\n`full NODE` after it if the limit at NODE holds it back, and last `total OCTETS`.\n\nExamples: sheets share lunch.sheet\n          sheets share lunch.sheet --svg > lunch.svg\n          sheets share lunch.sheet --by 1\n\nStatus: 0 done, or yes; 1 a fault; 2 refused words; 3 no";
 
 const ABOUT_CHECK: &str =
-    "SHEET is read whole, and then GRANTS. `yes` goes to standard output, or `no` with the number, the name and the\nfields of the first flaw.\n\nExample: sheets check lunch.sheet lunch.grants\n\nStatus: 0 done, or yes; 1 a fault; 2 refused words; 3 no";
+    "SHEET is read whole, and then GRANTS. `yes` goes to standard output, or `no` with the number, the name and the\nfields of the first flaw.\n\nExamples: sheets check lunch.sheet lunch.grants\n          sheets check lunch.sheet lunch.grants --by 1\n\nStatus: 0 done, or yes; 1 a fault; 2 refused words; 3 no";
 
 const ABOUT_CHECK_CONFIG: &str =
     "CONFIG is read whole. What it states goes to standard output, in tables, with a warning of what is of no use. Of a\nfolder, its homes and the file CONFIG the machine is asked: whether they are there, and who may read them.\n\nExamples: ftpd check-config office.toml\n          ftpd check-config new.toml --against office.toml\n          ftpd check-config new.toml --against-running\n\nStatus: 0 done, or yes; 1 a fault; 2 refused words; 3 no";
@@ -100,9 +100,12 @@ fn share_command<'a>(alloc: Global) -> Result<Command<'a>, AllocError>
     let sheet =
         "File of lines `limit PATH N`, `want PATH N` or `want PATH N FLOOR`; - is standard input";
     let svg = "Draw the shares as a picture in SVG";
+    let by =
+        "Share among users first: the nodes at this depth, from 0 to 99, and each want above it; the root is at depth 0";
     let command = bare_command(alloc, "share", about, ABOUT_SHARE);
     let command = with_file(alloc, command, "SHEET", sheet)?;
-    with_flag(alloc, command, "svg", svg)
+    let command = with_flag(alloc, command, "svg", svg)?;
+    with_value(alloc, command, "by", "DEPTH", by)
 }
 
 fn check_command<'a>(alloc: Global) -> Result<Command<'a>, AllocError>
@@ -112,9 +115,11 @@ fn check_command<'a>(alloc: Global) -> Result<Command<'a>, AllocError>
     let sheet = "File of limits and wants, as for `share`; - is standard input";
     let grants =
         "File of lines `grant PATH N` or `grant PATH N NODE`, in the order of the wants; - is standard input";
+    let by = "Check whether the grants are best among the users of this depth, as for `share`";
     let command = bare_command(alloc, "check", about, ABOUT_CHECK);
     let command = with_file(alloc, command, "SHEET", sheet)?;
-    with_file(alloc, command, "GRANTS", grants)
+    let command = with_file(alloc, command, "GRANTS", grants)?;
+    with_value(alloc, command, "by", "DEPTH", by)
 }
 
 const CONFIG_FILE: &str = "File of a configuration, in TOML; - is standard input";
@@ -170,6 +175,9 @@ fn script_command<'a>(alloc: Global) -> Result<Command<'a>, AllocError>
         "File of a configuration, in TOML; not -, standard input, which has the control text";
     config_command(alloc, "script", about, ABOUT_SCRIPT, file)
 }
+
+const SHARE_BY: &str =
+    "Among whom the line is shared: sessions, or users, each with one share a direction; anonymous is one user [default: sessions]";
 
 /// The command with an optional value, given by an option of that name.
 pub(crate) fn with_value<'a>(
@@ -277,6 +285,17 @@ fn with_patience<'a>(alloc: Global, command: Command<'a>) -> Result<Command<'a>,
     Ok(command)
 }
 
+/// The command with an optional flag of files that are written to the device, and an optional way of sharing.
+fn with_sync_and_way<'a>(alloc: Global, command: Command<'a>) -> Result<Command<'a>, AllocError>
+    ensures rules { IfOk result (λ c. app_of c ≡ with_sync_and_way (app_of command.entry)) }
+{
+    let sync =
+        "Have each file that is received written to the device before its 226, which takes the device's time";
+    let with_sync = with_flag(alloc, command, "sync", sync)?;
+    let command = with_value(alloc, with_sync, "share-by", "WAY", SHARE_BY)?;
+    Ok(command)
+}
+
 fn serve_command<'a>(alloc: Global) -> Result<Command<'a>, AllocError>
     ensures serve { IfOk result (λ c. app_of c ≡ serve) }
 {
@@ -288,9 +307,7 @@ fn serve_command<'a>(alloc: Global) -> Result<Command<'a>, AllocError>
     let command = with_status(alloc, command)?;
     let command = with_patience(alloc, command)?;
     let command = with_sessions(alloc, command)?;
-    let sync =
-        "Have each file that is received written to the device before its 226, which takes the device's time";
-    with_flag(alloc, command, "sync", sync)
+    with_sync_and_way(alloc, command)
 }
 
 fn plan_command<'a>(alloc: Global) -> Result<Command<'a>, AllocError>
@@ -302,7 +319,8 @@ fn plan_command<'a>(alloc: Global) -> Result<Command<'a>, AllocError>
     let json = "Print the plan as JSON, for programs";
     let command = config_command(alloc, "plan", about, ABOUT_PLAN, CONFIG_FILE)?;
     let command = with_file(alloc, command, "TRANSFERS", transfers)?;
-    with_flag(alloc, command, "json", json)
+    let command = with_flag(alloc, command, "json", json)?;
+    with_value(alloc, command, "share-by", "WAY", SHARE_BY)
 }
 
 fn show_command<'a>(alloc: Global) -> Result<Command<'a>, AllocError>

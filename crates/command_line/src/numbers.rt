@@ -1,15 +1,18 @@
 //! The numbers that words state.
 
-ghost use Rattle.std.specs.Prelude.{◌≡◌, ◌≤◌, ◌++◌, ℕ, None, IfErr, IfOk, IfSome, OnOk, codes, string_bytes};
+ghost use Rattle.std.specs.Prelude.{◌≡◌, ◌≤◌, ◌++◌, ℕ, None, Some, IfErr, IfOk, IfSome, OnOk, codes, option_map, string_bytes};
 ghost use Rattle.clap.specs.Words.{first_of, found_of, rows_of, subcommand_rows_of};
-ghost use Rattle.command_line.specs.Numbers.{AreLinesIn, IsNumber, IsNumberOr, IsPortIn, IsRefusalOf, IsStated, IsUnnumberedBy, least_of, most_of, refusal_head, refusal_range, refusal_text, value_kind, value_name};
+ghost use Rattle.command_line.specs.Numbers.{AreLinesIn, IsDepthOf, IsNoDepthOf, IsNumber, IsNumberOr, IsPortIn, IsRefusalOf, IsStated, IsUnnumberedBy, least_of, most_of, refusal_head, refusal_range, refusal_text, value_kind, value_name};
 ghost use Rattle.command_line.specs.Stated.{IsServeUnnumberedIn, IsStatedBy, IsUnnumbered};
 ghost use Rattle.command_line.specs.Timed.{IsPatienceIn};
+ghost use Rattle.command_line.specs.Ways.{IsUnknownWayIn, IsWayIn};
 
 use crate::patience::{patience_of, usual_patience};
+use crate::ways::way_of;
 use crate::words::{WordsFault, entered, word_of};
 use clap::ArgMatches;
 use client_patience::Patience;
+use line_rates::ShareBy;
 use std::alloc::{AllocError, Global};
 
 /// Largest number of seconds that words may state: a day.
@@ -27,6 +30,9 @@ pub const MOST_ROWS: u32 = 500;
 /// Lines of a screen, unless the words state others.
 pub const ROWS: u16 = 24;
 
+/// Largest depth that words may state.
+pub const MOST_DEPTH: u32 = 99;
+
 /// The form of a number that an option states.
 #[derive(Clone, Copy)]
 pub(crate) enum NumberForm {
@@ -36,13 +42,15 @@ pub(crate) enum NumberForm {
     Port,
     /// A number of lines.
     Lines,
+    /// A depth in a tree.
+    Depth,
 }
 
 fn least(form: NumberForm) -> u32
     ensures least { result ≡ least_of form }
 {
     match form {
-        NumberForm::Seconds => 0,
+        NumberForm::Seconds | NumberForm::Depth => 0,
         NumberForm::Port => 1,
         NumberForm::Lines => LEAST_ROWS,
     }
@@ -55,6 +63,7 @@ fn most(form: NumberForm) -> u32
         NumberForm::Seconds => MAX_SECONDS,
         NumberForm::Port => MAX_PORT,
         NumberForm::Lines => MOST_ROWS,
+        NumberForm::Depth => MOST_DEPTH,
     }
 }
 
@@ -66,6 +75,7 @@ fn name(form: NumberForm) -> &'static str
         NumberForm::Seconds => "SECONDS",
         NumberForm::Port => "PORT",
         NumberForm::Lines => "N",
+        NumberForm::Depth => "DEPTH",
     }
 }
 
@@ -76,6 +86,7 @@ fn kind(form: NumberForm) -> &'static str
         NumberForm::Seconds => "a number of seconds",
         NumberForm::Port => "a port",
         NumberForm::Lines => "a number of lines",
+        NumberForm::Depth => "a depth",
     }
 }
 
@@ -94,7 +105,7 @@ fn number_in(text: &str, form: NumberForm) -> Option<u32>
 }
 
 /// The beginning of a refusal of a value of an option: the name of such a value, and what it must be.
-fn refusal_head(
+pub(crate) fn refusal_head(
     alloc: Global,
     option: &str,
     value: &str,
@@ -185,12 +196,39 @@ pub(crate) fn number_or(
     }
 }
 
-/// The numbers that the words of a command state, or those that count if the words state none.
+/// The depth that a word states.
+fn depth_in(alloc: Global, value: &str) -> Result<u32, WordsFault>
+    ensures depth { IfOk result (IsNumber NumberForm.Depth value.now) }
+    ensures refused { IfErr result (IsNoDepthOf (Some value.now)) }
+{
+    match number_in(value, NumberForm::Depth) {
+        Some(depth) => Ok(depth),
+        None => Err(refusal(alloc, NumberForm::Depth, "by", value)),
+    }
+}
+
+/// Returns the depth that a word states, from 0 to `MOST_DEPTH` in digits, if there is a word. `Refused`: the word
+/// states none. `Memory`: memory ran out.
+pub fn stated_depth(alloc: Global, by: Option<&str>) -> Result<Option<usize>, WordsFault>
+    ensures depth { IfOk result (IsDepthOf (option_map (λ w. w.now) by.entry)) }
+    ensures refused { IfErr result (IsNoDepthOf (option_map (λ w. w.now) by.entry)) }
+{
+    match by {
+        Some(value) => match depth_in(alloc, value) {
+            Ok(depth) => Ok(Some(depth as usize)),
+            Err(fault) => Err(fault),
+        },
+        None => Ok(None),
+    }
+}
+
+/// The numbers that the words of a command state, and the way of sharing, or those that count if the words state none.
 #[derive(Clone, Copy)]
 pub(crate) struct Numbers {
     pub(crate) patience: Patience,
     pub(crate) status_port: Option<u16>,
     pub(crate) rows: u16,
+    pub(crate) share_by: ShareBy,
 }
 
 /// The port that the arguments of `serve` state, if any.
@@ -209,14 +247,17 @@ fn port_of(alloc: Global, inner: &ArgMatches<'_>) -> Result<Option<u16>, WordsFa
 fn serve_numbers(alloc: Global, inner: &ArgMatches<'_>) -> Result<Numbers, WordsFault>
     ensures patience { IfOk result (λ n. IsPatienceIn (rows_of (found_of inner.now)) n.patience) }
     ensures port { IfOk result (λ n. IsPortIn (rows_of (found_of inner.now)) n.status_port) }
+    ensures way { IfOk result (λ n. IsWayIn (rows_of (found_of inner.now)) n.share_by) }
     ensures refused { IfErr result (IsServeUnnumberedIn (rows_of (found_of inner.now))) }
 {
     let patience = patience_of(alloc, inner)?;
     let status_port = port_of(alloc, inner)?;
+    let share_by = way_of(alloc, inner)?;
     Ok(Numbers {
         patience,
         status_port,
         rows: ROWS,
+        share_by,
     })
 }
 
@@ -231,22 +272,40 @@ fn top_numbers(alloc: Global, inner: &ArgMatches<'_>) -> Result<Numbers, WordsFa
         patience: usual_patience(),
         status_port: None,
         rows: rows as u16,
+        share_by: ShareBy::Sessions,
     })
 }
 
-/// The numbers that the words of the entered command state; those that it does not take are of no account.
+/// The way of sharing that the arguments of `plan` state.
+fn plan_numbers(alloc: Global, inner: &ArgMatches<'_>) -> Result<Numbers, WordsFault>
+    ensures way { IfOk result (λ n. IsWayIn (rows_of (found_of inner.now)) n.share_by) }
+    ensures refused { IfErr result (IsUnknownWayIn (rows_of (found_of inner.now))) }
+{
+    let share_by = way_of(alloc, inner)?;
+    Ok(Numbers {
+        patience: usual_patience(),
+        status_port: None,
+        rows: ROWS,
+        share_by,
+    })
+}
+
+/// The numbers and the way of sharing that the words of the entered command state; those that it does not take are of
+/// no account.
 pub(crate) fn stated_numbers(alloc: Global, matches: &ArgMatches<'_>) -> Result<Numbers, WordsFault>
-    ensures stated { IfOk result
-        (λ n. IsStatedBy (subcommand_rows_of matches.now) n.patience n.status_port n.rows) }
+    ensures stated { IfOk result (λ n. IsStatedBy (subcommand_rows_of matches.now)
+        n.patience n.status_port n.rows n.share_by) }
     ensures refused { IfErr result (IsUnnumbered (subcommand_rows_of matches.now)) }
 {
     match entered(matches) {
         Some(("serve", inner)) => serve_numbers(alloc, inner),
         Some(("top", inner)) => top_numbers(alloc, inner),
+        Some(("plan", inner)) => plan_numbers(alloc, inner),
         _ => Ok(Numbers {
             patience: usual_patience(),
             status_port: None,
             rows: ROWS,
+            share_by: ShareBy::Sessions,
         }),
     }
 }

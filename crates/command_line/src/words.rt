@@ -15,18 +15,29 @@ use crate::numbers::{Numbers, stated_numbers};
 use clap::error::ErrorKind;
 use clap::{ArgMatches, Command, Error};
 use client_patience::Patience;
+use line_rates::ShareBy;
 use std::alloc::Global;
 
 /// A command on a sheet, with the words after it.
 #[derive(Clone, Copy, Debug, PartialEq, Eq)]
 pub enum SheetWords<'a> {
-    /// Share the limits of the sheet at this path, and print the shares as a picture or in lines.
-    Share { sheet: &'a str, svg: bool },
-    /// Check the grants of a file within the limits of a sheet; the paths of both.
-    Check { sheet: &'a str, grants: &'a str },
+    /// Share the limits of the sheet at this path, and print the shares as a picture or in lines. `by` is the depth of
+    /// the users among whom they are shared first, as its word states it.
+    Share {
+        sheet: &'a str,
+        svg: bool,
+        by: Option<&'a str>,
+    },
+    /// Check the grants of a file within the limits of a sheet; the paths of both, and the word that states the depth
+    /// of the users.
+    Check {
+        sheet: &'a str,
+        grants: &'a str,
+        by: Option<&'a str>,
+    },
 }
 
-/// The paths of a server's files, the form of its notes, and the port of its status page.
+/// The paths of a server's files, the form of its notes, the port of its status page, and its way of sharing.
 #[derive(Clone, Copy, Debug, PartialEq, Eq)]
 pub struct ServeFiles<'a> {
     /// The server ends once there is a file at this path.
@@ -53,6 +64,8 @@ pub struct ServeFiles<'a> {
     pub syncs: bool,
     /// The greatest number of sessions in which one user is logged in, in digits.
     pub user_sessions: Option<&'a str>,
+    /// Among whom the server shares the line.
+    pub share_by: ShareBy,
 }
 
 /// A command of `ftpd`, with the words after it.
@@ -82,12 +95,13 @@ pub enum Words<'a> {
         files: ServeFiles<'a>,
         patience: Patience,
     },
-    /// Plan transfers by the configuration at this path; the word that states them, and whether the plan is to be
-    /// printed as JSON.
+    /// Plan transfers by the configuration at this path; the word that states them, whether the plan is to be printed
+    /// as JSON, and among whom the line is shared.
     Plan {
         config: &'a str,
         transfers: &'a str,
         json: bool,
+        share_by: ShareBy,
     },
     /// Show what the status file at this path says, once or again and again, in that number of lines.
     Top {
@@ -167,10 +181,12 @@ fn sheet_given<'a>(name: &str, inner: &ArgMatches<'a>) -> Option<SheetWords<'a>>
         "share" => Some(SheetWords::Share {
             sheet: word_of(inner, "SHEET")?,
             svg: has_flag(inner, "svg"),
+            by: word_of(inner, "by"),
         }),
         "check" => Some(SheetWords::Check {
             sheet: word_of(inner, "SHEET")?,
             grants: word_of(inner, "GRANTS")?,
+            by: word_of(inner, "by"),
         }),
         _ => None,
     }
@@ -189,7 +205,7 @@ fn sheet_words<'a>(matches: &ArgMatches<'a>) -> Option<SheetWords<'a>>
 /// The command of that name, with its words, which state those numbers.
 fn given<'a>(name: &str, inner: &ArgMatches<'a>, numbers: Numbers) -> Option<Words<'a>>
     requires numbers { IsStatedBy (Some (name.now, rows_of (found_of inner.now)))
-        numbers.patience numbers.status_port numbers.rows }
+        numbers.patience numbers.status_port numbers.rows numbers.share_by }
     ensures found { IfSome result (IsFound (Some (name.now, rows_of (found_of inner.now)))) }
     ensures none { result ≡ None → (words : Words)
         → IsFound (Some (name.now, rows_of (found_of inner.now))) words → ⊥ }
@@ -222,6 +238,7 @@ fn given<'a>(name: &str, inner: &ArgMatches<'a>, numbers: Numbers) -> Option<Wor
                 status_port: numbers.status_port,
                 syncs: has_flag(inner, "sync"),
                 user_sessions: word_of(inner, "user-sessions"),
+                share_by: numbers.share_by,
             },
             patience: numbers.patience,
         }),
@@ -229,6 +246,7 @@ fn given<'a>(name: &str, inner: &ArgMatches<'a>, numbers: Numbers) -> Option<Wor
             config: word_of(inner, "CONFIG")?,
             transfers: word_of(inner, "TRANSFERS")?,
             json: has_flag(inner, "json"),
+            share_by: numbers.share_by,
         }),
         "top" => Some(Words::Top {
             status: word_of(inner, "STATUS")?,
@@ -243,7 +261,7 @@ fn given<'a>(name: &str, inner: &ArgMatches<'a>, numbers: Numbers) -> Option<Wor
 /// The command that the parser entered, whose words state those numbers.
 fn words_of<'a>(matches: &ArgMatches<'a>, numbers: Numbers) -> Option<Words<'a>>
     requires numbers { IsStatedBy (subcommand_rows_of matches.now)
-        numbers.patience numbers.status_port numbers.rows }
+        numbers.patience numbers.status_port numbers.rows numbers.share_by }
     ensures found { IfSome result (IsFound (subcommand_rows_of matches.now)) }
     ensures none { result ≡ None → (words : Words)
         → IsFound (subcommand_rows_of matches.now) words → ⊥ }
@@ -284,13 +302,13 @@ pub fn read_sheet_words<'a>(
 ) -> Result<SheetWords<'a>, WordsFault>
     ensures share { (word : List ℕ) → IsPlainWord word
         → map (λ s. s.now) words.now ≡ codes "share" ∷ word ∷ []
-        → GivesOrMemory (IsShare word false) result }
+        → GivesOrMemory (IsShare word false None) result }
     ensures share_svg { (word : List ℕ) → IsPlainWord word
         → map (λ s. s.now) words.now ≡ codes "share" ∷ word ∷ codes "--svg" ∷ []
-        → GivesOrMemory (IsShare word true) result }
+        → GivesOrMemory (IsShare word true None) result }
     ensures check { (first second : List ℕ) → IsPlainWord first → IsPlainWord second
         → map (λ s. s.now) words.now ≡ codes "check" ∷ first ∷ second ∷ []
-        → GivesOrMemory (IsCheck first second) result }
+        → GivesOrMemory (IsCheck first second None) result }
     ensures taken { fault_of sheets (map (λ s. s.now) words.now) ≡ [] → GivesOneOrMemory
         (IsSheetFound (subcommand_of sheets (map (λ s. s.now) words.now))) result }
     ensures refused { IfErr result (IsRefusal (fault_of sheets (map (λ s. s.now) words.now))) }
@@ -312,19 +330,19 @@ pub fn read_sheet_words<'a>(
 
 /// Reads the command in the words of `ftpd`, which do not include the program's name.
 ///
-/// Returns the command of words that the parser accepts, if each of them that is to be a number is one. `Refused`: the
-/// parser refuses the words, or they ask for help or the version, or a value is no number of its form. `Memory`: memory
-/// ran out.
+/// Returns the command of words that the parser accepts, if each value of an option that is judged has its form. `Refused`: the
+/// parser refuses the words, or they ask for help or the version, or a value is no number of its form, or no way of
+/// sharing. `Memory`: memory ran out.
 pub fn read_words<'a>(alloc: Global, words: &'a [&'a str]) -> Result<Words<'a>, WordsFault>
     ensures share { (word : List ℕ) → IsPlainWord word
         → map (λ s. s.now) words.now ≡ codes "share" ∷ word ∷ []
-        → GivesOrMemory (IsOfSheets (IsShare word false)) result }
+        → GivesOrMemory (IsOfSheets (IsShare word false None)) result }
     ensures share_svg { (word : List ℕ) → IsPlainWord word
         → map (λ s. s.now) words.now ≡ codes "share" ∷ word ∷ codes "--svg" ∷ []
-        → GivesOrMemory (IsOfSheets (IsShare word true)) result }
+        → GivesOrMemory (IsOfSheets (IsShare word true None)) result }
     ensures check { (first second : List ℕ) → IsPlainWord first → IsPlainWord second
         → map (λ s. s.now) words.now ≡ codes "check" ∷ first ∷ second ∷ []
-        → GivesOrMemory (IsOfSheets (IsCheck first second)) result }
+        → GivesOrMemory (IsOfSheets (IsCheck first second None)) result }
     ensures check_config { (word : List ℕ) → IsPlainWord word
         → map (λ s. s.now) words.now ≡ codes "check-config" ∷ word ∷ []
         → GivesOrMemory (IsCheckConfig word false None false) result }

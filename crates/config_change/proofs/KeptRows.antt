@@ -9,7 +9,7 @@ use Rattle.std.specs.declared.cmp.Ordering.{Ordering}
 use Rattle.std.specs.declared.cmp.Ordering.TheVariants.{Less, Equal, Greater}
 use Rattle.std.proofs.lemmas.Bool.{eqb-true}
 use Rattle.std.proofs.lemmas.Cmp.{ranked, nat_cmp_total}
-use Rattle.line_rates.specs.Rates.{Rates}
+use Rattle.line_rates.specs.Rates.{Rates, shared_by}
 use Rattle.line_rates.specs.Stated.{by_number, group_number, user_number, stated, IsRising}
 use Rattle.line_rates.specs.declared.row.GroupRate.{GroupRate}
 use Rattle.line_rates.specs.declared.row.UserRate.{UserRate}
@@ -119,13 +119,14 @@ user_at rates earlier q new old =
     first_unguaranteed q (filter (λ row. not (finite.contains_key rates.users row.user)) (finite.values earlier.users))
     ∙ ap (option_map without_guarantee) (first_kept user_number (finite.contains_key rates.users) q none (finite.values earlier.users) ∙ at_number user_number earlier.users q old))
 
-pub keep_past : (rates earlier all : Rates) → all ≡ stated rates.server rates.down rates.up (groups_with_past rates earlier) (users_with_past rates earlier)
+pub keep_past : (rates earlier all : Rates) → all ≡ shared_by earlier.share_by (stated rates.server rates.down rates.up (groups_with_past rates earlier) (users_with_past rates earlier))
     → by_number group_number (finite.values rates.groups) ≡ rates.groups → by_number group_number (finite.values earlier.groups) ≡ earlier.groups
     → by_number user_number (finite.values rates.users) ≡ rates.users → by_number user_number (finite.values earlier.users) ≡ earlier.users → KeepPast rates earlier all
 keep_past rates earlier all is groups old_groups users old_users = record {
   server = ap (λ (r : Rates). r.server) is;
   down = ap (λ (r : Rates). r.down) is;
   up = ap (λ (r : Rates). r.up) is;
+  share_by = ap (λ (r : Rates). r.share_by) is;
   groups = λ q. ap (λ (r : Rates). finite.get r.groups q) is ∙ group_at rates earlier q groups old_groups;
   users = λ q. ap (λ (r : Rates). finite.get r.users q) is ∙ user_at rates earlier q users old_users;
 }

@@ -36,11 +36,12 @@ users_with_past rates earlier =
     finite.values rates.users ++ past_users rates (finite.values earlier.users)
 
 -- Whoever has a row in the rates keeps it, and whoever has none keeps the earlier one, without a
--- guarantee.
+-- guarantee. The line is shared among the same as before.
 pub record KeepPast (rates earlier all : Rates) : Type 0 where
   pub server : all.server ≡ rates.server
   pub down : all.down ≡ rates.down
   pub up : all.up ≡ rates.up
+  pub share_by : all.share_by ≡ earlier.share_by
   pub groups : (group : ℕ) → finite.get all.groups group
       ≡ option_or (finite.get rates.groups group) (finite.get earlier.groups group)
   pub users : (user : ℕ) → finite.get all.users user

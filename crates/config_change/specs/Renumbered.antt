@@ -4,6 +4,7 @@ use Rattle.std.specs.FinMap as finite
 use Rattle.authorizer.specs.Users.{Accounts}
 use Rattle.authorizer.specs.Renumbered.{renumbered, regrouped}
 use Rattle.authorizer.specs.declared.fault.AuthorizerFault.TheVariants as AuthorizerFault
+use Rattle.line_rates.specs.Rates.{shared_by}
 use Rattle.line_rates.specs.Stated.{stated, limits_fault}
 use Rattle.line_rates.specs.declared.fault.LimitsFault.{LimitsFault}
 use Rattle.line_rates.specs.declared.row.UserRate.{UserRate}
@@ -35,10 +36,10 @@ pub record IsRenumbered (config : Config) (old_users : Accounts) (old_groups : L
   pub kept : Accounts
   pub keeps : renumbered config.users old_users ≡ Ok kept
   pub users : new.users ≡ regrouped (group_places old_groups config) kept
-  pub limits : new.limits
-      ≡ stated config.limits.server config.limits.down config.limits.up
+  pub limits : new.limits ≡ shared_by config.limits.share_by
+      (stated config.limits.server config.limits.down config.limits.up
       (group_rows config.limits 0 (group_places old_groups config))
-      (rows_after old_groups config new.users)
+      (rows_after old_groups config new.users))
 
 -- no number is left for a user, or there are more than 2^32 groups
 abbrev pub HasNoNumber : Config → Accounts → List (List ℕ) → Type 0

@@ -77,7 +77,8 @@ fn push_users(
 
 /// Limits with the earlier rows of the groups and users that have no row in them: a session of a user whom a
 /// configuration has no longer keeps its rates and those of its group, without a guarantee, until it has ended. `earlier`
-/// are the limits in force, with rows that were kept before.
+/// are the limits in force, with rows that were kept before. The line is shared among the same as before: no configuration
+/// says among whom.
 pub fn with_past(alloc: Global, limits: &Limits, earlier: &Limits) -> Result<Limits, RenumberFault>
     ensures kept { IfOk result (KeepPast limits.now earlier.now) }
     ensures refused { IfErr result (IsLimitsFault (limits_fault limits.now.server
@@ -92,7 +93,7 @@ pub fn with_past(alloc: Global, limits: &Limits, earlier: &Limits) -> Result<Lim
     let down = limits.rate(Name::Direction(Way::Down));
     let up = limits.rate(Name::Direction(Way::Up));
     match Limits::of(server, down, up, groups, users) {
-        Ok(all) => Ok(all),
+        Ok(all) => Ok(all.shared_by(earlier.share_by())),
         Err(fault) => Err(RenumberFault::Limits(fault)),
     }
 }

@@ -5,6 +5,7 @@ ghost use Rattle.memory_terms.specs.Lack.{Unless};
 ghost use Rattle.authorizer.specs.Renumbered.{renumbered, regrouped};
 ghost use Rattle.authorizer.specs.Users.{Accounts};
 ghost use Rattle.authorizer.specs.declared.fault.AuthorizerFault.TheVariants as AuthorizerFault;
+ghost use Rattle.line_rates.specs.Rates.{shared_by};
 ghost use Rattle.line_rates.specs.Stated.{stated, limits_fault};
 ghost use Rattle.config_change.specs.Named.{group_rows, rates_named, user_rows};
 ghost use Rattle.config_change.specs.Renumbered.{IsLimitsFault, IsRenumbered, IsRefused};
@@ -57,10 +58,10 @@ fn limits_with(
     requires each { length rates.now ≡ length names.now }
     ensures limits { (before : Accounts)
         → rates.now ≡ map (λ name. rates_named before limits.now (string_bytes name)) names.now
-        → IfOk result (λ new. new
-        ≡ stated limits.now.server limits.now.down limits.now.up
+        → IfOk result (λ new. new ≡ shared_by limits.now.share_by
+        (stated limits.now.server limits.now.down limits.now.up
         (group_rows limits.now 0 numbers.now)
-        (user_rows before users.now limits.now numbers.now (map string_bytes names.now))) }
+        (user_rows before users.now limits.now numbers.now (map string_bytes names.now)))) }
     ensures refused { (before : Accounts)
         → rates.now ≡ map (λ name. rates_named before limits.now (string_bytes name)) names.now
         → IfErr result (IsLimitsFault (limits_fault limits.now.server limits.now.down limits.now.up
@@ -73,7 +74,7 @@ fn limits_with(
     let down = limits.rate(Name::Direction(Way::Down));
     let up = limits.rate(Name::Direction(Way::Up));
     match Limits::of(server, down, up, groups, users) {
-        Ok(limits) => Ok(limits),
+        Ok(all) => Ok(all.shared_by(limits.share_by())),
         Err(fault) => Err(RenumberFault::Limits(fault)),
     }
 }

@@ -4,7 +4,7 @@ use super::expect::{OfTest, down, holds, limits, session_down};
 use grant_ledger::MAX_ISSUED;
 use lane_desk::RoundRefusal;
 use limit_tree::TreeFault;
-use line_rates::{Ask, Limits};
+use line_rates::{Ask, Limits, ShareBy};
 use std::process::Abort;
 use test_checked_desk::CheckedDesk;
 
@@ -84,6 +84,15 @@ fn without_limits_all_is_granted(rt: HostRuntime) {
     );
 }
 
+/// Two lanes of one user share what one lane of another has alone.
+#[test]
+fn users_have_equal_parts(rt: HostRuntime) {
+    let limits = limits(&rt, 80, 0).shared_by(ShareBy::Users);
+    let asks = [session_down(0, 0, 9), session_down(0, 1, 9), down(1, 9)];
+    let desk = first_round(&rt, &limits, &asks, &[2, 2, 4]);
+    holds(&rt, desk.close().moved == 8);
+}
+
 /// A round at a moment is refused for this reason, and answers these lanes with 0 octets.
 fn refused(
     rt: &(impl Abort + AllocGlobal),
@@ -140,6 +149,14 @@ fn an_ask_above_the_largest_want(rt: HostRuntime) {
         false,
         fault,
     );
+}
+
+/// A user can have at most as many octets as a leaf may want.
+#[test]
+fn a_user_above_the_largest_want(rt: HostRuntime) {
+    let limits = limits(&rt, 0, 0).shared_by(ShareBy::Users);
+    let asks = [session_down(0, 0, 4294967295), session_down(0, 1, 1)];
+    first_is_refused(&rt, &limits, &asks, false, RoundRefusal::Unshared);
 }
 
 #[test]

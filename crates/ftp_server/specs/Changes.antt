@@ -22,6 +22,7 @@ pub record IsSameButRates (old new : FtpServer) : Type 0 where
   pub settings : new.settings ≡ old.settings
   pub patience : new.patience ≡ old.patience
   pub user_sessions : new.user_sessions ≡ old.user_sessions
+  pub share_by : new.share_by ≡ old.share_by
   pub syncs : new.syncs ≡ old.syncs
 
 -- everything stays

@@ -5,6 +5,7 @@ use Rattle.ftp_terms.specs.LineText.{text_of}
 use Rattle.server_config.specs.declared.settings.ServerNumbers.{ServerNumbers}
 use Rattle.session_table.specs.declared.settings.Settings.{Settings}
 use Rattle.std.specs.declared.alloc.Global.{Global}
+use Rattle.line_rates.specs.declared.share_by.ShareBy.TheVariants as share
 use Rattle.client_patience.specs.declared.patience.Patience.{Patience}
 use Rattle.ftp_server.specs.declared.server.FtpServer.{FtpServer}
 
@@ -46,4 +47,5 @@ pub record AreDefaults (address : List ℕ) (port : ℕ) (server : FtpServer) : 
   pub user_sessions : server.user_sessions ≡ 0
   pub groups : server.groups.items ≡ []
   pub user_rates : server.user_rates.items ≡ []
+  pub share_by : server.share_by ≡ share.Sessions
   pub syncs : server.syncs ≡ false

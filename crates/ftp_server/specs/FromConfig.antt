@@ -35,4 +35,5 @@ pub record IsOfConfig (config : Config) (server : FtpServer) : Type 0 where
   pub rows : List UserRate
   pub rows_are : by_number user_number rows ≡ config.limits.users
   pub user_rates : server.user_rates.items ≡ map set_of rows
+  pub share_by : server.share_by ≡ config.limits.share_by
   pub syncs : server.syncs ≡ false

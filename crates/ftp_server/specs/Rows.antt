@@ -2,7 +2,7 @@
 use Rattle.std.specs.Prelude.{◌≡◌, ◌⊎◌, ℕ, Bool, false, nat_eq, if◌then◌else◌, List, [], ◌∷◌, ◌++◌, Option, Some, None, Result, Err}
 use Rattle.std.specs.FinMap as finite
 use Rattle.authorizer.specs.Users.{User, Users}
-use Rattle.line_rates.specs.Rates.{Rates}
+use Rattle.line_rates.specs.Rates.{Rates, shared_by}
 use Rattle.line_rates.specs.Stated.{limits_fault, stated}
 use Rattle.line_rates.specs.declared.fault.LimitsFault.{LimitsFault}
 use Rattle.line_rates.specs.declared.row.UserRate.{UserRate}
@@ -69,10 +69,12 @@ named_rows users set (name ∷ names) =
 abbrev pub user_rows : Users → List SetRates → List UserRate
 user_rows users set = named_rows users set (finite.keys users)
 
--- The rates of a server: those of the line, of its groups, and of each of its users.
+-- The rates of a server: those of the line, of its groups, and of each of its users; and among whom
+-- the line is shared.
 abbrev pub server_rates : FtpServer → Rates
-server_rates server = stated server.rate server.down_rate server.up_rate server.groups.items
-    (user_rows server.users.users server.user_rates.items)
+server_rates server = shared_by server.share_by
+    (stated server.rate server.down_rate server.up_rate server.groups.items
+    (user_rows server.users.users server.user_rates.items))
 
 -- the first fault of these rates
 abbrev pub rates_fault : FtpServer → Option LimitsFault

@@ -83,6 +83,7 @@ impl FtpServer {
             user_sessions: 0,
             groups,
             user_rates,
+            share_by: limits.share_by(),
             syncs: false,
             alloc,
         };

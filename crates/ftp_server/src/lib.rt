@@ -33,7 +33,7 @@ pub use ftp_daemon::{
 };
 pub use ftp_terms::{EntryKind, LineText, Meta};
 pub use grant_ledger::{Book, BookName, Tally};
-pub use line_rates::{GroupRate, Limits, LimitsFault, Name, UserRate, Way};
+pub use line_rates::{GroupRate, Limits, LimitsFault, Name, ShareBy, UserRate, Way};
 pub use memory_store::MemStore;
 pub use notes::{NoTransferLog, StandardErrorNotes, notes_on_standard_error};
 pub use paced_rounds::{SettledRounds, Settlement};

@@ -9,7 +9,7 @@ use crate::rates::{SetRates, UserRates};
 use authorizer::{Authorizer, AuthorizerFault};
 use client_patience::Patience;
 use ftp_terms::LineText;
-use line_rates::GroupRate;
+use line_rates::{GroupRate, ShareBy};
 use server_config::ServerNumbers;
 use session_table::Settings;
 use std::alloc::{AllocError, Global};
@@ -47,6 +47,9 @@ pub struct FtpServer {
     /// The rates of users in the order in which `limit_user` set them. Of two for one user the later counts; a user
     /// without any has no limit and no guarantee.
     pub user_rates: Vec<SetRates>,
+    /// Among whom what limits and guarantees leave over is shared: the sessions, or the users and then the sessions of
+    /// each. A user has a share in each direction.
+    pub share_by: ShareBy,
     /// A folder has the octets of each file that is received put on the device before its reply.
     pub syncs: bool,
     pub(crate) alloc: Global,
@@ -106,6 +109,7 @@ impl FtpServer {
             user_sessions: 0,
             groups: Vec::new(alloc),
             user_rates: Vec::new(alloc),
+            share_by: ShareBy::Sessions,
             syncs: false,
             alloc,
         })

@@ -108,11 +108,12 @@ impl FtpServer {
             user_sessions,
             groups,
             user_rates,
+            share_by,
             syncs: _,
             alloc,
         } = self;
         let rows = user_rows(alloc, &users, &user_rates)?;
-        let limits = Limits::of(rate, down_rate, up_rate, groups, rows)?;
+        let limits = Limits::of(rate, down_rate, up_rate, groups, rows)?.shared_by(share_by);
         let terms = Arc::new(alloc, Terms { users, settings })?;
         Ok(ServerParts {
             terms,

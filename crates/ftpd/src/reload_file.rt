@@ -1,5 +1,7 @@
 //! The reload file of a server: once it appears, the configuration is read again.
 
+ghost use Rattle.std.specs.Prelude.{◌≡◌};
+
 use change_report::{ChangeReport, reload_report};
 use ftp_daemon::{Reload, ReloadFault, ReloadSign};
 use machine_parts::{
@@ -58,6 +60,37 @@ fn below_first(alloc: Global, report: &str) -> Option<String> {
     String::from_str(alloc, lines).ok()
 }
 
+/// The parts that the server is to take, and those that are kept until it has taken them.
+fn parted(next: NextConfig, octets: Arc<Vec<u8>>) -> (Reload, KeptNext)
+    ensures terms { result.0.terms ≡ next.terms }
+    ensures limits { result.0.limits ≡ next.limits }
+    ensures connections { result.0.max_cons ≡ next.numbers.max_cons }
+    ensures of_address { result.0.max_cons_per_address ≡ next.numbers.max_cons_per_address }
+    ensures known { result.1.known ≡ next.known }
+    ensures facts { result.1.facts ≡ next.facts }
+    ensures octets { result.1.octets ≡ octets }
+{
+    let NextConfig {
+        terms,
+        limits,
+        numbers,
+        known,
+        facts,
+    } = next;
+    let reload = Reload {
+        terms,
+        limits,
+        max_cons: numbers.max_cons,
+        max_cons_per_address: numbers.max_cons_per_address,
+    };
+    let kept = KeptNext {
+        known,
+        facts,
+        octets,
+    };
+    (reload, kept)
+}
+
 /// The reason for which a configuration is not read again.
 const STILL_READS: &str = "the file has not been read since the last time that it was asked for";
 
@@ -80,27 +113,13 @@ impl ReloadFile {
         let octets = octets?;
         let earlier = self.known.lock(rt);
         let path = self.reader.path();
-        let NextConfig {
-            terms,
-            limits,
-            numbers,
-            known,
-            facts,
-        } = next_config(alloc, path, octets.as_slice(), &self.at_start, &*earlier)?;
+        let next = next_config(alloc, path, octets.as_slice(), &self.at_start, &*earlier)?;
         let Ok(octets) = Arc::new(alloc, octets) else {
             return Err(None);
         };
-        *self.next.lock(rt) = Some(KeptNext {
-            known,
-            facts,
-            octets,
-        });
-        Ok(Reload {
-            terms,
-            limits,
-            max_cons: numbers.max_cons,
-            max_cons_per_address: numbers.max_cons_per_address,
-        })
+        let (reload, kept) = parted(next, octets);
+        *self.next.lock(rt) = Some(kept);
+        Ok(reload)
     }
 
     /// The configuration that the server is to take now, if it was to be read again and has been read.

@@ -2,11 +2,12 @@
 use Rattle.std.proofs.Common.{◌≡◌, ℕ, Bool, false, true, List, Option, None, Some, option_map, refl, subst, sym}
 use Rattle.command_line.specs.Given.{IsCheck, IsCheckConfig, IsMigrate, IsOfSheets, IsPlanWords, IsScript, IsServe, IsShare, IsTop}
 use Rattle.client_patience.specs.declared.patience.Patience.{Patience}
-use Rattle.command_line.specs.declared.words.SheetWords.TheVariants.{Share, Check}
+use Rattle.line_rates.specs.declared.share_by.ShareBy.{ShareBy}
 use Rattle.command_line.specs.declared.words.Words.{Words}
 use Rattle.command_line.specs.declared.words.Words.TheVariants.{Sheet, CheckConfig, Migrate, Script, Serve, Plan, Top, Usage}
 use Rattle.script_session.specs.declared.fault.SessionFault.{SessionFault}
 use Rattle.config_report.specs.Looks.{Shown}
+use Rattle.sheets_program.proofs.Ends.{check_words_end, share_words_end}
 use Rattle.sheets_program.specs.Runs.{IsCheckEnd, IsShareEnd, Octets}
 use Rattle.sheets_program.specs.declared.ending.Exit.TheVariants.{Done, Flawed, Refused, Text, Share as Unshared, Check as Unchecked}
 use Rattle.std.specs.Borrow.{Bor}
@@ -23,48 +24,42 @@ use Rattle.ftpd_program.specs.declared.scripting.ScriptFault.{ScriptFault}
 use Rattle.ftpd_program.specs.declared.scripting.ScriptFault.TheVariants.{Session as Unserved}
 
 pub share_end : (gives : List ℕ → Octets) (shown : Shown) (serves : Service) (Refuses : List ℕ → Type 0) (words : Words) (sheet : List ℕ) (as_svg : Bool) (old new : Option (List ℕ)) (ending : FtpdExit)
-    → IsOfSheets (IsShare sheet as_svg) words → IsCommandEnd gives shown serves Refuses words old new ending → IsCommon (IsShareEnd gives as_svg sheet old new) ending
-share_end gives shown serves Refuses (Sheet (Share path svg)) sheet as_svg old new (Common ending) is end =
-    let first = subst (λ (p : List ℕ). IsShareEnd gives svg p old new ending) is.0 end in
-    subst (λ (b : Bool). IsShareEnd gives b sheet old new ending) is.1 first
-share_end gives shown serves Refuses (Sheet (Share path svg)) sheet as_svg old new (Config file fault) is end = absurd end
-share_end gives shown serves Refuses (Sheet (Share path svg)) sheet as_svg old new (ConfigOf file fault) is end = absurd end
-share_end gives shown serves Refuses (Sheet (Share path svg)) sheet as_svg old new NoReload is end = absurd end
-share_end gives shown serves Refuses (Sheet (Share path svg)) sheet as_svg old new (Transfers name reported) is end = absurd end
-share_end gives shown serves Refuses (Sheet (Share path svg)) sheet as_svg old new (Session fault) is end = absurd end
-share_end gives shown serves Refuses (Sheet (Share path svg)) sheet as_svg old new (Server fault) is end = absurd end
-share_end gives shown serves Refuses (Sheet (Share path svg)) sheet as_svg old new (Status file fault) is end = absurd end
-share_end gives shown serves Refuses (Sheet (Share path svg)) sheet as_svg old new (Watches status rows) is end = absurd end
-share_end gives shown serves Refuses (Sheet (Share path svg)) sheet as_svg old new AddsUp is end = absurd end
-share_end gives shown serves Refuses (Sheet (Check path other)) sheet as_svg old new ending is end = absurd is
+    → IsOfSheets (IsShare sheet as_svg None) words → IsCommandEnd gives shown serves Refuses words old new ending → IsCommon (IsShareEnd gives None as_svg sheet old new) ending
+share_end gives shown serves Refuses (Sheet words) sheet as_svg old new (Common ending) is end = share_words_end gives words sheet as_svg old new ending is end
+share_end gives shown serves Refuses (Sheet words) sheet as_svg old new (Config file fault) is end = absurd end
+share_end gives shown serves Refuses (Sheet words) sheet as_svg old new (ConfigOf file fault) is end = absurd end
+share_end gives shown serves Refuses (Sheet words) sheet as_svg old new NoReload is end = absurd end
+share_end gives shown serves Refuses (Sheet words) sheet as_svg old new (Transfers name reported) is end = absurd end
+share_end gives shown serves Refuses (Sheet words) sheet as_svg old new (Session fault) is end = absurd end
+share_end gives shown serves Refuses (Sheet words) sheet as_svg old new (Server fault) is end = absurd end
+share_end gives shown serves Refuses (Sheet words) sheet as_svg old new (Status file fault) is end = absurd end
+share_end gives shown serves Refuses (Sheet words) sheet as_svg old new (Watches status rows) is end = absurd end
+share_end gives shown serves Refuses (Sheet words) sheet as_svg old new AddsUp is end = absurd end
 share_end gives shown serves Refuses (CheckConfig path json against running) sheet as_svg old new ending is end = absurd is
 share_end gives shown serves Refuses (Migrate path) sheet as_svg old new ending is end = absurd is
 share_end gives shown serves Refuses (Script path) sheet as_svg old new ending is end = absurd is
 share_end gives shown serves Refuses (Serve path files patience) sheet as_svg old new ending is end = absurd is
-share_end gives shown serves Refuses (Plan path stated json) sheet as_svg old new ending is end = absurd is
+share_end gives shown serves Refuses (Plan path stated json share_by) sheet as_svg old new ending is end = absurd is
 share_end gives shown serves Refuses (Top status once rows) sheet as_svg old new ending is end = absurd is
 share_end gives shown serves Refuses Usage sheet as_svg old new ending is end = absurd is
 
 pub check_end : (gives : List ℕ → Octets) (shown : Shown) (serves : Service) (Refuses : List ℕ → Type 0) (words : Words) (sheet grants : List ℕ) (old new : Option (List ℕ)) (ending : FtpdExit)
-    → IsOfSheets (IsCheck sheet grants) words → IsCommandEnd gives shown serves Refuses words old new ending → IsCommon (IsCheckEnd gives sheet grants old new) ending
-check_end gives shown serves Refuses (Sheet (Check path other)) sheet grants old new (Common ending) is end =
-    let first = subst (λ (p : List ℕ). IsCheckEnd gives p other.now old new ending) is.0 end in
-    subst (λ (p : List ℕ). IsCheckEnd gives sheet p old new ending) is.1 first
-check_end gives shown serves Refuses (Sheet (Check path other)) sheet grants old new (Config file fault) is end = absurd end
-check_end gives shown serves Refuses (Sheet (Check path other)) sheet grants old new (ConfigOf file fault) is end = absurd end
-check_end gives shown serves Refuses (Sheet (Check path other)) sheet grants old new NoReload is end = absurd end
-check_end gives shown serves Refuses (Sheet (Check path other)) sheet grants old new (Transfers name reported) is end = absurd end
-check_end gives shown serves Refuses (Sheet (Check path other)) sheet grants old new (Session fault) is end = absurd end
-check_end gives shown serves Refuses (Sheet (Check path other)) sheet grants old new (Server fault) is end = absurd end
-check_end gives shown serves Refuses (Sheet (Check path other)) sheet grants old new (Status file fault) is end = absurd end
-check_end gives shown serves Refuses (Sheet (Check path other)) sheet grants old new (Watches status rows) is end = absurd end
-check_end gives shown serves Refuses (Sheet (Check path other)) sheet grants old new AddsUp is end = absurd end
-check_end gives shown serves Refuses (Sheet (Share path svg)) sheet grants old new ending is end = absurd is
+    → IsOfSheets (IsCheck sheet grants None) words → IsCommandEnd gives shown serves Refuses words old new ending → IsCommon (IsCheckEnd gives None sheet grants old new) ending
+check_end gives shown serves Refuses (Sheet words) sheet grants old new (Common ending) is end = check_words_end gives words sheet grants old new ending is end
+check_end gives shown serves Refuses (Sheet words) sheet grants old new (Config file fault) is end = absurd end
+check_end gives shown serves Refuses (Sheet words) sheet grants old new (ConfigOf file fault) is end = absurd end
+check_end gives shown serves Refuses (Sheet words) sheet grants old new NoReload is end = absurd end
+check_end gives shown serves Refuses (Sheet words) sheet grants old new (Transfers name reported) is end = absurd end
+check_end gives shown serves Refuses (Sheet words) sheet grants old new (Session fault) is end = absurd end
+check_end gives shown serves Refuses (Sheet words) sheet grants old new (Server fault) is end = absurd end
+check_end gives shown serves Refuses (Sheet words) sheet grants old new (Status file fault) is end = absurd end
+check_end gives shown serves Refuses (Sheet words) sheet grants old new (Watches status rows) is end = absurd end
+check_end gives shown serves Refuses (Sheet words) sheet grants old new AddsUp is end = absurd end
 check_end gives shown serves Refuses (CheckConfig path json against running) sheet grants old new ending is end = absurd is
 check_end gives shown serves Refuses (Migrate path) sheet grants old new ending is end = absurd is
 check_end gives shown serves Refuses (Script path) sheet grants old new ending is end = absurd is
 check_end gives shown serves Refuses (Serve path files patience) sheet grants old new ending is end = absurd is
-check_end gives shown serves Refuses (Plan path stated json) sheet grants old new ending is end = absurd is
+check_end gives shown serves Refuses (Plan path stated json share_by) sheet grants old new ending is end = absurd is
 check_end gives shown serves Refuses (Top status once rows) sheet grants old new ending is end = absurd is
 check_end gives shown serves Refuses Usage sheet grants old new ending is end = absurd is
 
@@ -83,7 +78,7 @@ report_end gives shown serves Refuses (Sheet words) config as_json old new endin
 report_end gives shown serves Refuses (Migrate path) config as_json old new ending is end = absurd is
 report_end gives shown serves Refuses (Script path) config as_json old new ending is end = absurd is
 report_end gives shown serves Refuses (Serve path files patience) config as_json old new ending is end = absurd is
-report_end gives shown serves Refuses (Plan path stated json) config as_json old new ending is end = absurd is
+report_end gives shown serves Refuses (Plan path stated json share_by) config as_json old new ending is end = absurd is
 report_end gives shown serves Refuses (Top status once rows) config as_json old new ending is end = absurd is
 report_end gives shown serves Refuses Usage config as_json old new ending is end = absurd is
 
@@ -105,7 +100,7 @@ against_end gives shown serves Refuses (Sheet words) config other as_json old ne
 against_end gives shown serves Refuses (Migrate path) config other as_json old new ending is end = absurd is
 against_end gives shown serves Refuses (Script path) config other as_json old new ending is end = absurd is
 against_end gives shown serves Refuses (Serve path files patience) config other as_json old new ending is end = absurd is
-against_end gives shown serves Refuses (Plan path stated json) config other as_json old new ending is end = absurd is
+against_end gives shown serves Refuses (Plan path stated json share_by) config other as_json old new ending is end = absurd is
 against_end gives shown serves Refuses (Top status once rows) config other as_json old new ending is end = absurd is
 against_end gives shown serves Refuses Usage config other as_json old new ending is end = absurd is
 
@@ -124,7 +119,7 @@ running_end gives shown serves Refuses (Sheet words) config as_json old new endi
 running_end gives shown serves Refuses (Migrate path) config as_json old new ending is end = absurd is
 running_end gives shown serves Refuses (Script path) config as_json old new ending is end = absurd is
 running_end gives shown serves Refuses (Serve path files patience) config as_json old new ending is end = absurd is
-running_end gives shown serves Refuses (Plan path stated json) config as_json old new ending is end = absurd is
+running_end gives shown serves Refuses (Plan path stated json share_by) config as_json old new ending is end = absurd is
 running_end gives shown serves Refuses (Top status once rows) config as_json old new ending is end = absurd is
 running_end gives shown serves Refuses Usage config as_json old new ending is end = absurd is
 
@@ -135,7 +130,7 @@ migrate_end gives shown serves Refuses (Sheet words) config old new ending is en
 migrate_end gives shown serves Refuses (CheckConfig path json against running) config old new ending is end = absurd is
 migrate_end gives shown serves Refuses (Script path) config old new ending is end = absurd is
 migrate_end gives shown serves Refuses (Serve path files patience) config old new ending is end = absurd is
-migrate_end gives shown serves Refuses (Plan path stated json) config old new ending is end = absurd is
+migrate_end gives shown serves Refuses (Plan path stated json share_by) config old new ending is end = absurd is
 migrate_end gives shown serves Refuses (Top status once rows) config old new ending is end = absurd is
 migrate_end gives shown serves Refuses Usage config old new ending is end = absurd is
 
@@ -146,7 +141,7 @@ script_end gives shown serves Refuses (Sheet words) config old new ending is end
 script_end gives shown serves Refuses (CheckConfig path json against running) config old new ending is end = absurd is
 script_end gives shown serves Refuses (Migrate path) config old new ending is end = absurd is
 script_end gives shown serves Refuses (Serve path files patience) config old new ending is end = absurd is
-script_end gives shown serves Refuses (Plan path stated json) config old new ending is end = absurd is
+script_end gives shown serves Refuses (Plan path stated json share_by) config old new ending is end = absurd is
 script_end gives shown serves Refuses (Top status once rows) config old new ending is end = absurd is
 script_end gives shown serves Refuses Usage config old new ending is end = absurd is
 
@@ -163,15 +158,16 @@ serve_end gives shown serves Refuses (Sheet words) config path ready p old new e
 serve_end gives shown serves Refuses (CheckConfig word json against running) config path ready p old new ending is end = absurd is
 serve_end gives shown serves Refuses (Migrate word) config path ready p old new ending is end = absurd is
 serve_end gives shown serves Refuses (Script word) config path ready p old new ending is end = absurd is
-serve_end gives shown serves Refuses (Plan word stated json) config path ready p old new ending is end = absurd is
+serve_end gives shown serves Refuses (Plan word stated json share_by) config path ready p old new ending is end = absurd is
 serve_end gives shown serves Refuses (Top status once rows) config path ready p old new ending is end = absurd is
 serve_end gives shown serves Refuses Usage config path ready p old new ending is end = absurd is
 
 pub plan_end : (gives : List ℕ → Octets) (shown : Shown) (serves : Service) (Refuses : List ℕ → Type 0) (words : Words) (config transfers : List ℕ) (as_json : Bool) (old new : Option (List ℕ)) (ending : FtpdExit)
     → IsPlanWords config transfers as_json words → IsCommandEnd gives shown serves Refuses words old new ending → IsPlanEnd as_json shown (gives config) transfers Refuses old new ending
-plan_end gives shown serves Refuses (Plan path stated json) config transfers as_json old new ending is end =
-    let first = subst (λ (p : List ℕ). IsPrintEnd (plan_print json stated) shown (gives p) Refuses old new ending) is.0 end in
-    (stated, is.1, subst (λ (b : Bool). IsPrintEnd (plan_print b stated) shown (gives config) Refuses old new ending) is.2 first)
+plan_end gives shown serves Refuses (Plan path stated json share_by) config transfers as_json old new ending is end =
+    let first = subst (λ (p : List ℕ). IsPrintEnd (plan_print json stated share_by) shown (gives p) Refuses old new ending) is.0 end in
+    let second = subst (λ (b : Bool). IsPrintEnd (plan_print b stated share_by) shown (gives config) Refuses old new ending) is.2 first in
+    (stated, is.1, subst (λ (by : ShareBy). IsPrintEnd (plan_print as_json stated by) shown (gives config) Refuses old new ending) is.3 second)
 plan_end gives shown serves Refuses (Sheet words) config transfers as_json old new ending is end = absurd is
 plan_end gives shown serves Refuses (CheckConfig path json against running) config transfers as_json old new ending is end = absurd is
 plan_end gives shown serves Refuses (Migrate path) config transfers as_json old new ending is end = absurd is
@@ -191,7 +187,7 @@ top_end gives shown serves Refuses (CheckConfig word json against running) path 
 top_end gives shown serves Refuses (Migrate word) path only_once lines old new ending is end = absurd is
 top_end gives shown serves Refuses (Script word) path only_once lines old new ending is end = absurd is
 top_end gives shown serves Refuses (Serve word files patience) path only_once lines old new ending is end = absurd is
-top_end gives shown serves Refuses (Plan word stated json) path only_once lines old new ending is end = absurd is
+top_end gives shown serves Refuses (Plan word stated json share_by) path only_once lines old new ending is end = absurd is
 top_end gives shown serves Refuses Usage path only_once lines old new ending is end = absurd is
 
 pub unserved : (text before after old new : Option (List ℕ)) (fault : ScriptFault) (why : SessionFault)

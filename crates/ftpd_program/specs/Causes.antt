@@ -129,7 +129,7 @@ IsCommandWhy gives refused fails refuses breaks (Script config) ending =
     IsScriptWhy gives refused fails breaks config.now ending
 IsCommandWhy gives refused fails refuses breaks (Serve config files patience) ending =
     IsReadWhy config.now (refused config.now ⊎ fails config.now) ending
-IsCommandWhy gives refused fails refuses breaks (Plan config transfers json) ending =
+IsCommandWhy gives refused fails refuses breaks (Plan config transfers json share_by) ending =
     IsReadWhy config.now (refused config.now ⊎ fails config.now) ending
 IsCommandWhy gives refused fails refuses breaks (Top status once rows) ending =
     IsReadWhy status.now (refused status.now ⊎ fails status.now) ending
@@ -147,7 +147,7 @@ AreCommandOpened opens old new refused (Script config) ending =
     AreScriptOpened opens old new refused config.now ending
 AreCommandOpened opens old new refused (Serve config files patience) ending =
     opens old config.now new
-AreCommandOpened opens old new refused (Plan config transfers json) ending =
+AreCommandOpened opens old new refused (Plan config transfers json share_by) ending =
     opens old config.now new
 AreCommandOpened opens old new refused (Top status once rows) ending = opens old status.now new
 AreCommandOpened opens old new refused Usage ending = new ≡ old

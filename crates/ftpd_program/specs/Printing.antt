@@ -25,8 +25,8 @@ abbrev pub IsPrintOf : Print → Shown → List ℕ → List ℕ → Type 0
 IsPrintOf (Report path) shown text printed = IsReportOf shown path.now text printed
 IsPrintOf (ReportJson path) shown text printed = IsReportJson shown path.now text printed
 IsPrintOf Latest shown text printed = IsMigrated text printed
-IsPrintOf (Plan transfers) shown text printed = IsPlanReport text
-IsPrintOf (PlanJson transfers) shown text printed = IsPlanJson text printed
+IsPrintOf (Plan transfers by) shown text printed = IsPlanReport by text
+IsPrintOf (PlanJson transfers by) shown text printed = IsPlanJson by text printed
 IsPrintOf (Table rows) shown text printed = IsTableOf rows text printed
 
 -- the text is refused for that fault; or, in version 2, it has no print that is read back
@@ -34,14 +34,14 @@ abbrev pub IsUnprinted : Print → List ℕ → ConfigFault → Type 0
 IsUnprinted (Report path) text fault = IsFaultOfText text fault
 IsUnprinted (ReportJson path) text fault = IsFaultOfText text fault
 IsUnprinted Latest text fault = IsUnmigrated text fault
-IsUnprinted (Plan transfers) text fault = IsFaultOfText text fault
-IsUnprinted (PlanJson transfers) text fault = IsFaultOfText text fault
+IsUnprinted (Plan transfers by) text fault = IsFaultOfText text fault
+IsUnprinted (PlanJson transfers by) text fault = IsFaultOfText text fault
 IsUnprinted (Table rows) text fault = ⊥
 
 -- the text is the plan of transfers
 abbrev pub IsOfPlan : Print → Type 0
-IsOfPlan (Plan transfers) = Unit {0}
-IsOfPlan (PlanJson transfers) = Unit {0}
+IsOfPlan (Plan transfers by) = Unit {0}
+IsOfPlan (PlanJson transfers by) = Unit {0}
 IsOfPlan print = ⊥
 
 -- the text is the table of a status

@@ -4,6 +4,8 @@
 use Rattle.std.specs.Borrow.{Bor}
 use Rattle.std.specs.Prelude.{◌≡◌, ℕ, Bool, List, Option, Some, None, false, if◌then◌else◌, option_map, true}
 use Rattle.command_line.specs.declared.words.Words.{Words}
+use Rattle.line_rates.specs.declared.share_by.ShareBy.{ShareBy}
+use Rattle.line_rates.specs.declared.share_by.ShareBy.TheVariants as share
 use Rattle.command_line.specs.declared.words.Words.TheVariants.{Sheet, CheckConfig, Migrate, Script, Serve, Plan, Top, Usage}
 use Rattle.config_report.specs.Looks.{Shown}
 use Rattle.sheets_program.specs.Endings.{IsNoLine}
@@ -51,16 +53,16 @@ IsReportEnd json shown gives config Refuses old new ending =
     × IsPrintEnd (report_print json path) shown gives Refuses old new ending
 
 -- the plan of the transfers that a word states, as JSON or in lines
-abbrev pub plan_print : Bool → Bor (List ℕ) → Print
-plan_print false transfers = PlanOf transfers
-plan_print true transfers = PlanJson transfers
+abbrev pub plan_print : Bool → Bor (List ℕ) → ShareBy → Print
+plan_print false transfers by = PlanOf transfers by
+plan_print true transfers by = PlanJson transfers by
 
--- the ending of `plan` for the text of those transfers
+-- the ending of `plan` for the text of those transfers, of a line that is shared among its sessions
 abbrev pub IsPlanEnd : Bool → Shown → Octets → List ℕ → (List ℕ → Type 0) → Option (List ℕ)
     → Option (List ℕ) → FtpdExit → Type 0
 IsPlanEnd json shown gives transfers Refuses old new ending =
     (stated : Bor (List ℕ)) × (stated.now ≡ transfers)
-    × IsPrintEnd (plan_print json stated) shown gives Refuses old new ending
+    × IsPrintEnd (plan_print json stated share.Sessions) shown gives Refuses old new ending
 
 -- the ending of `top` after that of its first table: it goes on, unless once is enough
 abbrev pub after_table : Bool → Bor (List ℕ) → ℕ → FtpdExit → FtpdExit
@@ -129,8 +131,8 @@ IsCommandEnd gives shown serves Refuses (Serve config files patience) old new en
     IsServeEnd (gives config.now) shown config.now serves
     (option_map (λ w. w.now) files.stop_file) (option_map (λ w. w.now) files.ready_file) patience
     old new ending
-IsCommandEnd gives shown serves Refuses (Plan config transfers json) old new ending =
-    IsPrintEnd (plan_print json transfers) shown (gives config.now) Refuses old new ending
+IsCommandEnd gives shown serves Refuses (Plan config transfers json share_by) old new ending =
+    IsPrintEnd (plan_print json transfers share_by) shown (gives config.now) Refuses old new ending
 IsCommandEnd gives shown serves Refuses (Top status once rows) old new ending =
     IsTopEnd once status.now rows
     (IsPrintEnd (Table rows) shown (gives status.now) Refuses old new) ending

@@ -28,7 +28,7 @@ mod start;
 mod watching;
 
 pub use against::RUNNING_FILE;
-pub use command_line::{Patience, ServeFiles, UsageWords, read_usage_words};
+pub use command_line::{Patience, ServeFiles, ShareBy, UsageWords, read_usage_words};
 pub use config_report::{Lookout, Sight};
 pub use drain_limit::is_for_nothing;
 pub use ending::{FtpdErrorText, FtpdExit};

@@ -6,6 +6,7 @@ ghost use Rattle.ftpd_program.specs.Printing.{AppendsPrint, IsPlanRefusal, IsPri
 ghost use Rattle.ftpd_program.specs.Watching.{IsTableOf};
 ghost use Rattle.plan_report.specs.Reports.{IsNoPlan, IsPlanJson, IsPlanReport};
 
+use command_line::ShareBy;
 use config_report::{Lookout, report, report_json};
 use plan_report::{NoPlan, plan_json, plan_lines};
 use server_config::{ConfigFault, migrate};
@@ -23,10 +24,10 @@ pub enum Print<'w> {
     ReportJson(&'w str),
     /// Its text in version 2.
     Latest,
-    /// The plan of the transfers that a word states, in lines.
-    Plan(&'w str),
+    /// The plan of the transfers that a word states, in lines, of a line that is shared among these.
+    Plan(&'w str, ShareBy),
     /// The same plan as JSON.
-    PlanJson(&'w str),
+    PlanJson(&'w str, ShareBy),
     /// The table of the transfers of a status, in at most this number of lines.
     Table(u16),
 }
@@ -58,22 +59,32 @@ fn unplanned(fault: NoPlan) -> PrintFault
 }
 
 /// Returns the plan of transfers by the configuration of these octets, in lines.
-fn plan_about(alloc: Global, transfers: &str, octets: &[u8]) -> Result<String, PrintFault>
-    ensures prints { IfOk result (λ _. IsPlanReport octets.now) }
+fn plan_about(
+    alloc: Global,
+    transfers: &str,
+    share_by: ShareBy,
+    octets: &[u8],
+) -> Result<String, PrintFault>
+    ensures prints { IfOk result (λ _. IsPlanReport share_by octets.now) }
     ensures refused { IfErr result (IsPlanRefusal octets.now) }
 {
-    match plan_lines(alloc, octets, transfers) {
+    match plan_lines(alloc, octets, share_by, transfers) {
         Ok(text) => Ok(text),
         Err(fault) => Err(unplanned(fault)),
     }
 }
 
 /// Returns the same plan as JSON.
-fn plan_json_about(alloc: Global, transfers: &str, octets: &[u8]) -> Result<String, PrintFault>
-    ensures prints { IfOk result (λ text. IsPlanJson octets.now (string_bytes text)) }
+fn plan_json_about(
+    alloc: Global,
+    transfers: &str,
+    share_by: ShareBy,
+    octets: &[u8],
+) -> Result<String, PrintFault>
+    ensures prints { IfOk result (λ text. IsPlanJson share_by octets.now (string_bytes text)) }
     ensures refused { IfErr result (IsPlanRefusal octets.now) }
 {
-    match plan_json(alloc, octets, transfers) {
+    match plan_json(alloc, octets, share_by, transfers) {
         Ok(text) => Ok(text),
         Err(fault) => Err(unplanned(fault)),
     }
@@ -114,8 +125,8 @@ fn text_about<L: Lookout>(
         Print::Report(path) => report(alloc, path, octets, lookout),
         Print::ReportJson(path) => report_json(alloc, path, octets, lookout),
         Print::Latest => migrate(alloc, octets),
-        Print::Plan(transfers) => return plan_about(alloc, transfers, octets),
-        Print::PlanJson(transfers) => return plan_json_about(alloc, transfers, octets),
+        Print::Plan(transfers, by) => return plan_about(alloc, transfers, by, octets),
+        Print::PlanJson(transfers, by) => return plan_json_about(alloc, transfers, by, octets),
         Print::Table(rows) => return table_about(alloc, rows, octets),
     };
     match text {

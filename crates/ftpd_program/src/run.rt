@@ -26,7 +26,7 @@ use super::printing::{Print, PrintFault, run_print};
 use super::scripting::{ScriptFault, run_script};
 use super::server::Server;
 use super::serving::serve;
-use command_line::{Words, read_words};
+use command_line::{ShareBy, Words, read_words};
 use config_report::Lookout;
 use sheets_program::{
     Exit as Common, Opener, STANDARD_INPUT, is_input, report, run_sheet_words, text_cause,
@@ -92,13 +92,13 @@ fn report_print(path: &str, json: bool) -> Print<'_>
 }
 
 /// The plan of transfers, as JSON or in lines.
-fn plan_print(transfers: &str, json: bool) -> Print<'_>
-    ensures print { result ≡ plan_print json transfers.entry }
+fn plan_print(transfers: &str, json: bool, share_by: ShareBy) -> Print<'_>
+    ensures print { result ≡ plan_print json transfers.entry share_by }
 {
     if json {
-        Print::PlanJson(transfers)
+        Print::PlanJson(transfers, share_by)
     } else {
-        Print::Plan(transfers)
+        Print::Plan(transfers, share_by)
     }
 }
 
@@ -258,7 +258,11 @@ fn run_command<'w, O: Opener + Lookout, W: TextWriter, V: Server<W>>(
             config,
             transfers,
             json,
-        } => print_text(alloc, plan_print(transfers, json), config, files, output),
+            share_by,
+        } => {
+            let print = plan_print(transfers, json, share_by);
+            print_text(alloc, print, config, files, output)
+        }
         Words::Serve {
             config,
             files: signs,
@@ -282,15 +286,15 @@ pub fn run_words<'w, O: Opener + Lookout, W: TextWriter, V: Server<W>>(
 ) -> FtpdExit<'w>
     ensures share { (sheet : List ℕ) → IsPlainWord sheet
         → map (λ s. s.now) words.now ≡ codes "share" ∷ sheet ∷ []
-        → IsCommon (IsShareEnd (O.Gives files.old) false sheet
+        → IsCommon (IsShareEnd (O.Gives files.old) None false sheet
         (W.contents output.old) (W.contents output.new)) result }
     ensures share_svg { (sheet : List ℕ) → IsPlainWord sheet
         → map (λ s. s.now) words.now ≡ codes "share" ∷ sheet ∷ codes "--svg" ∷ []
-        → IsCommon (IsShareEnd (O.Gives files.old) true sheet
+        → IsCommon (IsShareEnd (O.Gives files.old) None true sheet
         (W.contents output.old) (W.contents output.new)) result }
     ensures check { (sheet grants : List ℕ) → IsPlainWord sheet → IsPlainWord grants
         → map (λ s. s.now) words.now ≡ codes "check" ∷ sheet ∷ grants ∷ []
-        → IsCommon (IsCheckEnd (O.Gives files.old) sheet grants
+        → IsCommon (IsCheckEnd (O.Gives files.old) None sheet grants
         (W.contents output.old) (W.contents output.new)) result }
     ensures check_config { (config : List ℕ) → IsPlainWord config
         → map (λ s. s.now) words.now ≡ codes "check-config" ∷ config ∷ []

@@ -1,9 +1,9 @@
 -- If some certificate backs grants among users, so does that of the deepest full branches.
-use Rattle.std.proofs.Common.{◌≡◌, ℕ, ◌+◌, ◌<◌, ◌≤◌, List, length, refl, sym, ap, subst, ◌∙◌, arith, ◌⊎◌, inl, inr, Option, Some, None}
+use Rattle.std.proofs.Common.{◌≡◌, ℕ, ◌<◌, List, length, arith, ◌⊎◌, inl, inr, Option, Some, None}
 use Rattle.std.specs.Prelude.{IsTrue, slice_get, slice_index}
-use Rattle.limit_tree.specs.Sharing.{Branch, LimitTree, IsBranch, IsInside, IsNested, IsFull, IsUnmet, IsFullAbove, IsDeepestFull}
+use Rattle.limit_tree.specs.Sharing.{Branch, LimitTree, IsBranch, IsInside, IsFull, IsUnmet, IsDeepestFull}
 use Rattle.limit_tree.specs.Laws.{LaterIsInside}
-use Rattle.grant_certificate.specs.Users.{leaves_of, HasUsers, IsBackedByUsers, IsInnerNeck, IsOuterNeck}
+use Rattle.grant_certificate.specs.Users.{HasUsers, IsBackedByUsers, IsInnerNeck, IsOuterNeck}
 use Rattle.grant_certificate.specs.TwoStages.{AreDeepestEntries}
 use Rattle.grant_certificate.proofs.UserSums.{own_leaf}
 

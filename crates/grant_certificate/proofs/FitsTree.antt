@@ -1,5 +1,5 @@
 -- Sums of grants and floors of a tree.
-use Rattle.std.proofs.Common.{◌≡◌, ℕ, ◌<◌, ◌≤◌, ◌^◌, List, length, arith, sum}
+use Rattle.std.proofs.Common.{ℕ, ◌<◌, ◌^◌, List, arith, sum}
 use Rattle.limit_tree.specs.Sharing.{LimitTree, IsLimitTree, IsWithin}
 use Rattle.limit_tree.proofs.Sums.{sum-wanted}
 

@@ -1,9 +1,8 @@
 -- A full branch whose range holds a leaf back is its bottleneck.
-use Rattle.std.proofs.Common.{◌≡◌, ℕ, ◌+◌, ◌<◌, ◌≤◌, Bool, true, false, List, length, refl, sym, ap, ◌∙◌, subst, arith, ◌⊎◌, inl, inr, Option, Some, None}
+use Rattle.std.proofs.Common.{◌≡◌, ℕ, ◌+◌, ◌<◌, ◌≤◌, true, false, List, length, refl, sym, ap, ◌∙◌, subst, arith, ◌⊎◌, inl, inr, Option, Some}
 use Rattle.std.specs.Prelude.{IsTrue, slice_get, slice_index}
 use Rattle.std.specs.Option.{option_and_then}
-use Rattle.std.proofs.lemmas.Bool.{cases_Bool, cases_eq, cases_lt}
-use Rattle.limit_tree.proofs.Hops.{same-node}
+use Rattle.std.proofs.lemmas.Bool.{cases_Bool, cases_eq}
 use Rattle.limit_tree.specs.Sharing.{Branch, HasNestedBranches, IsFull, IsInside, IsNotTooGreat}
 use Rattle.limit_tree.specs.Outline.{branch_of, leaf_range, limits, IsFullPlace}
 use Rattle.limit_tree.specs.declared.place.Place.{Place}

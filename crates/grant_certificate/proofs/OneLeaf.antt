@@ -1,8 +1,7 @@
 -- If each leaf is a user of its own, best by users means best.
-use Rattle.std.proofs.Common.{◌≡◌, ℕ, zero, suc, ◌+◌, ◌<◌, ◌≤◌, Bool, true, false, List, [], ◌∷◌, length, refl, sym, ap, subst, ◌∙◌, arith, ◌↔◌, inl, inr}
+use Rattle.std.proofs.Common.{◌≡◌, ℕ, ◌<◌, Bool, true, false, List, [], ◌∷◌, length, refl, sym, ap, subst, ◌∙◌, arith, ◌↔◌}
 use Rattle.std.specs.Prelude.{if◌then◌else◌, IsTrue, slice_index}
-use Rattle.std.proofs.lemmas.Bool.{cases_eq}
-use Rattle.limit_tree.specs.Sharing.{LimitTree, IsWithin, IsBest, IsAscending, IsGreater, sum_below}
+use Rattle.limit_tree.specs.Sharing.{LimitTree, IsBest, IsAscending}
 use Rattle.grant_certificate.specs.Users.{tabulate, leaves_of, total_of, totals, IsBestByUsers}
 use Rattle.grant_certificate.proofs.UserSums.{length-tabulate, index-tabulate, same-tabulate, sum_single, own_leaf, leaf_inside, leaf_owner}
 

@@ -1,16 +1,15 @@
 -- Two stages give grants that are backed among users.
-use Rattle.std.proofs.Common.{◌≡◌, ℕ, zero, suc, ◌+◌, ◌<◌, ◌≤◌, Bool, true, false, not, ◌&&◌, ◌||◌, List, length, set, refl, sym, ap, subst, ◌∙◌, arith, ◌⊎◌, inl, inr, Option, Some, None, get_or-set_other, get_or-set_same}
+use Rattle.std.proofs.Common.{◌≡◌, ℕ, zero, suc, ◌+◌, ◌<◌, ◌≤◌, Bool, true, false, not, ◌||◌, List, length, set, refl, sym, ap, subst, ◌∙◌, arith, ◌⊎◌, inl, inr, Option, Some, None, get_or-set_other, get_or-set_same}
 use Rattle.std.specs.Prelude.{if◌then◌else◌, IsTrue, slice_get, slice_index}
 use Rattle.std.specs.Option.{option_and_then}
 use Rattle.std.proofs.Math.ListN.{length-set}
 use Rattle.std.proofs.lemmas.Bool.{cases_eq, cases_lt, cases_Bool, false≢true}
-use Rattle.limit_tree.specs.Sharing.{LeafSet, Branch, LimitTree, HasNestedBranches, IsBranch, IsInside, IsNested, IsWithin, IsFull, IsUnmet, IsBackedBy, IsBottleneck, IsNotTooGreat, IsFullAbove, IsDeepestFull, sum_below, sum_over}
-use Rattle.limit_tree.specs.Laws.{LaterIsInside}
-use Rattle.limit_tree.proofs.Sums.{sum_below-same, sum_below-le, sum_below-lt, sum_below-change, sum_in, sum_in-same, sum_in-none, sum_over-set_inside, sum_over-set_outside}
-use Rattle.grant_certificate.specs.Users.{tabulate, leaves_of, total_of, totals, HasUsers, IsBackedByUsers, IsInnerNeck, IsOuterNeck, IsNotTooRich}
-use Rattle.grant_certificate.specs.TwoStages.{IsWithinSet, IsMost, IsContraction, IsOuterOf, IsUserBranch, IsTightOf, IsTwoStage, IsFoundByUsers}
-use Rattle.grant_certificate.proofs.UserSums.{length-tabulate, get-tabulate, own_leaf, leaf_inside, leaf_owner, grouped, over_in, all_below, all-at, all-from, implies, implied}
-use Rattle.grant_certificate.proofs.UserTotals.{FullWithin, IsSatisfied, satisfied-most, satisfied-more, bool_same}
+use Rattle.limit_tree.specs.Sharing.{LeafSet, Branch, LimitTree, HasNestedBranches, IsBranch, IsInside, IsWithin, IsFull, IsUnmet, IsNotTooGreat, IsFullAbove, IsDeepestFull, sum_over}
+use Rattle.limit_tree.proofs.Sums.{sum_below-same, sum_below-lt, sum_in, sum_in-same, sum_in-none, sum_over-set_inside, sum_over-set_outside}
+use Rattle.grant_certificate.specs.Users.{tabulate, leaves_of, total_of, HasUsers, IsInnerNeck, IsOuterNeck, IsNotTooRich}
+use Rattle.grant_certificate.specs.TwoStages.{IsWithinSet, IsContraction, IsOuterOf, IsUserBranch, IsTightOf, IsTwoStage, IsFoundByUsers}
+use Rattle.grant_certificate.proofs.UserSums.{length-tabulate, get-tabulate, own_leaf, leaf_owner, grouped, over_in, all_below, all-at, all-from, implies, implied}
+use Rattle.grant_certificate.proofs.UserTotals.{FullWithin, IsSatisfied, satisfied-most, bool_same}
 
 some_branch : (x y : Branch) → Some x ≡ Some y → x ≡ y
 some_branch x y e = cc

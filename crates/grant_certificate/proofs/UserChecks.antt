@@ -1,9 +1,9 @@
 -- What the checks of grants among users tell.
-use Rattle.std.proofs.Common.{◌≡◌, ℕ, ◌+◌, ◌<◌, ◌≤◌, Bool, true, false, List, length, refl, sym, ap, ◌∙◌, subst, arith, ◌⊎◌, inl, inr, Option, Some}
-use Rattle.std.specs.Prelude.{◌↔◌, IsTrue, slice_get, slice_index}
+use Rattle.std.proofs.Common.{◌≡◌, ℕ, ◌+◌, ◌<◌, ◌≤◌, Bool, true, false, List, length, refl, sym, ◌∙◌, arith, ◌⊎◌, inl, inr, Option}
+use Rattle.std.specs.Prelude.{◌↔◌, IsTrue, slice_index}
 use Rattle.std.specs.Bool.{MatchBool}
-use Rattle.std.proofs.lemmas.Bool.{cases_lt, false≢true}
-use Rattle.limit_tree.specs.Sharing.{LimitTree, IsUnmet, IsWithin, sum_over}
+use Rattle.std.proofs.lemmas.Bool.{false≢true}
+use Rattle.limit_tree.specs.Sharing.{LimitTree, IsUnmet, IsWithin}
 use Rattle.limit_tree.specs.Outline.{leaf_range}
 use Rattle.limit_tree.proofs.Nested.{in_range}
 use Rattle.limit_tree.proofs.RangeSums.{leaf_range-inside}

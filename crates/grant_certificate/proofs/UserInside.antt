@@ -1,12 +1,12 @@
 -- Grants that are backed among users are best by users.
-use Rattle.std.proofs.Common.{◌≡◌, ℕ, zero, suc, ◌+◌, ◌-◌, ◌<◌, ◌≤◌, Bool, true, false, cond, List, length, refl, sym, ap, subst, ◌∙◌, arith, ◌⊎◌, inl, inr, Option, Some, None}
-use Rattle.std.specs.Prelude.{if◌then◌else◌, IsTrue, nat_lt, slice_get, slice_index}
-use Rattle.std.proofs.lemmas.Bool.{cases_eq, cases_lt, cases_Bool, ltb-true, ltb-false, lt-ltb, le-ltb}
-use Rattle.limit_tree.specs.Sharing.{LeafSet, Branch, LimitTree, HasNestedBranches, IsBranch, IsInside, IsNested, IsWithin, IsFull, IsUnmet, IsBackedBy, IsBottleneck, IsBest, sum_over}
+use Rattle.std.proofs.Common.{◌≡◌, ℕ, ◌+◌, ◌-◌, ◌<◌, Bool, true, false, List, length, refl, sym, ap, subst, ◌∙◌, arith, ◌⊎◌, inl, inr, Option, Some, None}
+use Rattle.std.specs.Prelude.{if◌then◌else◌, IsTrue, nat_lt, slice_index}
+use Rattle.std.proofs.lemmas.Bool.{cases_eq, cases_lt, ltb-true, lt-ltb, le-ltb}
+use Rattle.limit_tree.specs.Sharing.{LeafSet, Branch, LimitTree, HasNestedBranches, IsBranch, IsNested, IsWithin, IsUnmet, IsBottleneck, IsBest, sum_over}
 use Rattle.grant_certificate.specs.Users.{tabulate, leaves_of, total_of, totals, HasUsers, IsBackedByUsers, IsBestByUsers}
 use Rattle.grant_certificate.proofs.Order.{backed-best}
 use Rattle.grant_certificate.proofs.UserSums.{length-tabulate, get-tabulate, index-tabulate, own_leaf, leaf_inside, leaf_owner, over_in}
-use Rattle.grant_certificate.proofs.UserTotals.{IsOuter, outer-tree}
+use Rattle.grant_certificate.proofs.UserTotals.{outer-tree}
 
 -- the leaves of a user, limited to what they have
 abbrev user_branch : List ℕ → List ℕ → ℕ → Branch

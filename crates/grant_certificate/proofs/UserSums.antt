@@ -1,10 +1,10 @@
 -- Sums over users of sums over their leaves.
-use Rattle.std.proofs.Common.{◌≡◌, ℕ, zero, suc, ◌+◌, ◌<◌, ◌≤◌, Bool, true, false, not, ◌&&◌, ◌||◌, List, length, refl, sym, ap, subst, ◌∙◌, arith, inl, inr, Option, Some}
+use Rattle.std.proofs.Common.{◌≡◌, ℕ, zero, suc, ◌<◌, Bool, true, false, not, ◌&&◌, ◌||◌, List, length, refl, sym, ap, subst, ◌∙◌, arith, inl, inr, Some}
 use Rattle.std.specs.Prelude.{if◌then◌else◌, IsTrue, slice_get, slice_index}
-use Rattle.std.proofs.lemmas.Bool.{cases_eq, cases_lt, cases_Bool, and_parts, and_from, and_cases, or_cases, or_left, or_right, not_from_true, not_from_false, not-true, ltb-true, lt-ltb, eqb-true, eq-eqb, ne_eqb, false≢true}
+use Rattle.std.proofs.lemmas.Bool.{cases_eq, cases_Bool, and_parts, and_from, or_cases, or_left, or_right, ltb-true, lt-ltb, eqb-true, eq-eqb, false≢true}
 use Rattle.limit_tree.specs.Sharing.{LeafSet, Branch, IsInside, sum_below, sum_over}
-use Rattle.limit_tree.proofs.Sums.{sum_below-le, sum_below-same, sum_below-zero, sum_below-add, sum_below-change, sum_in, sum_in-le, sum_in-same}
-use Rattle.grant_certificate.specs.Users.{tabulate, leaves_of, total_of, totals}
+use Rattle.limit_tree.proofs.Sums.{sum_below-same, sum_below-zero, sum_below-add, sum_below-change, sum_in}
+use Rattle.grant_certificate.specs.Users.{tabulate, leaves_of}
 
 pub length-tabulate : {X : Type 0} (n : ℕ) (f : ℕ → X) → length (tabulate n f) ≡ n
 length-tabulate zero f = refl

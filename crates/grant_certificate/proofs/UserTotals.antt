@@ -3,12 +3,12 @@ use Rattle.std.proofs.Common.{◌≡◌, ℕ, zero, suc, ◌+◌, ◌<◌, ◌�
 use Rattle.std.specs.Prelude.{if◌then◌else◌, IsTrue, slice_get, slice_index}
 use Rattle.std.specs.Option.{option_map}
 use Rattle.std.specs.List.{AllByRecursion}
-use Rattle.std.proofs.lemmas.Bool.{cases_eq, cases_lt, cases_Bool, and_parts, and_from, or_cases, or_left, or_right, or_parts, not_from_false, not-true, false≢true}
+use Rattle.std.proofs.lemmas.Bool.{cases_eq, cases_lt, cases_Bool, and_parts, or_cases, or_left, or_right, not-true, false≢true}
 use Rattle.std.proofs.lemmas.List.Sums.{get_or-le-sum_by}
-use Rattle.limit_tree.specs.Sharing.{LeafSet, Branch, LimitTree, HasNestedBranches, IsBranch, IsInside, IsNested, IsWithin, IsFull, IsUnmet, IsBackedBy, IsBottleneck, IsNotTooGreat, sum_below, sum_over}
+use Rattle.limit_tree.specs.Sharing.{LeafSet, Branch, LimitTree, HasNestedBranches, IsBranch, IsInside, IsNested, IsWithin, IsFull, IsUnmet, IsBackedBy, IsBottleneck, sum_over}
 use Rattle.limit_tree.proofs.Sums.{sum_below-le, sum_below-same, sum_in, sum_in-le, sum_in-same, sum_in-apart}
-use Rattle.grant_certificate.specs.Users.{tabulate, leaves_of, total_of, totals, HasUsers, IsBackedByUsers, IsInnerNeck, IsOuterNeck, IsNotTooRich}
-use Rattle.grant_certificate.proofs.Levels.{up_to, IsLow, IsLowAt, union, union_le, drop_inside, backed-largest}
+use Rattle.grant_certificate.specs.Users.{tabulate, leaves_of, total_of, totals, HasUsers, IsBackedByUsers, IsNotTooRich}
+use Rattle.grant_certificate.proofs.Levels.{up_to, IsLow, union, union_le, backed-largest}
 use Rattle.grant_certificate.proofs.UserSums.{length-tabulate, get-tabulate, index-tabulate, own_leaf, leaf_inside, leaf_owner, grouped, over_in, covers, covers-inside, covers-some, covers-from}
 
 -- a full branch over a leaf, within a set of leaves

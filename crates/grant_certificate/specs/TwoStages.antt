@@ -3,7 +3,7 @@
 use Rattle.std.specs.Prelude.{◌≡◌, ℕ, ◌<◌, ◌≤◌, ◌⊎◌, ◌↔◌, List, length, Option, Some, IsTrue, slice_index, slice_get}
 use Rattle.limit_tree.specs.Sharing.{LeafSet, Branch, LimitTree, HasNestedBranches, IsBranch, IsInside, IsWithin, IsUnmet, IsBackedBy, IsDeepestFull, sum_over}
 use Rattle.limit_tree.specs.Laws.{LaterIsInside}
-use Rattle.grant_certificate.specs.Users.{leaves_of, total_of, totals, HasUsers, IsBackedByUsers}
+use Rattle.grant_certificate.specs.Users.{leaves_of, total_of, HasUsers, IsBackedByUsers}
 
 -- Each leaf has at most its want and at least its floor, and each branch that lies within the set
 -- has at most its limit.

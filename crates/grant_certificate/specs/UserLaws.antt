@@ -1,5 +1,5 @@
 -- Laws of sharing among users.
-use Rattle.std.specs.Prelude.{◌≡◌, ℕ, ◌≤◌, ◌↔◌, Option, List, length, sum_by, min}
+use Rattle.std.specs.Prelude.{ℕ, ◌≤◌, ◌↔◌, Option, List, length, sum_by, min}
 use Rattle.limit_tree.specs.Sharing.{LimitTree, HasNestedBranches, IsWithin, IsBest}
 use Rattle.grant_certificate.specs.Users.{tabulate, totals, HasUsers, IsBestByUsers, IsBackedByUsers}
 

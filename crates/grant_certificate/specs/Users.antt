@@ -1,5 +1,5 @@
 -- Max-min fair sharing of whole octets among users, and then among the leaves of each user.
-use Rattle.std.specs.Prelude.{◌≡◌, ℕ, zero, suc, ◌+◌, ◌<◌, Bool, ◌&&◌, nat_eq, nat_lt, if◌then◌else◌, ◌⊎◌, List, [], ◌∷◌, length, Option, Some, IsTrue, slice_index, slice_get}
+use Rattle.std.specs.Prelude.{◌≡◌, ℕ, zero, suc, ◌+◌, ◌<◌, ◌&&◌, nat_eq, nat_lt, if◌then◌else◌, ◌⊎◌, List, [], ◌∷◌, length, Option, Some, IsTrue, slice_index, slice_get}
 use Rattle.limit_tree.specs.Sharing.{LeafSet, Branch, LimitTree, IsBranch, IsInside, IsNested, IsWithin, IsAscending, IsGreater, IsFull, IsUnmet, IsNotTooGreat, sum_below}
 
 -- f 0, f 1, .., f (n - 1)

@@ -2,8 +2,8 @@
 //! upwards, exceed.
 //!
 //! A [`Certificate`] has, for each leaf that got less than it wants, the number of the branch that limits it. [`check`]
-//! trusts nobody: it judges grants from any source in two walks, and returns the first [`Flaw`]. A [`Sealed`] is a tree
-//! with grants that passed the check.
+//! trusts nobody: it judges grants from any source in two walks, and returns the first [`Flaw`]. [`check_by_users`] judges
+//! whether no other grants are better among users. A [`Sealed`] is a tree with grants that passed one of the two.
 //!
 //! ```text
 //! let alloc = rt.alloc();
@@ -43,4 +43,4 @@ pub use laws::{
     plain_backed_is_largest_at_each_level, two_stages_are_backed, users_have_largest_at_each_level,
 };
 pub use leaves::Leaves;
-pub use sealed::{Refused, Sealed, seal};
+pub use sealed::{Refused, RefusedByUsers, Sealed, seal, seal_by_users};

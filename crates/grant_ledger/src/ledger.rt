@@ -3,7 +3,7 @@
 
 ghost use Rattle.std.specs.Prelude.{◌≡◌, ◌+◌, ◌-◌, ◌<◌, ◌≤◌, sum, length, slice_index_or, slice_set, IsSome, OnOk, OnErr, IfOk, MatchResult};
 ghost use Rattle.limit_tree.specs.Outline.{limits};
-ghost use Rattle.limit_tree.specs.Sharing.{IsBest};
+ghost use Rattle.grant_certificate.specs.Sealing.{IsBestFor};
 ghost use Rattle.grant_ledger.specs.Books.{nothing_undrawn, by_lane, AreLanes, capped};
 ghost use Rattle.grant_ledger.specs.Faults.{refusal};
 
@@ -198,7 +198,7 @@ impl<N> Book<N> {
         ensures last_tick { OnOk result (self.new.last_tick ≡ Some tick) }
         ensures undrawn { OnOk result (self.new.undrawn ≡ by_lane lanes.now sealed.now.grants) }
         ensures entry_tick { OnOk result (self.new.entry_tick ≡ Some tick) }
-        ensures best { IsBest (limits sealed.now.tree) sealed.now.grants }
+        ensures best { IsBestFor sealed.now.owners (limits sealed.now.tree) sealed.now.grants }
         ensures refusal { MatchResult result
             (λ _. refusal self.old (sum sealed.now.grants) tick ≡ None)
             (λ e. refusal self.old (sum sealed.now.grants) tick ≡ Some e) }
@@ -223,7 +223,7 @@ impl<N> Book<N> {
         ensures last_tick { OnOk result (self.new.last_tick ≡ Some tick) }
         ensures undrawn { self.new.undrawn ≡ self.old.undrawn }
         ensures entry_tick { self.new.entry_tick ≡ self.old.entry_tick }
-        ensures best { IsBest (limits sealed.now.tree) sealed.now.grants }
+        ensures best { IsBestFor sealed.now.owners (limits sealed.now.tree) sealed.now.grants }
         ensures refusal { MatchResult result
             (λ _. refusal self.old (sum sealed.now.grants) tick ≡ None)
             (λ e. refusal self.old (sum sealed.now.grants) tick ≡ Some e) }

@@ -1,13 +1,18 @@
 -- The names of the branches that hold leaves back.
 use Rattle.std.proofs.Common.{◌≡◌, ◌≤◌, ◌<◌, ◌+◌, ℕ, inl, inr, Bool, true, false, List, length, get_or, refl, ap, ◌∙◌, sym, subst, arith, Option, Some, None}
-use Rattle.std.specs.Prelude.{◌⊎◌, IsTrue, slice_get, slice_index}
+use Rattle.std.specs.Prelude.{◌⊎◌, IsTrue, nat_eq, nat_lt, slice_get, slice_index}
 use Rattle.std.specs.Option.{option_and_then}
-use Rattle.std.proofs.lemmas.Bool.{and_parts, cases_lt, eqb-true}
+use Rattle.std.proofs.lemmas.Bool.{and_from, and_parts, cases_lt, eq-eqb, eqb-true, lt-ltb}
 use Rattle.std.proofs.lemmas.List.{get_or-map, length-map}
 use Rattle.line_rates.specs.Names.{want_of}
 use Rattle.std.proofs.lemmas.Option.{slice_get-get_or, slice_get_past}
 use Rattle.limit_tree.specs.Outline.{branch_of, leaf_range, limits}
-use Rattle.limit_tree.specs.Sharing.{Branch, LimitTree, IsBackedBy, IsBottleneck, IsBranch, IsUnmet}
+use Rattle.limit_tree.specs.Sharing.{Branch, LimitTree, IsBranch, IsUnmet}
+use Rattle.fair_terms.specs.Fair.{IsBackedFair, IsFairNeck}
+use Rattle.fair_terms.specs.Owners.{AreOwners}
+use Rattle.grant_certificate.specs.Users.{IsInnerNeck, IsOuterNeck}
+use Rattle.line_rates.specs.declared.share_by.ShareBy.{ShareBy}
+use Rattle.line_rates.specs.declared.share_by.ShareBy.TheVariants as share
 use Rattle.limit_tree.specs.declared.place.NodeKind.TheVariants.{Branch as Split}
 use Rattle.limit_tree.specs.declared.place.Place.{Place}
 use Rattle.line_rates.specs.declared.ask.Ask.{Ask}
@@ -94,17 +99,37 @@ candidate_by r a (Session w u s) is =
 pub candidate : (r : Rates) (a : Ask) (n : Name) → IsTrue (bears r n a) → IsCandidate r a n
 candidate r a n is = candidate_by r a n is
 
--- the entry of an unmet leaf
-pub entry_bottleneck : (t : LimitTree) (g : List ℕ) (c : List (Option ℕ)) (leaf node : ℕ) → IsBackedBy t g c → leaf < length g → IsUnmet t g leaf → slice_get c leaf ≡ Some (Some node) → (b : Branch) × IsBranch t node b × IsBottleneck t b g leaf
-entry_bottleneck t g c leaf node backed less unmet is =
-    let found = backed.backed leaf less unmet in
+-- the entry of an unmet leaf is the number of a branch that holds it, and holds it back
+abbrev pub IsEntry : ShareBy → List Ask → LimitTree → List ℕ → List (Option ℕ) → ℕ → Type 0
+IsEntry by asks t g c i = (k : ℕ) × (b : Branch) × (slice_get c i ≡ Some (Some k)) × IsBranch t k b × IsTrue (b.holds i) × IsFairNeck by asks t b g i
+
+pub entries_each : (by : ShareBy) (asks : List Ask) (t : LimitTree) (g : List ℕ) (c : List (Option ℕ)) → IsBackedFair by asks t g c → length c ≡ length t.wants
+entries_each share.Sessions asks t g c backed = backed.leaves
+entries_each share.Users asks t g c backed = backed.3.leaves
+
+-- a bottleneck of a leaf of a user, or of the user, holds the leaf
+neck_holds : (asks : List Ask) (t : LimitTree) (b : Branch) (users : ℕ) (owners g : List ℕ) (i : ℕ) → AreOwners asks users owners → i < length asks → IsInnerNeck t owners b g i ⊎ IsOuterNeck t owners b g i → IsTrue (b.holds i)
+neck_holds asks t b users owners g i own less (inl inner) = inner.holds
+neck_holds asks t b users owners g i own less (inr outer) = outer.all i (and_from (nat_lt i (length owners)) (nat_eq (slice_index owners i) (slice_index owners i)) (lt-ltb i (length owners) (omega (arith, own.each))) (eq-eqb (slice_index owners i) (slice_index owners i) refl))
+
+entry_of : (by : ShareBy) (asks : List Ask) (t : LimitTree) (g : List ℕ) (c : List (Option ℕ)) (i : ℕ) → IsBackedFair by asks t g c → i < length asks → i < length g → IsUnmet t g i → IsEntry by asks t g c i
+entry_of share.Sessions asks t g c i backed within less unmet =
+    let found = backed.backed i less unmet in
+    (found.0, found.1, found.2, found.3, found.4.holds, found.4)
+entry_of share.Users asks t g c i backed within less unmet =
+    let found = backed.3.backed i less unmet in
+    (found.0, found.1, found.2, found.3, neck_holds asks t found.1 backed.0 backed.1 g i backed.2 within found.4, (backed.0, backed.1, backed.2, found.4))
+
+pub entry_neck : (by : ShareBy) (asks : List Ask) (t : LimitTree) (g : List ℕ) (c : List (Option ℕ)) (leaf node : ℕ) → IsBackedFair by asks t g c → leaf < length asks → leaf < length g → IsUnmet t g leaf → slice_get c leaf ≡ Some (Some node) → (b : Branch) × IsBranch t node b × IsTrue (b.holds leaf) × IsFairNeck by asks t b g leaf
+entry_neck by asks t g c leaf node backed within less unmet is =
+    let found = entry_of by asks t g c leaf backed within less unmet in
     let at = found.2 in
     let same : found.0 ≡ node = cc in
-    (found.1, subst (λ (k : ℕ). IsBranch t k found.1) same found.3, found.4)
+    (found.1, subst (λ (k : ℕ). IsBranch t k found.1) same found.3, found.4, found.5)
 
-pub entry_some : (t : LimitTree) (g : List ℕ) (c : List (Option ℕ)) (leaf : ℕ) → IsBackedBy t g c → leaf < length g → IsUnmet t g leaf → slice_get c leaf ≡ Some None → ⊥
-entry_some t g c leaf backed less unmet is =
-    let found = backed.backed leaf less unmet in
+pub entry_some : (by : ShareBy) (asks : List Ask) (t : LimitTree) (g : List ℕ) (c : List (Option ℕ)) (leaf : ℕ) → IsBackedFair by asks t g c → leaf < length asks → leaf < length g → IsUnmet t g leaf → slice_get c leaf ≡ Some None → ⊥
+entry_some by asks t g c leaf backed within less unmet is =
+    let found = entry_of by asks t g c leaf backed within less unmet in
     let at = found.2 in
     absurd (cc)
 

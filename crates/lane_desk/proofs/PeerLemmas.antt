@@ -20,7 +20,9 @@ use Rattle.line_rates.specs.Names.{bears, want_of, floor_of}
 use Rattle.line_rates.specs.Rates.{Rates, rate_of}
 use Rattle.line_rates.specs.Ticks.{rate_limit}
 use Rattle.line_rates.specs.TickTree.{Asker, ask_in, lane_in, IsTickTree, IsNamed, AreNamed, bears_in, bears_at, is_name, is_server, IsPlan}
-use Rattle.lane_desk.specs.Asked.{AreApart}
+use Rattle.fair_shares.specs.Asked.{AreApart}
+use Rattle.fair_terms.specs.Fair.{IsFair}
+use Rattle.line_rates.specs.declared.share_by.ShareBy.TheVariants as share
 use Rattle.lane_desk.specs.Turns.{turn_of}
 use Rattle.lane_desk.specs.Peers.{guarantee_of, HasRatesOf, ArePeers, ArePeersAt, turn_at, IsTurned}
 
@@ -163,6 +165,7 @@ flipped r asks g i j p = record {
   other = p.one;
   one_is = p.other_is;
   other_is = p.one_is;
+  sessions = p.sessions;
   peers = record {
     alike = swapped r asks p.one p.other p.peers.alike;
     one = p.peers.other;
@@ -293,20 +296,21 @@ in_turns r tick had handed t lanes o sorted k l a b lt at_k at_l alike =
     subst (λ n. n ≤ turn_at had lanes l) (sym turn_x) (subst (λ n. turn_of had (asker_in x) ≤ n) (sym turn_y) (subst (λ n. n ≤ turn_of had (asker_in y)) low (subst (λ n. turn_of had (get_or handed (number_in x) (asker_in d)) ≤ n) high up)))
 
 -- a round whose asks were handed over by turns
-pub turned : (r : Rates) (tick : ℕ) (had : List ℕ) (handed : List Asker) (t : LimitTree) (lanes : List ℕ) (asks : List Ask) (g : List ℕ) (o : IsOrderedPlan r tick handed t lanes) → asks ≡ map ask_in o.plan.order → AreApart handed → IsNonDecreasingBy (turn_of had) handed
-    → IsBest t g → GivesInOrder t g → EqualsAreNear → IsTurned had r lanes asks g
-turned r tick had handed t lanes asks g o is apart sorted best order near =
+pub turned : (r : Rates) (tick : ℕ) (had : List ℕ) (handed : List Asker) (t : LimitTree) (lanes : List ℕ) (asks : List Ask) (g : List ℕ) (o : IsOrderedPlan r tick handed t lanes) → asks ≡ map ask_in o.plan.order → AreApart handed → (r.share_by ≡ share.Sessions → IsNonDecreasingBy (turn_of had) handed)
+    → length lanes ≡ length g → IsFair r.share_by asks t g → (r.share_by ≡ share.Sessions → GivesInOrder t g) → EqualsAreNear → IsTurned had r lanes asks g
+turned r tick had handed t lanes asks g o is apart sorted each fair order near =
     let order_size : length lanes ≡ length o.plan.order = ap length o.plan.lanes_are ∙ length-map o.plan.order lane_in in
     let tree : IsTickTree r tick asks t = subst (λ xs. IsTickTree r tick xs t) (sym is) o.plan.tree in
+    let best : r.share_by ≡ share.Sessions → IsBest t g = λ sessions. subst (λ by. IsFair by asks t g) sessions fair in
     let later : (i j : ℕ) → ArePeersAt r asks g i j → i < j → turn_at had lanes i ≤ turn_at had lanes j = λ i j p lt.
-    in_turns r tick had handed t lanes o sorted i j p.one p.other lt (sym (ap (λ xs. slice_get xs i) is) ∙ p.one_is) (sym (ap (λ xs. slice_get xs j) is) ∙ p.other_is) (subst (λ xs. AreAlike r xs p.one p.other) is p.peers.alike) in
+    in_turns r tick had handed t lanes o (sorted p.sessions) i j p.one p.other lt (sym (ap (λ xs. slice_get xs i) is) ∙ p.one_is) (sym (ap (λ xs. slice_get xs j) is) ∙ p.other_is) (subst (λ xs. AreAlike r xs p.one p.other) is p.peers.alike) in
     record {
-      each = omega (arith, order_size, size r tick asks t g tree best, ap length is, length-map o.plan.order ask_in);
+      each = each;
       apart = λ i j in_i in_j same. lanes_apart o.plan.order (apart_moved handed o.plan.order o.plan.all apart) i j (omega (arith, order_size)) (omega (arith, order_size))
           (sym (ap (λ xs. slice_index xs i) o.plan.lanes_are) ∙ same ∙ ap (λ xs. slice_index xs j) o.plan.lanes_are);
-      near = λ i j p. peers_near r tick asks t g tree best near i j p;
+      near = λ i j p. peers_near r tick asks t g tree (best p.sessions) near i j p;
       first = λ i j p turns. elim (cases_lt i j) [
-        | inl lt ↦ lower_first r tick asks t g tree best order i j lt p
+        | inl lt ↦ lower_first r tick asks t g tree (best p.sessions) (order p.sessions) i j lt p
         | inr le ↦ elim (cases_eq i j) [
           | inl same ↦ (let e = ap (turn_at had lanes) same in absurd (omega arith))
           | inr other ↦ absurd (omega (arith, later j i (flipped r asks g i j p) (omega arith)))

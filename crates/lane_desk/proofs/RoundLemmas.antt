@@ -9,7 +9,7 @@ use Rattle.grant_ledger.specs.Books.{BookView}
 use Rattle.desk_rule.specs.declared.view.TraceView.{TraceView}
 use Rattle.desk_rule.specs.Lanes.{has_missed, has_collected, has_posted, posted_in}
 use Rattle.lane_desk.specs.declared.refusal.RoundRefusal.{RoundRefusal}
-use Rattle.lane_desk.specs.Asked.{IsAskedPlan}
+use Rattle.fair_shares.specs.Asked.{IsAskedPlan}
 use Rattle.lane_desk.specs.Refusals.{IsRefused}
 use Rattle.lane_desk.specs.Tried.{every, tried_by, tried, asks_from, mark_of, AreTried}
 use Rattle.lane_desk.specs.Posted.{trace_at, posted_all, AreDue, AllAnswered, nothing_for}

@@ -3,6 +3,7 @@ use Rattle.std.specs.Prelude.{◌≡◌, ℕ, ◌+◌, ◌*◌, ◌<◌, ◌≤�
 use Rattle.std.specs.FinMap as finite
 use Rattle.line_rates.specs.declared.ask.Ask.{Ask}
 use Rattle.line_rates.specs.declared.ask.Name.{Name}
+use Rattle.line_rates.specs.declared.share_by.ShareBy.TheVariants as share
 use Rattle.line_rates.specs.Alike.{AreAlike}
 use Rattle.line_rates.specs.Names.{bears}
 use Rattle.line_rates.specs.Rates.{Rates, rate_of, floor_rate}
@@ -24,8 +25,10 @@ pub record ArePeers (rates : Rates) (asks : List Ask) (a b : Ask) : Type 0 where
   pub other : HasRatesOf rates b a
   pub guarantees : guarantee_of rates a ≡ guarantee_of rates b
 
--- leaves i and j have the asks of peers, and both are granted less than they want
+-- leaves i and j have the asks of peers, and both are granted less than they want; the line is
+-- shared among its sessions
 pub record ArePeersAt (rates : Rates) (asks : List Ask) (grants : List ℕ) (i j : ℕ) : Type 0 where
+  pub sessions : rates.share_by ≡ share.Sessions
   pub one : Ask
   pub other : Ask
   pub one_is : slice_get asks i ≡ Some one

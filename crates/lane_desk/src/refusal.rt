@@ -4,8 +4,8 @@ use limit_tree::TreeFault;
 use std::alloc::AllocError;
 use thiserror::Error;
 
-/// The reason for which a round is refused: the first of these that applies, in the order `NotYet`, `Plan`, `Memory`,
-/// `BookFull`.
+/// The reason for which a round is refused: the first of these that applies, in the order `NotYet`, `Plan`, `Memory` or
+/// `Unshared`, `BookFull`.
 #[derive(Clone, Copy, Debug, PartialEq, Eq, Error)]
 pub enum RoundRefusal {
     /// The tick is not above that of the book's last entry, which the variant contains.
@@ -17,6 +17,9 @@ pub enum RoundRefusal {
     /// The limit tree of the tick has a fault.
     #[error("the limit tree of the tick is refused: {0}")]
     Plan(TreeFault),
+    /// The line is shared among users, and no grants were found that are best by users.
+    #[error("no division among the users was found")]
+    Unshared,
     /// Memory ran out.
     #[error("out of memory")]
     Memory,

@@ -2,7 +2,7 @@
 
 ghost use Rattle.std.specs.Prelude.{◌≡◌, ◌+◌, ◌/◌, Some, sum, IfOk, IfErr, OnOk, OnErr};
 ghost use Rattle.limit_tree.specs.Outline.{limits as seen};
-ghost use Rattle.limit_tree.specs.Sharing.{IsBest};
+ghost use Rattle.fair_terms.specs.Fair.{AreSealedOwners, IsFair};
 ghost use Rattle.desk_rule.specs.Lanes.{posted_in};
 ghost use Rattle.lane_desk.specs.Traces.{traces, IsRoundOf, IsSameRound};
 ghost use Rattle.lane_desk.specs.Peers.{IsTurned};
@@ -71,7 +71,10 @@ impl<N> Rounds<N> {
         ensures round { IfOk result (λ r. IsRoundOver (is_given given.now) limits.now (moment / 100)
             (traces self.old.desk) (traces self.new.desk) r.answered (seen r.sealed.tree)
             r.lanes.items r.asks.items r.sealed.grants) }
-        ensures best { IfOk result (λ r. IsBest (seen r.sealed.tree) r.sealed.grants) }
+        ensures owners { IfOk result
+            (λ r. AreSealedOwners limits.now.share_by r.asks.items r.sealed.owners) }
+        ensures best { IfOk result (λ r. IsFair limits.now.share_by r.asks.items
+            (seen r.sealed.tree) r.sealed.grants) }
         ensures turns { IfOk result (λ r. IsTurned had.now limits.now r.lanes.items r.asks.items
             r.sealed.grants) }
         ensures issued { IfOk result

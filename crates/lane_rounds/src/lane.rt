@@ -1,6 +1,6 @@
 //! The thread of a lane.
 
-ghost use Rattle.std.specs.Prelude.{◌≡◌};
+ghost use Rattle.std.specs.Prelude.{◌≡◌, ◌-◌};
 ghost use Rattle.desk_rule.specs.declared.view.SeatState.TheVariants.{Free};
 ghost use Rattle.lane_desk.specs.Seats.{seat_view};
 ghost use Rattle.lane_rounds.specs.Gates.{signed};
@@ -78,6 +78,13 @@ fn sign<R: Source, K: Sink, C: Read + Write + Drop>(sign: &LaneSign, job: &LaneJ
     sign.set_session(Some(session));
 }
 
+// The octets that were moved between two counts.
+fn moved_between(before: u64, now: u64) -> u64
+    ensures moved { result ≡ now - before }
+{
+    now.saturating_sub(before)
+}
+
 /// Runs the transfer that waits on a ticket to its end, and reports that; nothing if it was taken back.
 pub(crate) fn run_transfer<'h, R, S, H, B, N>(
     rt: &R,
@@ -108,7 +115,7 @@ where
     }
     let before = worker.moved();
     worker.work(rt, rt.alloc(), &engine.desk, job, &mut gate);
-    gate.report(worker.moved().saturating_sub(before));
+    gate.report(moved_between(before, worker.moved()));
     match house.lanes.get(lane) {
         Some(own) => own.set_session(None),
         None => {}

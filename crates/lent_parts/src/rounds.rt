@@ -1,8 +1,8 @@
 //! The rounds of a desk with its book and their pace, as lent to the thread that holds a round.
 
 ghost use Rattle.std.specs.Prelude.{◌≡◌, ◌+◌, ◌/◌, ◌++◌, [], ◌∷◌, true, max, Some, sum, IfOk, IfErr, OnOk, OnErr};
+ghost use Rattle.fair_terms.specs.Fair.{IsFair};
 ghost use Rattle.limit_tree.specs.Outline.{limits as seen};
-ghost use Rattle.limit_tree.specs.Sharing.{IsBest};
 ghost use Rattle.lent_parts.specs.Names.{RoundsAt};
 ghost use Rattle.lane_desk.specs.Traces.{traces};
 ghost use Rattle.lane_desk.specs.Tried.{is_given};
@@ -134,7 +134,9 @@ impl<B: PartsName, N> LentRounds<B, N> {
             (p.moment / 100) (traces self.old.rounds.rounds.desk)
             (traces self.new.rounds.rounds.desk) r.answered (seen r.sealed.tree) r.lanes.items
             r.asks.items r.sealed.grants) }
-        ensures best { IfOk result (λ r. IsBest (seen r.sealed.tree) r.sealed.grants) }
+        ensures best { let p = offer_round (tick_of (max now.micros self.old.rounds.latest))
+            self.old.rounds.pace in IfOk result (λ r. IsFair p.offered.share_by r.asks.items
+            (seen r.sealed.tree) r.sealed.grants) }
         ensures issued { IfOk result (λ r. self.new.rounds.rounds.book.issued
             ≡ self.old.rounds.rounds.book.issued + sum r.sealed.grants) }
         ensures last_tick { let p = offer_round (tick_of (max now.micros self.old.rounds.latest))

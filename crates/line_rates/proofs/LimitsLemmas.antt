@@ -6,6 +6,7 @@ use Rattle.std.specs.List.{list_any, All}
 use Rattle.std.specs.List.Sorted.{IsNonDecreasingBy}
 use Rattle.std.proofs.lemmas.Bool.{or_parts, ltb-false}
 use Rattle.std.proofs.lemmas.List.Sorted.{list_any-IsPermutation, IsPermutation-map, All-permutation}
+use Rattle.line_rates.specs.declared.share_by.ShareBy.TheVariants as share
 use Rattle.line_rates.specs.declared.fault.LimitsFault.TheVariants.{Twice, NoSuchGroup}
 use Rattle.line_rates.specs.declared.rate.TheConstants.{MAX_RATE}
 use Rattle.line_rates.specs.declared.row.GroupRate.{GroupRate}
@@ -90,8 +91,8 @@ module _ (server down up : ℕ) (gs hs : List GroupRate) (us vs : List UserRate)
 
         pub same_stated : stated server down up hs vs ≡ stated server down up gs us
         same_stated =
-            ap (λ (m : Groups). record { server = server; down = down; up = up; groups = m; users = by_number user_number vs }) (sym (same_by_number group_number gs hs groups groups_up))
-            ∙ ap (λ (m : Users). record { server = server; down = down; up = up; groups = by_number group_number gs; users = m }) (sym (same_by_number user_number us vs users users_up))
+            ap (λ (m : Groups). record { server = server; down = down; up = up; groups = m; users = by_number user_number vs; share_by = share.Sessions }) (sym (same_by_number group_number gs hs groups groups_up))
+            ∙ ap (λ (m : Users). record { server = server; down = down; up = up; groups = by_number group_number gs; users = m; share_by = share.Sessions }) (sym (same_by_number user_number us vs users users_up))
 
         pub kept : IsKept server down up hs vs
         kept =

@@ -1,15 +1,11 @@
 -- The order of alike asks in a queue.
-use Rattle.std.proofs.Common.{◌≡◌, ◌≢◌, ℕ, zero, suc, ◌+◌, ◌-◌, ◌<◌, ◌≤◌, Bool, true, false, List, [], ◌∷◌, ◌++◌, length, map, get_or, take, drop, set, sym, refl, ap, ◌∙◌, subst, arith, Option, Some, None, All, inl, inr, ◌⊎◌, IsPermutation, Ordering, Less, Equal, Greater, nat_cmp, is_lt, get_or-set_same, get_or-set_other, IsSortedBy, count_by, sum_by, cond}
+use Rattle.std.proofs.Common.{◌≡◌, ◌≢◌, ℕ, zero, suc, ◌+◌, ◌-◌, ◌<◌, ◌≤◌, Bool, true, false, List, [], ◌∷◌, length, map, get_or, set, sym, refl, ap, ◌∙◌, subst, arith, Option, Some, None, All, inl, inr, IsPermutation, Ordering, Equal, nat_cmp, is_lt, get_or-set_same, get_or-set_other, IsSortedBy, count_by, cond}
 use Rattle.std.specs.Prelude.{slice_get}
 use Rattle.std.specs.Ordering.{ordering_then}
 use Rattle.std.specs.Cmp.{IsTotalOrder}
-use Rattle.std.specs.List.{AllAdjacentBelow}
-use Rattle.std.specs.Option.{option_map}
-use Rattle.std.proofs.lemmas.Bool.{cases_lt, cases_eq, cases_Bool, false≢true}
+use Rattle.std.proofs.lemmas.Bool.{cases_lt, cases_Bool, false≢true}
 use Rattle.std.proofs.lemmas.Cmp.{on_total, then_total, nat_cmp_total, tied_itself}
 use Rattle.std.proofs.lemmas.Map.Keys.{ge_from_not_lt}
-use Rattle.std.proofs.lemmas.Option.{slice_get-map}
-use Rattle.std.proofs.lemmas.List.{get_or-map, length-map}
 use Rattle.std.proofs.lemmas.List.Sums.{sum_by-cons}
 use Rattle.std.proofs.lemmas.List.Sorted.{sorted_far, ranks_by, All-permutation, IsPermutation-map, IsPermutation-trans, sum_by-IsPermutation}
 use Rattle.line_rates.specs.declared.ask.Ask.{Ask}
@@ -20,7 +16,7 @@ use Rattle.line_rates.specs.Grown.{key, same_name, level_of}
 use Rattle.line_rates.specs.Names.{bears}
 use Rattle.line_rates.specs.Queue.{asker_of, name_of, numbered_of, AreNamedAt, AreNumbered, AreAmong, IsOwnFirst, AreOwnFirst}
 use Rattle.line_rates.specs.Rates.{Rates, group_of}
-use Rattle.line_rates.specs.TickTree.{Asker, ask_in}
+use Rattle.line_rates.specs.TickTree.{ask_in}
 use Rattle.line_rates.proofs.NameLemmas.{same_name-is, same_name-refl, key_same, key_level, key_none}
 use Rattle.line_rates.proofs.QueueLemmas.{HaveFirsts, by_name, by_first, by_first_total, sorted_contiguous, same_contiguous, have_firsts, moved_firsts, same_named, not_less, sorted_first, is_named}
 use Rattle.line_rates.proofs.RowLemmas.{at_any}

@@ -1,6 +1,5 @@
 -- The order of alike asks while the trees of a queue are grown.
-use Rattle.std.proofs.Common.{◌≡◌, Bool, ℕ, zero, suc, ◌+◌, ◌-◌, ◌<◌, ◌≤◌, List, [], ◌∷◌, ◌++◌, length, map, get_or, Some, refl, sym, ap, ◌∙◌, subst, arith, take, drop, All, IsPermutation, count_by, cond}
-use Rattle.std.specs.Prelude.{slice_get}
+use Rattle.std.proofs.Common.{◌≡◌, Bool, ℕ, zero, suc, ◌+◌, ◌-◌, ◌<◌, ◌≤◌, List, [], ◌∷◌, ◌++◌, length, map, get_or, Some, refl, sym, ap, ◌∙◌, subst, arith, take, drop, All, IsPermutation, cond}
 use Rattle.std.proofs.lemmas.List.{map-append, take_all, length-take-le, length-drop, take-append-drop, take_more}
 use Rattle.std.proofs.lemmas.List.Elements.{All-same, All-push}
 use Rattle.std.proofs.lemmas.Option.{slice_get-get_or}
@@ -15,7 +14,7 @@ use Rattle.line_rates.specs.Queue.{asker_of, numbered_of, AreAmong, IsRun}
 use Rattle.line_rates.specs.Rates.{Rates}
 use Rattle.line_rates.specs.TickTree.{Asker, ask_in, IsPlan}
 use Rattle.line_rates.proofs.OrderLemmas.{passing, passing-cons}
-use Rattle.line_rates.proofs.PairLemmas.{Pairs, ByIndex, pairs_from, pairs_at, pairs_moved}
+use Rattle.line_rates.proofs.PairLemmas.{pairs_from, pairs_at, pairs_moved}
 use Rattle.line_rates.proofs.PartLemmas.{put_at}
 
 -- alike asks are in the order of their numbers

@@ -37,6 +37,7 @@ with_user rates row =
       up = rates.up;
       groups = rates.groups;
       users = put rates.users row.user row;
+      share_by = rates.share_by;
     }
 
 abbrev pub with_group : Rates → GroupRate → Rates
@@ -47,8 +48,16 @@ with_group rates row =
       up = rates.up;
       groups = put rates.groups row.group row;
       users = rates.users;
+      share_by = rates.share_by;
     }
 
 abbrev pub with_line : Rates → ℕ → ℕ → ℕ → Rates
 with_line rates server down up =
-    record { server = server; down = down; up = up; groups = rates.groups; users = rates.users }
+    record {
+      server = server;
+      down = down;
+      up = up;
+      groups = rates.groups;
+      users = rates.users;
+      share_by = rates.share_by;
+    }

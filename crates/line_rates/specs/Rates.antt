@@ -1,6 +1,7 @@
--- The rates of a line, its groups and its users, in octets per second; 0 is no limit.
-use Rattle.std.specs.Prelude.{ℕ, Option, Some, None, refl}
-use Rattle.std.specs.Coded.{Coded, code_by, coded×, coded_ℕ, coded_option}
+-- The rates of a line, its groups and its users, in octets per second (0 is no limit), and among
+-- whom the line is shared.
+use Rattle.std.specs.Prelude.{◌≡◌, ℕ, Bool, true, false, Option, Some, None, refl}
+use Rattle.std.specs.Coded.{Coded, code_by, coded×, coded_ℕ, coded_bool, coded_option}
 use Rattle.std.specs.FinMap as map
 use Rattle.std.specs.Ordering.{nat_cmp}
 use Rattle.line_rates.specs.declared.ask.Way.{Way}
@@ -9,6 +10,8 @@ use Rattle.line_rates.specs.declared.ask.Name.{Name}
 use Rattle.line_rates.specs.declared.ask.Name.TheVariants.{Server, Direction, Group, User, Session}
 use Rattle.line_rates.specs.declared.row.GroupRate.{GroupRate}
 use Rattle.line_rates.specs.declared.row.UserRate.{UserRate}
+use Rattle.line_rates.specs.declared.share_by.ShareBy.{ShareBy}
+use Rattle.line_rates.specs.declared.share_by.ShareBy.TheVariants as share
 
 -- the groups' rows by number
 abbrev pub Groups : Type 0
@@ -24,6 +27,18 @@ pub record Rates : Type 0 where
   pub up : ℕ
   pub groups : Groups
   pub users : Users
+  pub share_by : ShareBy
+
+-- the same rates, of a line that is shared among these
+abbrev pub shared_by : ShareBy → Rates → Rates
+shared_by by rates = record {
+  server = rates.server;
+  down = rates.down;
+  up = rates.up;
+  groups = rates.groups;
+  users = rates.users;
+  share_by = by;
+}
 
 -- the one of two rates that applies to a way
 abbrev pub way_of : ℕ → ℕ → Way → ℕ
@@ -89,16 +104,32 @@ user_code = code_by (((ℕ × Option ℕ) × (ℕ × ℕ)) × ((ℕ × ℕ) × (
     })
     (λ _. refl)
 
+abbrev pub is_by_users : ShareBy → Bool
+is_by_users share.Sessions = false
+is_by_users share.Users = true
+
+abbrev pub share_from : Bool → ShareBy
+share_from false = share.Sessions
+share_from true = share.Users
+
+abbrev pub share_back : (by : ShareBy) → share_from (is_by_users by) ≡ by
+share_back share.Sessions = refl
+share_back share.Users = refl
+
+abbrev pub share_code : Coded ShareBy
+share_code = code_by Bool coded_bool is_by_users share_from share_back
+
 abbrev pub rates_code : Coded Rates
 rates_code =
-    code_by ((ℕ × (ℕ × ℕ)) × (Groups × Users))
+    code_by ((ℕ × (ℕ × ℕ)) × ((Groups × Users) × ShareBy))
     (coded× (coded× coded_ℕ (coded× coded_ℕ coded_ℕ))
-    (coded× (map.code coded_ℕ group_code) (map.code coded_ℕ user_code)))
-    (λ r. ((r.server, (r.down, r.up)), (r.groups, r.users)))
+    (coded× (coded× (map.code coded_ℕ group_code) (map.code coded_ℕ user_code)) share_code))
+    (λ r. ((r.server, (r.down, r.up)), ((r.groups, r.users), r.share_by)))
     (λ p. record {
       server = p.0.0;
       down = p.0.1.0;
       up = p.0.1.1;
-      groups = p.1.0;
-      users = p.1.1;
+      groups = p.1.0.0;
+      users = p.1.0.1;
+      share_by = p.1.1;
     }) (λ _. refl)

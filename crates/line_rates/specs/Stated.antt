@@ -10,6 +10,7 @@ use Rattle.line_rates.specs.declared.fault.LimitsFault.TheVariants.{RateTooLarge
 use Rattle.line_rates.specs.declared.rate.TheConstants.{MAX_RATE}
 use Rattle.line_rates.specs.declared.row.GroupRate.{GroupRate}
 use Rattle.line_rates.specs.declared.row.UserRate.{UserRate}
+use Rattle.line_rates.specs.declared.share_by.ShareBy.TheVariants as share
 
 abbrev pub group_number : GroupRate → ℕ
 group_number row = row.group
@@ -21,7 +22,7 @@ user_number row = row.user
 abbrev pub by_number : {X : Type 0} → (X → ℕ) → List X → finite.FinMap nat_cmp X
 by_number number rows = finite.from_entries (map (λ row. (number row, row)) rows)
 
--- the rates that are stated
+-- the rates that are stated, of a line that is shared among its sessions
 abbrev pub stated : ℕ → ℕ → ℕ → List GroupRate → List UserRate → Rates
 stated server down up groups users =
     record {
@@ -30,6 +31,7 @@ stated server down up groups users =
       up = up;
       groups = by_number group_number groups;
       users = by_number user_number users;
+      share_by = share.Sessions;
     }
 
 abbrev pub is_too_large : ℕ → Bool

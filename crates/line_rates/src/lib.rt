@@ -1,6 +1,7 @@
 //! The rates that an administrator states, and the limits that follow in each tick of 100 ms.
 //!
-//! `Limits::of` takes the rates of the line, its two ways, groups and users. In each tick, `tree_of` makes the limit
+//! `Limits::of` takes the rates of the line, its two ways, groups and users; `Limits::shared_by` says among whom the
+//! line is shared, which is its sessions if nothing is said. In each tick, `tree_of` makes the limit
 //! tree of the transfers' asks, which a round shares out; `rate_limit` returns what a rate allows in a tick.
 //!
 //! ```text
@@ -30,6 +31,7 @@ mod queue;
 mod rate;
 mod row;
 mod rows;
+mod share_by;
 mod trees;
 
 pub use ask::{Ask, Name, Way};
@@ -42,3 +44,4 @@ pub use limits::Limits;
 pub use plan::{Plan, tree_of};
 pub use rate::{MAX_RATE, rate_limit};
 pub use row::{GroupRate, UserRate};
+pub use share_by::ShareBy;

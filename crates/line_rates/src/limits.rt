@@ -8,6 +8,7 @@ ghost use Rattle.std.specs.List.{All};
 ghost use Rattle.line_rates.specs.Stated.{group_number, user_number, by_number, stated, limits_fault, has_large_rate, IsRising, FitsGroup, FitsUser};
 ghost use Rattle.line_rates.specs.Names.{floor_of};
 ghost use Rattle.line_rates.specs.Put.{with_line, with_group, with_user};
+ghost use Rattle.line_rates.specs.Rates.{shared_by};
 
 use crate::ask::{Ask, Name};
 use crate::fault::LimitsFault;
@@ -17,10 +18,12 @@ use crate::rows::{
     find_group, find_user, groups_rise, has_large_group, has_large_user, has_stray_user,
     replace_group, replace_user, sort_groups, sort_users, users_rise,
 };
+use crate::share_by::ShareBy;
 use std::alloc::{Allocator, Global};
 use std::marker::Model;
 
-/// The rates of a line, its groups and its users. Contracts see the rows as finite maps from numbers to rates.
+/// The rates of a line, its groups and its users, and among whom the line is shared. Contracts see the rows as finite
+/// maps from numbers to rates.
 #[derive(Drop)]
 pub struct Limits<A: Allocator = Global> {
     server: u64,
@@ -29,17 +32,19 @@ pub struct Limits<A: Allocator = Global> {
     // sorted by number
     groups: Vec<GroupRate, A>,
     users: Vec<UserRate, A>,
+    share_by: ShareBy,
 }
 
 impl<A: Allocator> Model for Limits<A> {
-    ghost use Rattle.line_rates.specs.Rates.{Rates, rates_code};
+    ghost use Rattle.line_rates.specs.Rates.{Rates, rates_code, shared_by};
     ghost use Rattle.line_rates.specs.Stated.{stated, IsKept};
 
     ghost Value = { Rates };
 
     ghost coded = { rates_code };
 
-    ghost view = { λ l. stated l.server l.down l.up l.groups.items l.users.items };
+    ghost view = { λ l.
+        shared_by l.share_by (stated l.server l.down l.up l.groups.items l.users.items) };
 
     ghost invariant = { λ l. IsKept l.server l.down l.up l.groups.items l.users.items };
 }
@@ -55,8 +60,9 @@ fn has_large_rate(server: u64, down: u64, up: u64, groups: &[GroupRate], users: 
 }
 
 impl<A: Allocator> Limits<A> {
-    /// The limits set by the rates of the server, its two ways, groups and users. The rows may come in any order; a
-    /// user or group without a row has no limit of its own. No memory, O(n log n) time.
+    /// The limits set by the rates of the server, its two ways, groups and users, of a line that is shared among its
+    /// sessions. The rows may come in any order; a user or group without a row has no limit of its own. No memory,
+    /// O(n log n) time.
     pub fn of(
         server: u64,
         down: u64,
@@ -89,7 +95,37 @@ impl<A: Allocator> Limits<A> {
             up,
             groups,
             users,
+            share_by: ShareBy::Sessions,
         })
+    }
+
+    /// These limits, of a line that is shared among others.
+    pub fn shared_by(self, share_by: ShareBy) -> Limits<A>
+        ensures shared { result ≡ shared_by share_by self }
+    {
+        let Limits {
+            server,
+            down,
+            up,
+            groups,
+            users,
+            share_by: _,
+        } = self;
+        Limits {
+            server,
+            down,
+            up,
+            groups,
+            users,
+            share_by,
+        }
+    }
+
+    /// Among whom the line is shared.
+    pub fn share_by(&self) -> ShareBy
+        ensures share_by { result ≡ self.now.share_by }
+    {
+        self.share_by
     }
 
     /// The users' rows, sorted by number.

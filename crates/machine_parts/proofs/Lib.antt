@@ -1,2 +1,6 @@
+mod Files
+mod KeptNames
 mod Numbers
+mod Reloading
+mod Searching
 mod Taking

@@ -1,14 +1,16 @@
 -- The numbers of names, in an authorizer and in a list.
-use Rattle.std.proofs.Common.{◌≡◌, ℕ, ◌+◌, ◌<◌, ◌≤◌, Bool, true, false, cond, List, [], ◌∷◌, ◌++◌, Option, Some, None, Result, Ok, Err, MatchResult, OnOk, bytes_eq, refl, sym, ap, subst, ◌∙◌, option_map, length, take, get_or, add-one}
+use Rattle.std.proofs.Common.{◌≡◌, ℕ, ◌+◌, ◌<◌, ◌≤◌, Bool, true, false, cond, List, [], ◌∷◌, ◌++◌, Option, Some, None, Result, Ok, Err, MatchResult, OnOk, bytes_eq, refl, sym, ap, subst, ◌∙◌, option_map, length, map, take, get_or, add-one, arith, ◌⊎◌, inl, inr}
 use Rattle.std.specs.Prelude.{string_bytes}
-use Rattle.std.specs.List.{find}
+use Rattle.std.specs.List.{Contains, find}
 use Rattle.std.specs.Option.{is_some, option_or}
 use Rattle.std.specs.Cmp.{eq_by_cmp_equiv}
 use Rattle.std.specs.Cmp.Lexicographic.{slice_cmp}
 use Rattle.std.specs.Ordering.{nat_cmp, eq_by_cmp}
 use Rattle.std.proofs.lemmas.Cmp.{nat_list_cmp_total}
-use Rattle.std.proofs.lemmas.List.{take_all}
+use Rattle.std.proofs.lemmas.List.{map-append, take_all}
+use Rattle.std.proofs.lemmas.List.Elements.{Contains-push_cases}
 use Rattle.std.proofs.lemmas.List.Folds.{find-append}
+use Rattle.std.proofs.lemmas.Slice.Eq.{bytes_eq-Decides}
 use Rattle.std.proofs.lemmas.Map.Text.{is_eq-slice_cmp}
 use Rattle.std.proofs.lemmas.Option.{slice_get-get_or}
 use Rattle.std.proofs.Math.Seq.{take-suc}
@@ -21,6 +23,7 @@ use Rattle.authorizer.specs.Users.{User, Users, Accounts}
 use Rattle.authorizer.proofs.Maps.{equal_keys, same}
 use Rattle.authorizer.proofs.Outcomes.{IsAdded, is-added, is-removed}
 use Rattle.config_change.specs.Named.{number_named}
+use Rattle.config_change.specs.Past.{named_item}
 use Rattle.config_change.specs.declared.known.NumberedName.{NumberedName}
 use Rattle.machine_parts.specs.Known.{AreBelow}
 use Rattle.machine_parts.specs.Names.{number_in}
@@ -144,3 +147,59 @@ pub all-known : (items : List NumberedName) (i : ℕ) → length items ≤ i →
     → (name : List ℕ) → number_named new name ≡ number_in items name
 all-known items i past old new is same name =
     known-by old new (take i items) is same name ∙ ap (λ known. number_in known name) (take_all i items past)
+
+-- ---- each item has the number of its name
+
+abbrev pub IsOwned : List NumberedName → Type 0
+IsOwned known = (name : List ℕ) (number : ℕ) → Contains (map named_item known) (name, number) → number_in known name ≡ Some number
+
+earlier-item : (item : NumberedName) (number : ℕ) (found : Option NumberedName) (b : Bool) → option_map (λ item. item.number) found ≡ Some number
+    → option_map (λ item. item.number) (option_or found (cond b (Some item) None)) ≡ Some number
+earlier-item item number None b is = cc
+earlier-item item number (Some other) b is = is
+
+last-item : (item : NumberedName) (number : ℕ) (found : Option NumberedName) (b : Bool) → b ≡ true → option_map (λ item. item.number) found ≡ None → item.number ≡ number
+    → option_map (λ item. item.number) (option_or found (cond b (Some item) None)) ≡ Some number
+last-item item number None true so none is = ap Some is
+last-item item number (Some other) true so none is = cc
+last-item item number found false so none is = cc
+
+owned-push : (known : List NumberedName) (item : NumberedName) → number_in known (string_bytes item.name) ≡ None → IsOwned known → IsOwned (known ++ item ∷ [])
+owned-push known item none own name number found =
+    by_part (Contains-push_cases (map named_item known) (named_item item) (name, number) (subst (λ entries. Contains entries (name, number)) (map-append named_item known (item ∷ [])) found))
+  where
+    whole : number_in (known ++ item ∷ []) name
+        ≡ option_map (λ item. item.number) (option_or (find (λ item. bytes_eq (string_bytes item.name) name) known) (cond (bytes_eq (string_bytes item.name) name) (Some item) None))
+    whole = ap (option_map (λ item. item.number)) (find-append (λ item. bytes_eq (string_bytes item.name) name) known (item ∷ []))
+
+    by_part : Contains (map named_item known) (name, number) ⊎ (named_item item ≡ (name, number)) → number_in (known ++ item ∷ []) name ≡ Some number
+    by_part (inl before) =
+        whole ∙ earlier-item item number (find (λ item. bytes_eq (string_bytes item.name) name) known) (bytes_eq (string_bytes item.name) name) (own name number before)
+    by_part (inr is) =
+        let text : string_bytes item.name ≡ name = ap (λ entry. entry.0) is in
+        whole ∙ last-item item number (find (λ item. bytes_eq (string_bytes item.name) name) known) (bytes_eq (string_bytes item.name) name)
+        ((bytes_eq-Decides (string_bytes item.name) name).1 text) (ap (number_in known) (sym text) ∙ none) (ap (λ entry. entry.1) is)
+
+none-found : (found : Option User) → is_some found ≡ false → option_map (λ user. user.number) found ≡ None
+none-found None is = refl
+none-found (Some user) is = cc
+
+pub owned-more : (items : List NumberedName) (i : ℕ) (item : NumberedName) → i < length items → item ≡ get_or items i item
+    → (old mid new : Accounts) (name password home letters : List ℕ) → added mid name password home letters ≡ Ok new → name ≡ string_bytes item.name
+    → mid.users ≡ old.users
+    → ((name : List ℕ) → number_named old name ≡ number_in (take i items) name)
+    → IsOwned (take i items) → IsOwned (take (i + 1) items)
+owned-more items i item within is old mid new name password home letters came named kept same own =
+    let gone : finite.contains_key mid.users name ≡ false = absent mid new name password home letters came in
+    let none : number_in (take i items) (string_bytes item.name) ≡ None =
+    sym (same (string_bytes item.name)) ∙ ap (number_named old) (sym named) ∙ ap (λ users. option_map (λ user. user.number) (finite.get users name)) (sym kept)
+    ∙ none-found (finite.get mid.users name) gone in
+    let more : take (i + 1) items ≡ take i items ++ item ∷ [] =
+    ap (λ n. take n items) (add-one i) ∙ take-suc items i item within ∙ ap (λ x. take i items ++ x ∷ []) (sym is) in
+    subst IsOwned (sym more) (owned-push (take i items) item none own)
+
+pub owned-none : IsOwned []
+owned-none name number found = absurd (omega (arith, found.1))
+
+pub owned-all : (items : List NumberedName) (i : ℕ) → length items ≤ i → IsOwned (take i items) → IsOwned items
+owned-all items i past own = subst IsOwned (take_all i items past) own

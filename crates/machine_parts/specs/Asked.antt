@@ -3,6 +3,9 @@ use Rattle.std.specs.Prelude.{◌≡◌, ℕ, Bool, ◌||◌, cond, List, ◌++�
 use Rattle.client_patience.specs.declared.patience.Patience.{Patience}
 use Rattle.command_line.specs.declared.words.ServeFiles.{ServeFiles}
 use Rattle.ftpd_program.specs.declared.server.ReadConfig.{ReadConfig}
+use Rattle.line_rates.specs.Rates.{shared_by}
+use Rattle.line_rates.specs.declared.share_by.ShareBy.{ShareBy}
+use Rattle.server_config.specs.declared.config.Config.{Config}
 use Rattle.machine_parts.specs.declared.asked.AskedService.{AskedService}
 use Rattle.machine_parts.specs.declared.asked.ReadText.{ReadText}
 use Rattle.machine_parts.specs.declared.asked.SignPaths.{SignPaths}
@@ -35,10 +38,17 @@ pub record AreWritten (files : ServeFiles) (paths : WrittenPaths) : Type 0 where
   pub running : option_map (λ both. both_texts both) paths.running
       ≡ option_map (λ t. and_beside t.now) files.running_file
 
--- the configuration as it was read; its octets are kept if they are needed
-pub record IsKept (read : ReadConfig) (keeps : Bool) (kept : ReadText) : Type 0 where
+-- a configuration, of a line that is shared among these
+abbrev pub among : ShareBy → Config → Config
+among by config = record config {
+  limits = shared_by by config.limits;
+}
+
+-- the configuration as it was read, of a line that is shared as the words state; its octets are
+-- kept if they are needed
+pub record IsKept (read : ReadConfig) (by : ShareBy) (keeps : Bool) (kept : ReadText) : Type 0 where
   pub path : string_bytes kept.path ≡ read.path.now
-  pub config : kept.config ≡ read.config
+  pub config : kept.config ≡ among by read.config
   pub warnings : string_bytes kept.warnings ≡ read.warnings.now
   pub octets : option_map (λ octets. octets.items) kept.octets
       ≡ cond keeps (Some read.octets.now) None
@@ -51,7 +61,7 @@ needs_octets files = is_some files.reload_file || is_some files.running_file
 -- the service has what the words state, part by part
 pub record IsAsked (read : ReadConfig) (files : ServeFiles) (patience : Patience)
     (service : AskedService) : Type 0 where
-  pub read_text : IsKept read (needs_octets files) service.read
+  pub read_text : IsKept read files.share_by (needs_octets files) service.read
   pub signs : AreSigns files service.signs
   pub written : AreWritten files service.written
   pub log_form : option_map string_bytes service.log_form
@@ -61,3 +71,8 @@ pub record IsAsked (read : ReadConfig) (files : ServeFiles) (patience : Patience
   pub user_sessions : option_map string_bytes service.user_sessions
       ≡ option_map (λ t. t.now) files.user_sessions
   pub patience_is : service.patience ≡ patience
+
+-- there is a service that has what the words state
+abbrev pub HasAsked : ReadConfig → ServeFiles → Patience → Option AskedService → Type 0
+HasAsked read files patience None = ⊥
+HasAsked read files patience (Some service) = IsAsked read files patience service

@@ -1,7 +1,13 @@
+pub mod Answers
 pub mod Asked
 pub mod Facts
 pub mod Following
 pub mod Known
+pub mod LimitWords
+pub mod LookedFile
 pub mod Machine
 pub mod Names
+pub mod Reloads
 pub mod Starting
+pub mod StatedFiles
+pub mod UsageFiles

@@ -1,6 +1,6 @@
 -- Names and their numbers, as a server knows them.
-use Rattle.std.specs.Prelude.{◌≡◌, ℕ, nat_eq, bytes_eq, List, map, Option, option_map, string_bytes, IsPermutation}
-use Rattle.std.specs.List.{find}
+use Rattle.std.specs.Prelude.{◌≡◌, ℕ, nat_eq, bytes_eq, List, map, Option, Some, option_map, string_bytes, IsPermutation}
+use Rattle.std.specs.List.{Contains, find}
 use Rattle.authorizer.specs.Users.{Accounts}
 use Rattle.config_change.specs.Named.{number_named}
 use Rattle.config_change.specs.Past.{known_after, named_item}
@@ -21,8 +21,10 @@ abbrev pub AreKnown : Accounts → List NumberedName → List NumberedName → T
 AreKnown users earlier known =
     IsPermutation (known_after users (map named_item earlier)) (map named_item known)
 
--- Each name has the number that it is known by, and no other name has any; who comes next gets this
--- one.
+-- Each name has the number that it is known by, which is one, and no other name has any; who comes
+-- next gets this one.
 pub record HasNumbers (known : List NumberedName) (next : ℕ) (accounts : Accounts) : Type 0 where
   pub next_number : accounts.next ≡ next
   pub numbers : (name : List ℕ) → number_named accounts name ≡ number_in known name
+  pub own : (name : List ℕ) (number : ℕ) → Contains (map named_item known) (name, number)
+      → number_in known name ≡ Some number

@@ -1,11 +1,12 @@
 -- Forms, numbers and options that the words of a command line state.
-use Rattle.std.specs.Prelude.{◌≡◌, ◌⊎◌, ℕ, Bool, true, false, not, ◌&&◌, cond, nat_eq, bytes_eq, codes, List, [], ◌∷◌, ◌++◌, Option, Some, None, is_some, string_bytes}
+use Rattle.std.specs.Prelude.{◌≡◌, ◌⊎◌, ℕ, Bool, true, false, not, ◌&&◌, cond, nat_eq, bytes_eq, codes, List, [], ◌∷◌, ◌++◌, Option, Some, None, is_some, string_bytes, String}
 use Rattle.client_patience.specs.declared.patience.Patience.{Patience}
 use Rattle.ftpd_program.specs.IdleOptions.{idle_sessions, idle_sync, idle_text}
 use Rattle.ftpd_program.specs.StatedSessions.{AreSessions}
 use Rattle.ftpd_program.specs.declared.idle_options.IdleOption.{IdleOption}
 use Rattle.ftpd_program.specs.declared.server.ServeFault.TheVariants.{DrainSeconds, ReloadFile}
-use Rattle.ftpd_program.specs.declared.start.StartFault.TheVariants.{InputAgain, NothingDrains}
+use Rattle.ftpd_program.specs.declared.start.StartFault.{StartFault}
+use Rattle.ftpd_program.specs.declared.start.StartFault.TheVariants.{DrainFileThere, DrainFileUnseen, EndFileThere, EndFileUnseen, InputAgain, NothingDrains, ReloadFileThere, ReloadFileUnseen, StopFileThere, StopFileUnseen}
 use Rattle.line_queue.specs.declared.sink.LogForm.{LogForm}
 use Rattle.line_queue.specs.declared.sink.LogForm.TheVariants.{Plain, Journal}
 use Rattle.server_config.specs.declared.store.ServedStore.{ServedStore}
@@ -13,6 +14,11 @@ use Rattle.server_config.specs.declared.store.ServedStore.TheVariants.{Memory, F
 use Rattle.sheets_program.specs.Runs.{IsInput}
 use Rattle.machine_parts.specs.declared.asked.ReadText.{ReadText}
 use Rattle.machine_parts.specs.declared.asked.SignPaths.{SignPaths}
+use Rattle.machine_parts.specs.declared.starting.Hindrance.{Hindrance}
+use Rattle.machine_parts.specs.declared.starting.Hindrance.TheVariants.{There, Reported}
+use Rattle.machine_parts.specs.declared.starting.Sign.{Sign}
+use Rattle.machine_parts.specs.declared.starting.Sign.TheVariants.{Stop, Drain, Reload, End}
+use Rattle.machine_parts.specs.declared.status_file.StatusFile.{StatusFile}
 use Rattle.machine_parts.specs.declared.stated_options.Unprepared.{Unprepared}
 
 -- the form of notes of a name; plain without one
@@ -58,3 +64,33 @@ IsContradiction patience read signs refused =
     × (refused ≡ record { fault = DrainSeconds; start = Some NothingDrains }))
     ⊎ ((drains_nothing patience signs ≡ false) × ReadsInputAgain read signs
     × (refused ≡ record { fault = ReloadFile; start = Some InputAgain }))
+
+-- the fault of a start whose sign could not be noticed at a path: it names the sign and the path,
+-- and has the machine's reason, if there is one
+abbrev pub IsSignFault : Sign → List ℕ → Hindrance → StartFault → Type 0
+IsSignFault Stop path There (StopFileThere at) = string_bytes at ≡ path
+IsSignFault Stop path (Reported reason) (StopFileUnseen at why) =
+    (string_bytes at ≡ path) × (why ≡ reason)
+IsSignFault Drain path There (DrainFileThere at) = string_bytes at ≡ path
+IsSignFault Drain path (Reported reason) (DrainFileUnseen at why) =
+    (string_bytes at ≡ path) × (why ≡ reason)
+IsSignFault Reload path There (ReloadFileThere at) = string_bytes at ≡ path
+IsSignFault Reload path (Reported reason) (ReloadFileUnseen at why) =
+    (string_bytes at ≡ path) × (why ≡ reason)
+IsSignFault End path There (EndFileThere at) = string_bytes at ≡ path
+IsSignFault End path (Reported reason) (EndFileUnseen at why) =
+    (string_bytes at ≡ path) × (why ≡ reason)
+IsSignFault _ path _ _ = ⊥
+
+-- the file at a path, with the new file beside it, and with these permissions
+pub record IsFileAt {Y Z : Type 0} (mode : ℕ) (paths : String Y × String Z) (file : StatusFile)
+    : Type 0 where
+  pub path : string_bytes file.path ≡ string_bytes paths.0
+  pub beside : string_bytes file.beside ≡ string_bytes paths.1
+  pub mode_is : file.mode ≡ mode
+
+-- there is one if there are paths
+abbrev pub IsFileIf : {Y Z : Type 0} → ℕ → Option (String Y × String Z) → Option StatusFile → Type 0
+IsFileIf mode None found = found ≡ None
+IsFileIf mode (Some paths) None = ⊥
+IsFileIf mode (Some paths) (Some file) = IsFileAt mode paths file

@@ -5,11 +5,12 @@
 //! thread alone. So functions on files and the console name the runtime itself, and functions that start threads have a
 //! type parameter for their permission.
 
-ghost use Rattle.std.specs.Prelude.{◌≡◌, Some, None, IfOk, cond, option_map, string_bytes};
-ghost use Rattle.machine_parts.specs.Asked.{AreSigns, AreWritten, IsAsked, IsKept, and_beside, both_texts};
+ghost use Rattle.std.specs.Prelude.{◌≡◌, Some, None, IfErr, IfOk, OnErr, OnOk, cond, option_map, string_bytes};
+ghost use Rattle.ftpd_program.specs.declared.server.ServeFault.TheVariants.{Memory};
+ghost use Rattle.machine_parts.specs.Asked.{AreSigns, AreWritten, HasAsked, IsAsked, IsKept, among, and_beside, both_texts};
 
 use client_patience::Patience;
-use ftpd_program::{ReadConfig, ServeFault, ServeFiles, Server};
+use ftpd_program::{ReadConfig, ServeFault, ServeFiles, Server, ShareBy};
 use server_config::Config;
 use std::alloc::{AllocError, Global};
 use text_io::TextWriter;
@@ -132,9 +133,36 @@ fn with_beside(alloc: Global, path: Option<&str>) -> Result<Option<(String, Stri
     }
 }
 
-/// The configuration, whose octets are kept if they are needed.
-fn kept_text(alloc: Global, read: ReadConfig<'_>, keeps: bool) -> Result<ReadText, AllocError>
-    ensures kept { IfOk result (IsKept read.entry keeps) }
+/// The configuration of a line that is shared among these.
+fn among(config: Config, share_by: ShareBy) -> Config
+    ensures among { result ≡ among share_by config }
+{
+    let Config {
+        settings,
+        numbers,
+        users,
+        store,
+        limits,
+        groups,
+    } = config;
+    Config {
+        settings,
+        numbers,
+        users,
+        store,
+        limits: limits.shared_by(share_by),
+        groups,
+    }
+}
+
+/// The configuration of a line that is shared among these; its octets are kept if they are needed.
+fn kept_text(
+    alloc: Global,
+    read: ReadConfig<'_>,
+    share_by: ShareBy,
+    keeps: bool,
+) -> Result<ReadText, AllocError>
+    ensures kept { IfOk result (IsKept read.entry share_by keeps) }
 {
     let ReadConfig {
         path,
@@ -145,6 +173,7 @@ fn kept_text(alloc: Global, read: ReadConfig<'_>, keeps: bool) -> Result<ReadTex
     let octets = copied_octets(alloc, keeps, octets)?;
     let path = String::from_str(alloc, path)?;
     let warnings = String::from_str(alloc, warnings)?;
+    let config = among(config, share_by);
     Ok(ReadText {
         path,
         config,
@@ -188,7 +217,7 @@ fn asked_service(
 {
     let keeps = files.reload_file.is_some() || files.running_file.is_some();
     Ok(AskedService {
-        read: kept_text(alloc, read, keeps)?,
+        read: kept_text(alloc, read, files.share_by, keeps)?,
         signs: sign_paths(alloc, files)?,
         written: written_paths(alloc, files)?,
         log_form: copied(alloc, files.log_form)?,
@@ -207,7 +236,12 @@ impl<W: TextWriter> Server<W> for AskedServer {
         files: ServeFiles<'_>,
         patience: Patience,
         _output: &mut W,
-    ) -> Result<(), ServeFault> {
+    ) -> Result<(), ServeFault>
+        ensures asked { OnOk result (HasAsked read.entry files.entry patience
+            self.new.service) }
+        ensures refused { OnErr result (self.new ≡ self.old) }
+        ensures memory { IfErr result (λ fault. fault ≡ Memory) }
+    {
         self.service = Some(asked_service(alloc, read, &files, patience)?);
         Ok(())
     }

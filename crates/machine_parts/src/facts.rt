@@ -42,7 +42,8 @@ pub fn copied_limits(alloc: Global, limits: &Limits) -> Option<Limits>
     let both = limits.rate(Name::Server);
     let down = limits.rate(Name::Direction(Way::Down));
     let up = limits.rate(Name::Direction(Way::Up));
-    Limits::of(both, down, up, groups, users).ok()
+    let copy = Limits::of(both, down, up, groups, users).ok()?;
+    Some(copy.shared_by(limits.share_by()))
 }
 
 /// The groups that a configuration has, with their numbers. `None` if memory runs out.

@@ -4,6 +4,8 @@ ghost use Rattle.std.specs.Prelude.{◌≡◌, IfErr, IfOk, IfSome, option_map, 
 ghost use Rattle.line_rates.specs.Rates.{Rates};
 ghost use Rattle.config_change.specs.Past.{KeepPast};
 ghost use Rattle.machine_parts.specs.Following.{AreParts, IsHindrance, IsNoConfig, IsNumberedAs, IsPastFault, IsUnnumbered, capacity_of, root_of};
+ghost use Rattle.machine_parts.specs.LimitWords.{key_of, limit_text};
+ghost use Rattle.machine_parts.specs.Reloads.{IsNext, IsNotTaken, KeepsNames};
 ghost use Rattle.server_config.specs.Configs.{IsConfigText};
 
 use crate::facts::{Start, copied_limits, facts_of};
@@ -115,15 +117,20 @@ impl AtStart {
 }
 
 // The key of a rate of a way.
-fn key_of(way: Way) -> &'static str {
+fn key_of(way: Way) -> &'static str
+    ensures key { result.now ≡ key_of way }
+{
     match way {
         Way::Down => "down_rate",
         Way::Up => "up_rate",
     }
 }
 
-/// A limit in words: its key, and whose it is.
-pub fn limit_words(alloc: Global, known: &Known, name: Name) -> Option<String> {
+/// A limit in words: its key, and whose it is. None if memory runs out, or if nobody is known by the number.
+pub fn limit_words(alloc: Global, known: &Known, name: Name) -> Option<String>
+    ensures words { IfSome result (λ text. IfSome (limit_text known.now name)
+        (λ octets. string_bytes text ≡ octets)) }
+{
     let reported = match name {
         Name::Server => String::from_str(alloc, "`rate` of the server"),
         Name::Direction(way) => format!(in alloc; "`{}` of the server", key_of(way)),
@@ -234,7 +241,12 @@ pub fn next_config(
     octets: &[u8],
     at_start: &AtStart,
     known: &Known,
-) -> Result<NextConfig, Option<String>> {
+) -> Result<NextConfig, Option<String>>
+    ensures next { IfOk result (IsNext octets.now at_start.now known.now) }
+    ensures keeps { IfOk result (λ next. KeepsNames known.now next.known) }
+    ensures refused { IfErr result
+        (λ words. IsNotTaken octets.now at_start.now known.now (option_map string_bytes words)) }
+{
     let read = config_of(alloc, path, octets)?;
     if let Some(reason) = at_start.hindrance(alloc, &read) {
         return Err(reason);

@@ -1,7 +1,10 @@
 //! The names of users and groups that a server knows by numbers.
 
-ghost use Rattle.std.specs.Prelude.{◌≡◌, ◌+◌, ◌-◌, IfOk, OnOk, option_map};
-ghost use Rattle.machine_parts.specs.Known.{AreBelow};
+ghost use Rattle.std.specs.Prelude.{◌≡◌, ◌+◌, ◌-◌, IfOk, OnOk, count_by, map, nat_eq, not, option_map, string_bytes};
+ghost use Rattle.std.specs.List.{list_any};
+ghost use Rattle.std.specs.List.Sorted.{IsNonDecreasing};
+ghost use Rattle.std.specs.FinMap as finite;
+ghost use Rattle.machine_parts.specs.Known.{AreBelow, ArePresent, IsLeast, numbers_of};
 ghost use Rattle.machine_parts.specs.Names.{AreKnown, HasNumbers, name_in};
 
 use authorizer::{Authorizer, AuthorizerFault};
@@ -29,11 +32,14 @@ pub struct Known {
     /// The limits in force, with the rows of the past.
     pub limits: Limits,
     ghost below: { AreBelow users.items next },
+    ghost least: { IsLeast users.items next },
+    ghost rising: { IsNonDecreasing present.items },
 }
 
 /// The least number above those of all.
 fn next_number(users: &[NumberedName]) -> u64
     ensures below { AreBelow users.now result }
+    ensures least { IsLeast users.now result }
 {
     let mut next = 0;
     for place in 0..users.len() {
@@ -62,16 +68,35 @@ fn skip(users: &mut Authorizer, from: u64, to: u64) -> Result<(), AuthorizerFaul
     Ok(())
 }
 
-/// The numbers of users, ascending.
-fn present_of(alloc: Global, users: &Authorizer) -> Result<Vec<u32>, AllocError> {
-    let mut present = Vec::new(alloc);
-    for name in users.names(alloc)? {
+/// The numbers of users, in the order of their names.
+fn numbers_of(alloc: Global, users: &Authorizer) -> Result<Vec<u32>, AllocError>
+    ensures numbers { IfOk result (λ numbers. numbers.items ≡ numbers_of users.now) }
+{
+    let names = users.names(alloc)?;
+    let mut numbers = Vec::new(alloc);
+    for name in &names {
         if let Some(number) = users.number(name.as_str()) {
-            present.push(number)?;
+            numbers.push(number)?;
         }
     }
+    Ok(numbers)
+}
+
+/// The numbers of users, ascending.
+fn present_of(alloc: Global, users: &Authorizer) -> Result<Vec<u32>, AllocError>
+    ensures present { IfOk result (λ present. ArePresent users.now present.items) }
+{
+    let mut present = numbers_of(alloc, users)?;
     present.sort_unstable();
     Ok(present)
+}
+
+/// Returns whether a number is among numbers that ascend.
+fn is_among(numbers: &[u32], number: u32) -> bool
+    requires rising { IsNonDecreasing numbers.now }
+    ensures among { result ≡ list_any (λ other. nat_eq other number) numbers.now }
+{
+    numbers.binary_search(&number).is_ok()
 }
 
 impl Known {
@@ -87,6 +112,7 @@ impl Known {
             (λ known. AreKnown users.now earlier.now known.users.items) }
         ensures groups { IfOk result (λ known. known.groups ≡ groups) }
         ensures limits { IfOk result (λ known. known.limits ≡ limits) }
+        ensures present { IfOk result (λ known. ArePresent users.now known.present.items) }
     {
         let mut numbered = known_names(alloc, users, earlier)?;
         numbered.sort_unstable_by_key(|user| user.number);
@@ -100,12 +126,15 @@ impl Known {
     }
 
     /// Number of those who are users here, and no longer there.
-    pub fn gone(&self, next: &Known) -> u64 {
+    pub fn gone(&self, next: &Known) -> u64
+        ensures count { result ≡ count_by
+            (λ number. not (list_any (λ other. nat_eq other number) next.now.present.items))
+            self.now.present.items }
+    {
         let mut count: u64 = 0;
         for number in &self.present {
-            if next.present.binary_search(number).is_err() {
-                count = count.saturating_add(1);
-            }
+            let is_there = is_among(next.present.as_slice(), *number);
+            count += u64::from(!is_there);
         }
         count
     }

@@ -12,9 +12,11 @@
 //! answer.
 //!
 //! Decisions that need no machine have contracts: `asked` and `stated_options` on the service that the words state,
-//! `following`, `facts` and [`Known`] on the parts of a reload. [`next_config`] puts these together.
+//! `following`, `facts` and [`Known`] on the parts of a reload, which [`next_config`] puts together, and `answers` on what the
+//! machine has answered. Calls that only ask the machine have none.
 #![tactic(auto)]
 
+mod answers;
 mod asked;
 mod config_thread;
 mod facts;

@@ -1,5 +1,11 @@
 //! The status file of a server, read twice for one table.
 
+ghost use Rattle.std.specs.Prelude.{◌≡◌, IfErr, IfOk, MatchOption, max, string_bytes};
+ghost use Rattle.ftpd_program.specs.Against.{IsTextIn, IsUnread};
+ghost use Rattle.server_status.specs.ReadBack.{HasStatus};
+ghost use Rattle.status_table.specs.Looks.{IsLooksTable};
+ghost use Rattle.machine_parts.specs.LookedFile.{IsAskedTable, IsNoStatus, IsNoTable, IsRefusedStatus, IsTextEnding};
+
 use command_line::{Words, read_words};
 use ftpd_program::{FtpdExit, Opener};
 use server_status::{Status, StatusFault, read_status};
@@ -18,8 +24,59 @@ const BETWEEN: u64 = 1_100;
 /// Fewest lines of a table.
 const LEAST_LINES: usize = 6;
 
-fn text_ending(fault: TextFault, path: &str) -> FtpdExit<'_> {
+fn text_ending(fault: TextFault, path: &str) -> FtpdExit<'_>
+    ensures ending { IsTextEnding fault path.now result }
+{
     FtpdExit::Common(Common::Text(fault, text_cause(fault, path, None)))
+}
+
+/// The octets of the file of a path, or the ending without them.
+fn octets_of<'w, O: Opener>(
+    alloc: Global,
+    files: &mut O,
+    path: &'w str,
+) -> Result<Vec<u8>, Common<'w>>
+    ensures text { IfOk result (λ octets. IsTextIn (O.Gives files.old path.now) octets.items) }
+    ensures unread { IfErr result (IsUnread (O.Gives files.old path.now) path.now) }
+{
+    let mut file = match files.open(path) {
+        Ok(file) => file,
+        Err(error) => {
+            let cause = text_cause(TextFault::ReadFault, path, Some(error));
+            return Err(Common::Text(TextFault::ReadFault, cause));
+        }
+    };
+    match read_whole(alloc, &mut file) {
+        Ok(octets) => Ok(octets),
+        Err(fault) => {
+            let cause = text_cause(fault, path, O::reason(&file));
+            Err(Common::Text(fault, cause))
+        }
+    }
+}
+
+/// The status that the octets of the file of a path are, or the ending without it.
+fn first_status<'w>(alloc: Global, octets: &[u8], path: &'w str) -> Result<Status, FtpdExit<'w>>
+    ensures status { IfOk result (HasStatus octets.now) }
+    ensures refused { IfErr result (IsRefusedStatus octets.now path.now) }
+{
+    match read_status(alloc, octets) {
+        Ok(status) => Ok(status),
+        Err(StatusFault::Memory) => Err(text_ending(TextFault::Memory, path)),
+        Err(fault) => Err(FtpdExit::Status { file: path, fault }),
+    }
+}
+
+/// The status that octets are; none if they are none.
+fn later_status(alloc: Global, octets: &[u8]) -> Result<Option<Status>, AllocError>
+    ensures status { IfOk result (λ found.
+        MatchOption found (IsNoStatus octets.now) (HasStatus octets.now)) }
+{
+    match read_status(alloc, octets) {
+        Ok(status) => Ok(Some(status)),
+        Err(StatusFault::Memory) => Err(AllocError),
+        Err(_) => Ok(None),
+    }
 }
 
 /// The status of the file of a path, or the ending without it.
@@ -28,24 +85,9 @@ fn first_look<'w, O: Opener>(
     files: &mut O,
     path: &'w str,
 ) -> Result<Status, FtpdExit<'w>> {
-    let mut file = match files.open(path) {
-        Ok(file) => file,
-        Err(error) => {
-            let cause = text_cause(TextFault::ReadFault, path, Some(error));
-            return Err(FtpdExit::Common(Common::Text(TextFault::ReadFault, cause)));
-        }
-    };
-    let octets = match read_whole(alloc, &mut file) {
-        Ok(octets) => octets,
-        Err(fault) => {
-            let cause = text_cause(fault, path, O::reason(&file));
-            return Err(FtpdExit::Common(Common::Text(fault, cause)));
-        }
-    };
-    match read_status(alloc, octets.as_slice()) {
-        Ok(status) => Ok(status),
-        Err(StatusFault::Memory) => Err(text_ending(TextFault::Memory, path)),
-        Err(fault) => Err(FtpdExit::Status { file: path, fault }),
+    match octets_of(alloc, files, path) {
+        Ok(octets) => first_status(alloc, octets.as_slice(), path),
+        Err(ending) => Err(FtpdExit::Common(ending)),
     }
 }
 
@@ -55,21 +97,28 @@ fn second_look<O: Opener>(
     files: &mut O,
     path: &str,
 ) -> Result<Option<Status>, AllocError> {
-    let Ok(mut file) = files.open(path) else {
-        return Ok(None);
-    };
-    let Ok(octets) = read_whole(alloc, &mut file) else {
-        return Ok(None);
-    };
-    match read_status(alloc, octets.as_slice()) {
-        Ok(status) => Ok(Some(status)),
-        Err(StatusFault::Memory) => Err(AllocError),
+    match octets_of(alloc, files, path) {
+        Ok(octets) => later_status(alloc, octets.as_slice()),
         Err(_) => Ok(None),
     }
 }
 
-/// The table of two looks at the file of a path.
+/// The table of two looks, in that number of lines at most, but not below the fewest.
 fn table_of(
+    alloc: Global,
+    first: &Status,
+    second: Option<&Status>,
+    rows: u16,
+) -> Result<String, AllocError>
+    ensures table { IfOk result
+        (λ text. IsLooksTable first.entry second.entry (max rows 6) (string_bytes text)) }
+{
+    let lines = usize::from(rows).max(LEAST_LINES);
+    looks_lines(alloc, first, second, lines)
+}
+
+/// The table of this look at the file of a path and another.
+fn looked_table(
     machine: &HostRuntime,
     path: &str,
     first: &Status,
@@ -78,8 +127,7 @@ fn table_of(
     thread::sleep(machine, Duration::from_millis(BETWEEN));
     let mut files = Machine { rt: machine };
     let second = second_look(machine.alloc(), &mut files, path)?;
-    let lines = usize::from(rows).max(LEAST_LINES);
-    looks_lines(machine.alloc(), first, second.as_ref(), lines)
+    table_of(machine.alloc(), first, second.as_ref(), rows)
 }
 
 /// Writes the table of two looks at the status file of a path. Returns the ending.
@@ -94,12 +142,23 @@ fn looked<'w, W: Write>(
         Ok(first) => first,
         Err(ending) => return ending,
     };
-    let Ok(table) = table_of(machine, path, &first, rows) else {
+    let Ok(table) = looked_table(machine, path, &first, rows) else {
         return text_ending(TextFault::Memory, path);
     };
     match write_whole(table.as_str(), output) {
         Ok(()) => FtpdExit::Common(Common::Done),
         Err(fault) => text_ending(fault, path),
+    }
+}
+
+/// The status file of which words ask for one table, and the lines of the table; none if they ask for something else.
+/// Standard input has one status.
+fn asked_table<'w>(words: Words<'w>) -> Option<(&'w str, u16)>
+    ensures asked { MatchOption result (IsNoTable words.entry) (IsAskedTable words.entry) }
+{
+    match words {
+        Words::Top { status, once, rows } if once && !is_input(status) => Some((status, rows)),
+        _ => None,
     }
 }
 
@@ -110,11 +169,9 @@ pub fn looked_at<'w, W: Write>(
     words: &'w [&'w str],
     output: &mut FallibleIo<W>,
 ) -> Option<FtpdExit<'w>> {
-    let Ok(Words::Top { status, once, rows }) = read_words(machine.alloc(), words) else {
+    let Ok(words) = read_words(machine.alloc(), words) else {
         return None;
     };
-    if !once || is_input(status) {
-        return None;
-    }
+    let (status, rows) = asked_table(words)?;
     Some(looked(machine, status, rows, output))
 }

@@ -1,7 +1,7 @@
 //! The ready file of the machine.
 
+use crate::options::new_file_options;
 use ftpd_program::ReadyFile;
-use std::fs::OpenOptions;
 use std::{fs, io};
 
 /// A file of the machine that is there while a server is ready.
@@ -21,11 +21,7 @@ impl ReadyFile for MachineReadyFile {
 
     // A file that exists is not opened: it is somebody else's.
     fn make(&mut self) -> io::Result<()> {
-        let made = OpenOptions::new()
-            .write(true)
-            .create_new(true)
-            .open(&self.machine, self.path.as_str());
-        match made {
+        match new_file_options().open(&self.machine, self.path.as_str()) {
             Ok(_) => {
                 self.is_there = true;
                 Ok(())

@@ -1,5 +1,9 @@
 //! The files and sockets that a server needs from the machine at its start.
 
+ghost use Rattle.std.specs.Prelude.{◌≡◌, IfOk, string_bytes};
+ghost use Rattle.machine_parts.specs.Answers.{group_mode, owner_mode};
+ghost use Rattle.machine_parts.specs.Starting.{IsFileIf, IsSignFault};
+
 use crate::asked::{AskedService, ReadText, SignPaths, WrittenPaths};
 use crate::log_file::LogFile;
 use crate::page_thread::PageSocket;
@@ -113,7 +117,9 @@ enum Sign {
 }
 
 /// Returns the fault of a start whose sign could not be noticed at a path.
-fn sign_fault(sign: Sign, path: String, hindrance: Hindrance) -> StartFault {
+fn sign_fault(sign: Sign, path: String, hindrance: Hindrance) -> StartFault
+    ensures fault { IsSignFault sign (string_bytes path) hindrance result }
+{
     match (sign, hindrance) {
         (Sign::Stop, Hindrance::There) => StartFault::StopFileThere { path },
         (Sign::Stop, Hindrance::Reported(reason)) => StartFault::StopFileUnseen { path, reason },
@@ -212,7 +218,9 @@ fn folder_fault(machine: &HostRuntime, store: &ServedStore) -> Option<StartFault
 }
 
 /// Returns the path of a status, at which nothing else is. `Err` if there is.
-fn status_path(machine: &HostRuntime, path: String) -> Result<String, StartFault> {
+fn status_path(machine: &HostRuntime, path: String) -> Result<String, StartFault>
+    ensures path { IfOk result (λ same. same ≡ path) }
+{
     let mut octets = [0; FRONT];
     match found_at(machine, path.as_str(), &mut octets) {
         Ok(found) if is_free_for_status(found) => Ok(path),
@@ -222,7 +230,9 @@ fn status_path(machine: &HostRuntime, path: String) -> Result<String, StartFault
 }
 
 /// Returns the path of a transfer log, at which nothing else is. `Err` if there is.
-fn log_path(machine: &HostRuntime, path: String) -> Result<String, StartFault> {
+fn log_path(machine: &HostRuntime, path: String) -> Result<String, StartFault>
+    ensures path { IfOk result (λ same. same ≡ path) }
+{
     let mut octets = [0; FRONT];
     match found_at(machine, path.as_str(), &mut octets) {
         Ok(found) if is_free_for_log(found) => Ok(path),
@@ -247,7 +257,9 @@ fn check_twins(machine: &HostRuntime, service: &AskedService) -> Result<(), Unpr
 fn status_at(
     machine: &HostRuntime,
     paths: Option<(String, String)>,
-) -> Result<Option<StatusFile>, StartFault> {
+) -> Result<Option<StatusFile>, StartFault>
+    ensures file { IfOk result (IsFileIf group_mode paths) }
+{
     let Some((path, beside)) = paths else {
         return Ok(None);
     };
@@ -263,9 +275,16 @@ fn status_at(
 }
 
 /// Returns the running file at these paths, if there is to be one. Whether it can be written is noted later.
-fn running_at(machine: &HostRuntime, paths: Option<(String, String)>) -> Option<StatusFile> {
-    let (path, beside) = paths?;
-    Some(StatusFile::new(*machine, path, beside, RUNNING_MODE))
+fn running_at(machine: &HostRuntime, paths: Option<(String, String)>) -> Option<StatusFile>
+    ensures file { IsFileIf owner_mode paths result }
+{
+    match paths {
+        None => None,
+        Some((path, beside)) => {
+            let file = StatusFile::new(*machine, path, beside, RUNNING_MODE);
+            Some(file)
+        }
+    }
 }
 
 /// Returns the socket of the status page at a port, if there is to be one. `Err` if it cannot be had.

@@ -1,9 +1,12 @@
 //! A file to which a text is written again and again.
 
+ghost use Rattle.std.specs.Prelude.{◌≡◌, string_bytes};
+
+use crate::answers::{FileKind, kind_of, may_be_replaced};
 use crate::options::new_file_options;
 use folder_store::FolderMachine;
 use std::io::Write;
-use std::os::unix::fs::OpenOptionsExt;
+use std::os::unix::fs::{MetadataExt, OpenOptionsExt};
 use std::{fs, io};
 
 /// The permissions of the file of a status: its group may read it.
@@ -30,9 +33,21 @@ fn write_new(machine: &HostRuntime, path: &str, mode: u32, text: &[u8]) -> io::R
     machine.close(file)
 }
 
+// The kind of what is at a path, if the machine finds something.
+fn kind_at(machine: &HostRuntime, path: &str) -> Option<FileKind> {
+    match fs::metadata(machine, path) {
+        Ok(found) => Some(kind_of(found.mode())),
+        Err(_) => None,
+    }
+}
+
 impl StatusFile {
     /// The file at a path, with the path of the new file beside it, and the permissions.
-    pub fn new(machine: HostRuntime, path: String, beside: String, mode: u32) -> StatusFile {
+    pub fn new(machine: HostRuntime, path: String, beside: String, mode: u32) -> StatusFile
+        ensures path { result.path ≡ path }
+        ensures beside { result.beside ≡ beside }
+        ensures mode { result.mode ≡ mode }
+    {
         StatusFile {
             machine,
             path,
@@ -44,10 +59,8 @@ impl StatusFile {
     /// Writes a text. `Err` is the machine's reason: then what was at the path is still there. What is no regular file
     /// stays.
     pub fn write(&self, text: &[u8]) -> io::Result<()> {
-        if let Ok(found) = fs::metadata(&self.machine, self.path.as_str()) {
-            if !found.is_file() {
-                return Err(io::Error::from(io::ErrorKind::AlreadyExists));
-            }
+        if !may_be_replaced(kind_at(&self.machine, self.path.as_str())) {
+            return Err(io::Error::from(io::ErrorKind::AlreadyExists));
         }
         write_new(&self.machine, self.beside.as_str(), self.mode, text)?;
         fs::rename(&self.machine, self.beside.as_str(), self.path.as_str())
@@ -65,12 +78,16 @@ impl StatusFile {
     }
 
     /// Returns the path.
-    pub fn path(&self) -> &str {
+    pub fn path(&self) -> &str
+        ensures path { result.now ≡ string_bytes self.now.path }
+    {
         self.path.as_str()
     }
 
     /// Returns the path.
-    pub fn into_path(self) -> String {
+    pub fn into_path(self) -> String
+        ensures path { result ≡ self.path }
+    {
         self.path
     }
 }

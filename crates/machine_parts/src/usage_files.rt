@@ -1,7 +1,13 @@
 //! The transfer logs that are added up.
 
+ghost use Rattle.std.specs.Prelude.{◌≡◌};
+ghost use Rattle.ftpd_program.specs.declared.ending.FtpdExit.TheVariants.{AddsUp as AddsUpEnd};
+ghost use Rattle.machine_parts.specs.LookedFile.{IsTextEnding};
+ghost use Rattle.machine_parts.specs.UsageFiles.{IsTooMuch, IsUnreported};
+
 use ftpd_program::{FtpdExit, Opener, UsageWords, read_usage_words};
 use sheets_program::{Exit as Common, Machine, Noted, Opened, report, text_cause};
+use std::alloc::Global;
 use std::io;
 use std::io::{BufReader, Write};
 use std::rt::Files;
@@ -31,12 +37,16 @@ impl LogSource for LogFiles<'_> {
     }
 }
 
-fn read_ending(fault: TextFault, path: &str, reason: Option<io::Error>) -> FtpdExit<'_> {
+fn read_ending(fault: TextFault, path: &str, reason: Option<io::Error>) -> FtpdExit<'_>
+    ensures ending { IsTextEnding fault path.now result }
+{
     FtpdExit::Common(Common::Text(fault, text_cause(fault, path, reason)))
 }
 
-fn too_much<'w>(machine: &HostRuntime, path: &str) -> FtpdExit<'w> {
-    let text = format!(in machine.alloc(); "{path}: the sums are not below 2^64");
+fn too_much<'w>(alloc: Global, path: &str) -> FtpdExit<'w>
+    ensures much { IsTooMuch path.now result }
+{
+    let text = format!(in alloc; "{path}: the sums are not below 2^64");
     match text {
         Ok(reported) => FtpdExit::Transfers {
             name: "TooMuch",
@@ -47,12 +57,33 @@ fn too_much<'w>(machine: &HostRuntime, path: &str) -> FtpdExit<'w> {
 }
 
 /// The ending without a report.
-fn unreported<'w>(machine: &HostRuntime, fault: NoUsage<'w>) -> FtpdExit<'w> {
+fn unreported<'w>(alloc: Global, fault: NoUsage<'w>) -> FtpdExit<'w>
+    ensures end { IsUnreported fault.entry result }
+{
     match fault {
         NoUsage::Refused(text) => FtpdExit::Common(Common::Refused(text)),
         NoUsage::Log { path, error } => read_ending(TextFault::ReadFault, path, Some(error)),
-        NoUsage::TooMuch { path } => too_much(machine, path),
+        NoUsage::TooMuch { path } => too_much(alloc, path),
         NoUsage::Memory => FtpdExit::Common(Common::out_of_memory()),
+    }
+}
+
+/// The words that ask for the report.
+fn ask_of<'w>(stated: &UsageWords<'w>) -> AskWords<'w>
+    ensures ask { result ≡ record {
+      by = stated.now.by;
+      day = stated.now.day;
+      first = stated.now.first;
+      json = stated.now.json;
+      csv = stated.now.csv;
+    } }
+{
+    AskWords {
+        by: stated.by,
+        day: stated.day,
+        first: stated.first,
+        json: stated.json,
+        csv: stated.csv,
     }
 }
 
@@ -62,13 +93,7 @@ fn usage<'w, W: Write>(
     stated: &UsageWords<'w>,
     output: &mut FallibleIo<W>,
 ) -> FtpdExit<'w> {
-    let words = AskWords {
-        by: stated.by,
-        day: stated.day,
-        first: stated.first,
-        json: stated.json,
-        csv: stated.csv,
-    };
+    let words = ask_of(stated);
     let mut source = LogFiles {
         machine,
         files: Machine { rt: machine },
@@ -78,7 +103,7 @@ fn usage<'w, W: Write>(
             Ok(()) => FtpdExit::Common(Common::Done),
             Err(fault) => read_ending(fault, "", None),
         },
-        Err(fault) => unreported(machine, fault),
+        Err(fault) => unreported(machine.alloc(), fault),
     }
 }
 
@@ -88,7 +113,10 @@ pub fn added_up<'w, W: Write>(
     words: &'w [&'w str],
     ending: FtpdExit<'w>,
     output: &mut FallibleIo<W>,
-) -> FtpdExit<'w> {
+) -> FtpdExit<'w>
+    ensures other { (ending.entry ≡ AddsUpEnd → ⊥) → result ≡ ending.entry }
+    ensures unwritten { (ending.entry ≡ AddsUpEnd → ⊥) → output.new ≡ output.old }
+{
     let FtpdExit::AddsUp = ending else {
         return ending;
     };

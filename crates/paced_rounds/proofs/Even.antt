@@ -1,9 +1,9 @@
 -- By turns, two transfers stay within an octet of each other.
-use Rattle.std.proofs.Common.{◌≡◌, ℕ, ◌+◌, ◌<◌, ◌≤◌, List, [], ◌∷◌, inl, inr, arith}
+use Rattle.std.proofs.Common.{◌≡◌, ℕ, ◌+◌, ◌<◌, ◌≤◌, [], ◌∷◌, inl, inr, arith}
 use Rattle.std.proofs.lemmas.Bool.{cases_lt}
 use Rattle.std.proofs.lemmas.List.Sums.{sum_by-cons}
 use Rattle.std.specs.List.{sum_by}
-use Rattle.paced_rounds.specs.Evenness.{Shared, one_of, other_of, AreTurns, IsEven, EvenByTurns}
+use Rattle.paced_rounds.specs.Evenness.{one_of, other_of, IsEven, EvenByTurns}
 
 -- one side of a round
 pub side : (c d a b : ℕ) → c ≤ d + 1 → a ≤ b + 1 → (d < c → a ≤ b) → c + a ≤ d + b + 1

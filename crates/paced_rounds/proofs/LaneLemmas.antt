@@ -1,11 +1,11 @@
 -- What two lanes have had after rounds by turns.
-use Rattle.std.proofs.Common.{◌≡◌, ◌≢◌, ℕ, zero, suc, ◌+◌, ◌-◌, ◌*◌, ◌<◌, ◌≤◌, ◌^◌, Bool, true, false, ◌&&◌, nat_lt, ◌%◌, nat_eq, List, [], ◌∷◌, ◌++◌, length, map, get_or, set, take, sym, refl, ap, ◌∙◌, subst, arith, ◌⊎◌, inl, inr, min, sum_by, eq-eqb, ne_eqb, get_or-set_same, get_or-set_other, Result, Ok, Err}
+use Rattle.std.proofs.Common.{◌≡◌, ℕ, zero, suc, ◌+◌, ◌-◌, ◌*◌, ◌<◌, ◌≤◌, ◌^◌, Bool, true, false, ◌&&◌, nat_lt, ◌%◌, nat_eq, List, [], ◌∷◌, ◌++◌, length, map, get_or, take, sym, refl, ap, ◌∙◌, subst, arith, inl, inr, min, eq-eqb, ne_eqb, get_or-set_same, get_or-set_other, Result, Ok, Err}
 use Rattle.std.specs.Prelude.{slice_index, if◌then◌else◌, IfOk}
-use Rattle.std.specs.List.{All, AllByRecursion}
+use Rattle.std.specs.List.{AllByRecursion}
 use Rattle.std.proofs.Math.ListN.{length-set}
-use Rattle.std.proofs.Math.Logic.{∥∥₁_map, ∥∥₁_elim}
+use Rattle.std.proofs.Math.Logic.{∥∥₁_elim}
 use Rattle.std.proofs.Math.Bridge.{le_prop}
-use Rattle.std.proofs.lemmas.Bool.{cases_lt, cases_eq, and_parts, ltb-true}
+use Rattle.std.proofs.lemmas.Bool.{cases_eq, and_parts, ltb-true}
 use Rattle.std.proofs.lemmas.List.{map-append, take_more}
 use Rattle.std.proofs.lemmas.List.Elements.{recursion_from_All}
 use Rattle.std.proofs.lemmas.List.Sums.{sum_by-cons}
@@ -13,12 +13,12 @@ use Rattle.line_rates.specs.declared.ask.Ask.{Ask}
 use Rattle.line_rates.specs.Rates.{Rates}
 use Rattle.lane_desk.specs.declared.record.RoundRecord.{RoundRecord}
 use Rattle.lane_desk.specs.declared.record.RoundFault.{RoundFault}
-use Rattle.lane_desk.specs.Peers.{ArePeersAt, turn_at, IsTurned}
+use Rattle.lane_desk.specs.Peers.{turn_at, IsTurned}
 use Rattle.lane_desk.proofs.PeerLemmas.{flipped}
 use Rattle.paced_rounds.specs.declared.turns.TheConstants.{RISING, FALLING}
 use Rattle.paced_rounds.specs.Evenness.{IsEven}
 use Rattle.paced_rounds.specs.Turning.{second_of, starts, had_more, had_all, had_at, had_after}
-use Rattle.paced_rounds.specs.LaneTurns.{TurnRound, LeafEntry, TurnEntry, lane_of, ask_of, grant_of, turn_in, turns_in, turns_at, turns_after, AreStarts, LeadTurned, IsSecond, to_lane, octets_to, had_by, IsAbsent, AreBoth, AreBothOrNeither, LanesAreEven, RoundsAreEven}
+use Rattle.paced_rounds.specs.LaneTurns.{TurnRound, LeafEntry, TurnEntry, lane_of, ask_of, grant_of, turn_in, turns_in, turns_at, turns_after, AreStarts, LeadTurned, IsSecond, to_lane, octets_to, had_by, AreBothOrNeither, LanesAreEven, RoundsAreEven}
 use Rattle.paced_rounds.proofs.Even.{side}
 
 -- the numbers after a round

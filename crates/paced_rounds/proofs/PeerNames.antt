@@ -1,5 +1,5 @@
 -- Sessions of a user, and users without rates, as peers.
-use Rattle.std.proofs.Common.{◌≡◌, ℕ, ◌+◌, ◌≤◌, Bool, true, false, ◌&&◌, cond, nat_eq, List, [], ◌∷◌, sym, refl, ap, ◌∙◌, subst, arith, ◌⊎◌, inl, inr, count_by}
+use Rattle.std.proofs.Common.{◌≡◌, ℕ, ◌≤◌, Bool, true, false, ◌&&◌, cond, nat_eq, List, [], ◌∷◌, sym, refl, ap, ◌∙◌, subst, arith, ◌⊎◌, inl, inr, count_by}
 use Rattle.std.specs.FinMap as finite
 use Rattle.std.proofs.lemmas.Bool.{cases_Bool, and_parts, and_from, eqb-true, eq-eqb, false≢true}
 use Rattle.std.proofs.lemmas.List.Sums.{sum_by-cons}
@@ -9,8 +9,8 @@ use Rattle.line_rates.specs.declared.ask.Way.TheVariants.{Down, Up}
 use Rattle.line_rates.specs.declared.ask.Name.{Name}
 use Rattle.line_rates.specs.declared.ask.Name.TheVariants.{Server, Direction, Group, User, Session}
 use Rattle.line_rates.specs.Names.{same_way, is_number, bears}
-use Rattle.line_rates.specs.Rates.{Rates, group_of, rate_of, user_rate, session_rate, floor_rate}
-use Rattle.lane_desk.specs.Peers.{HasRatesOf, ArePeers}
+use Rattle.line_rates.specs.Rates.{Rates, group_of, rate_of, floor_rate}
+use Rattle.lane_desk.specs.Peers.{HasRatesOf}
 use Rattle.paced_rounds.specs.PeerKinds.{IsOfOne, IsUnrated, SessionsArePeers, UsersArePeers}
 
 way_is : (w v : Way) → same_way w v ≡ true → w ≡ v

@@ -6,7 +6,8 @@ use Rattle.std.proofs.Props.{props}
 use Rattle.std.proofs.lemmas.List.{map-append, append_assoc}
 use Rattle.std.proofs.lemmas.List.Sums.{sum_by_push, sum-map}
 use Rattle.limit_tree.specs.Outline.{limits as seen}
-use Rattle.limit_tree.specs.Sharing.{LimitTree, IsBest}
+use Rattle.fair_terms.specs.Fair.{IsFair, fair_within}
+use Rattle.limit_tree.specs.Sharing.{LimitTree}
 use Rattle.line_rates.specs.declared.ask.Ask.{Ask}
 use Rattle.line_rates.specs.declared.ask.Name.{Name}
 use Rattle.line_rates.specs.Granted.{Granted, granted_ask, granted_octets, GrantsKeepNames}
@@ -104,16 +105,16 @@ taken_next xs ns d i old new h e is =
     ∙ (λ k. map granted_in old ++ leaves (sym (drops xs d i h) k) (sym (drops ns 0 i (omega (arith, h, e))) k))
 
 -- what a round grants keeps the limits
-pub keeps : GrantsKeepNames → (given : ℕ → Bool) (rates : Rates) (tick : ℕ) (old new : List TraceView) (marks : ℕ) (tree : LimitTree) (lanes : List ℕ) (asks : List Ask) (grants : List ℕ) → IsRoundOver given rates tick old new marks tree lanes asks grants → IsBest tree grants
+pub keeps : GrantsKeepNames → (given : ℕ → Bool) (rates : Rates) (tick : ℕ) (old new : List TraceView) (marks : ℕ) (tree : LimitTree) (lanes : List ℕ) (asks : List Ask) (grants : List ℕ) → IsRoundOver given rates tick old new marks tree lanes asks grants → IsFair rates.share_by asks tree grants
     → (length asks ≡ length grants) × KeepsLimits rates tick (leaves asks grants) × AreBest rates tick (leaves asks grants)
 keeps law given rates tick old new marks tree lanes asks grants round best =
     let tree_of : IsTickTree rates tick asks tree = subst (λ (xs : List Ask). IsTickTree rates tick xs tree) (sym round.asks_are) round.plan.tree in
-    let each : length asks ≡ length grants = sym (best.within.wanted.leaves ∙ ap length tree_of.wants ∙ long want_of asks) in (
+    let each : length asks ≡ length grants = sym ((fair_within rates.share_by asks tree grants best).wanted.leaves ∙ ap length tree_of.wants ∙ long want_of asks) in (
       each,
       law rates tick tree (leaves asks grants)
           (subst (λ (xs : List Ask). IsTickTree rates tick xs tree) (sym (leaves-asks asks grants each)) tree_of)
-          (subst (λ (ns : List ℕ). Rattle.limit_tree.specs.Sharing.IsWithin tree ns) (sym (leaves-octets asks grants each)) best.within),
-      inr (tree, subst (λ (xs : List Ask). IsTickTree rates tick xs tree) (sym (leaves-asks asks grants each)) tree_of, subst (λ (ns : List ℕ). IsBest tree ns) (sym (leaves-octets asks grants each)) best),
+          (subst (λ (ns : List ℕ). Rattle.limit_tree.specs.Sharing.IsWithin tree ns) (sym (leaves-octets asks grants each)) (fair_within rates.share_by asks tree grants best)),
+      inr (tree, subst (λ (xs : List Ask). IsTickTree rates tick xs tree) (sym (leaves-asks asks grants each)) tree_of, subst (λ (xs : List Ask). IsFair rates.share_by xs tree (map granted_octets (leaves asks grants))) (sym (leaves-asks asks grants each)) (subst (λ (ns : List ℕ). IsFair rates.share_by asks tree ns) (sym (leaves-octets asks grants each)) best)),
     )
   where
     long : (f : Ask → ℕ) (xs : List Ask) → length (map f xs) ≡ length xs
@@ -189,12 +190,12 @@ pub record Leads {A : Type 0} (p q : Paced) (now old new : ℕ) (taken : List (A
 
 pub leads_ok : {A : Type 0} → GrantsKeepNames → (given : ℕ → Bool) (p o q : Paced) (now moment before issued : ℕ) (rates : Rates) (taken : List (Ask × ℕ)) (out : Outcome A) (r : RoundRecord A) (old new : List TraceView) (xs : List Ask) (ns : List ℕ) → out ≡ Ok r
     → o ≡ offer_round (tick_of now) p → rates ≡ o.offered → moment ≡ o.moment
-    → IfOk out (λ r. IsRoundOver given rates (moment / 100) old new r.answered (seen r.sealed.tree) r.lanes.items r.asks.items r.sealed.grants) → IfOk out (λ r. IsBest (seen r.sealed.tree) r.sealed.grants)
+    → IfOk out (λ r. IsRoundOver given rates (moment / 100) old new r.answered (seen r.sealed.tree) r.lanes.items r.asks.items r.sealed.grants) → IfOk out (λ r. IsFair rates.share_by r.asks.items (seen r.sealed.tree) r.sealed.grants)
     → xs ≡ r.asks.items → ns ≡ r.sealed.grants → q ≡ take_all (leaves xs ns) o → map granted_in taken ≡ leaves xs ns → IfOk out (λ r. issued ≡ before + sum r.sealed.grants) → Leads p q now before issued taken out
 leads_ok {A} law given p o q now moment before issued rates taken out r old new xs ns is offered limits at rounded bests asks grants charged logged reports =
     let round : IsRoundOver given rates (moment / 100) old new r.answered (seen r.sealed.tree) r.lanes.items r.asks.items r.sealed.grants =
     subst (λ (x : Outcome A). IfOk x (λ r. IsRoundOver given rates (moment / 100) old new r.answered (seen r.sealed.tree) r.lanes.items r.asks.items r.sealed.grants)) is rounded in
-    let best : IsBest (seen r.sealed.tree) r.sealed.grants = subst (λ (x : Outcome A). IfOk x (λ r. IsBest (seen r.sealed.tree) r.sealed.grants)) is bests in
+    let best : IsFair rates.share_by r.asks.items (seen r.sealed.tree) r.sealed.grants = subst (λ (x : Outcome A). IfOk x (λ r. IsFair rates.share_by r.asks.items (seen r.sealed.tree) r.sealed.grants)) is bests in
     let reported : issued ≡ before + sum r.sealed.grants = subst (λ (x : Outcome A). IfOk x (λ r. issued ≡ before + sum r.sealed.grants)) is reports in
     let kept = keeps law given rates (moment / 100) old new r.answered (seen r.sealed.tree) r.lanes.items r.asks.items r.sealed.grants round best in
     subst (Leads p q now before issued taken) (sym is) (record {

@@ -1,14 +1,13 @@
 -- The octets of a history, second by second.
-use Rattle.std.proofs.Common.{◌≡◌, ◌≢◌, ℕ, zero, suc, ◌+◌, ◌*◌, ◌/◌, ◌<◌, ◌≤◌, Bool, true, false, cond, List, [], ◌∷◌, ◌++◌, map, inl, inr, sym, refl, ap, ◌∙◌, arith}
+use Rattle.std.proofs.Common.{◌≡◌, ◌≢◌, ℕ, ◌+◌, ◌/◌, ◌<◌, ◌≤◌, Bool, true, false, cond, List, [], ◌∷◌, map, inl, inr, sym, refl, ◌∙◌, arith}
 use Rattle.std.specs.Prelude.{nat_eq, nat_lt, sum_by}
-use Rattle.std.specs.List.{list_all}
-use Rattle.std.proofs.lemmas.Bool.{and_parts, eqb-true, eqb-false, cases_lt, lt-ltb, le-ltb, eq-eqb, ne_eqb, cond-true, cond-false}
+use Rattle.std.proofs.lemmas.Bool.{eqb-true, eqb-false, cases_lt, lt-ltb, le-ltb, eq-eqb, ne_eqb, cond-true, cond-false}
 use Rattle.std.proofs.lemmas.List.Sums.{sum_by-cons, sum_by-append}
 use Rattle.line_rates.specs.declared.ask.Name.TheVariants.{Server}
 use Rattle.line_rates.specs.Rates.{Rates}
 use Rattle.round_pace.specs.Histories.{Held}
 use Rattle.round_pace.specs.Rounds.{Round, granted_where, is_in}
-use Rattle.round_pace.specs.Stretches.{Stretch, RatedRound, rated, rated_under, round_of, rates_where, changes_from, changes, AreWithin}
+use Rattle.round_pace.specs.Stretches.{Stretch, RatedRound, rated, rated_under, round_of, rates_where, changes_from, changes}
 use Rattle.paced_rounds.specs.History.{octets_of, octets_in}
 
 -- the octets of a round, and those before a second

@@ -1,9 +1,9 @@
 -- The octets of a history from its first second to its last.
-use Rattle.std.proofs.Common.{◌≡◌, ◌≢◌, ℕ, zero, suc, ◌+◌, ◌-◌, ◌*◌, ◌/◌, ◌≤◌, Bool, true, false, cond, max, List, [], ◌∷◌, ◌++◌, map, sym, refl, ap, ◌∙◌, subst, arith}
-use Rattle.std.specs.Prelude.{nat_eq, sum_by}
+use Rattle.std.proofs.Common.{◌≡◌, ◌≢◌, ℕ, zero, suc, ◌+◌, ◌*◌, ◌/◌, ◌≤◌, Bool, true, false, cond, max, List, [], ◌∷◌, ◌++◌, map, sym, refl, ap, ◌∙◌, subst, arith}
+use Rattle.std.specs.Prelude.{sum_by}
 use Rattle.std.proofs.Math.Logic.{∥∥₁_map, ∥∥₁_elim}
 use Rattle.std.proofs.Props.{props}
-use Rattle.std.proofs.lemmas.List.Sums.{sum_by-cons, sum_by-append}
+use Rattle.std.proofs.lemmas.List.Sums.{sum_by-cons}
 use Rattle.line_rates.specs.declared.ask.Name.{Name}
 use Rattle.line_rates.specs.declared.ask.Name.TheVariants.{Server}
 use Rattle.line_rates.specs.Rates.{Rates, rate_of}
@@ -11,7 +11,7 @@ use Rattle.round_pace.specs.Histories.{Held}
 use Rattle.round_pace.specs.Paced.{Paced}
 use Rattle.round_pace.specs.Rounds.{Round, granted_where, is_in}
 use Rattle.round_pace.specs.Stretches.{Stretch, RatedRound, rated, rated_under, round_of, rates_where, changes, AreWithin, StretchesKeep}
-use Rattle.paced_rounds.specs.History.{octets_in, stretch_under}
+use Rattle.paced_rounds.specs.History.{stretch_under}
 use Rattle.paced_rounds.specs.Spans.{AreBetween, AllBetween, HasRate, HasRates, IsWithinRates, SpansAreKept, allowed_at, allowed_from, allowed_in, granted_to, greatest, seconds_from}
 use Rattle.paced_rounds.proofs.RunLemmas.{run-seconds, windowed-prop}
 use Rattle.paced_rounds.proofs.SecondLemmas.{Each, before, before_all, before_none, granted_plain, next, octets, octets_all, same_rate}

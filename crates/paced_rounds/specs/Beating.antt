@@ -14,15 +14,17 @@ use Rattle.round_pace.specs.Rows.{have_left, rows_of}
 use Rattle.round_pace.specs.Spent.{due_for_in}
 use Rattle.round_cadence.specs.Cadences.{Beats, opens_of, add_to, settle_of}
 use Rattle.round_cadence.specs.Closed.{closed_by}
+use Rattle.round_cadence.specs.Crowds.{crowd_of}
 use Rattle.paced_rounds.specs.History.{leaves}
 use Rattle.round_pace.specs.declared.credit.TheConstants.{TICK_MICROS}
 use Rattle.paced_rounds.specs.declared.rounds.TheConstants.{MOST_ASKED}
 
--- the grants of a round are added, each to the rows of its ask
-abbrev pub add_all : Paced → List Granted → Beats → Beats
-add_all p [] c = c
-add_all p (g ∷ gs) c =
-    add_all p gs (add_to g.ask (rows_of g.ask.way g.ask.user p) g.octets c)
+-- the grants of a round with these asks are added, each to the rows of its ask with its crowd
+abbrev pub add_all : Paced → List Ask → List Granted → Beats → Beats
+add_all p asks [] c = c
+add_all p asks (g ∷ gs) c =
+    add_all p asks gs (add_to g.ask (rows_of g.ask.way g.ask.user p) g.octets
+    (crowd_of p.offered.share_by asks g.ask) c)
 
 -- the rows of these asks are settled, at a tick
 abbrev pub settle_all : Paced → ℕ → List Ask → Beats → Beats
@@ -34,7 +36,8 @@ settle_all p tick (x ∷ xs) c =
 abbrev pub beats_after : {A : Type 0} → Paced → ℕ → Result (RoundRecord A) RoundFault → Beats
     → Beats
 beats_after p tick (Ok r) c =
-    settle_all p tick r.asks.items (add_all p (leaves r.asks.items r.sealed.grants) c)
+    settle_all p tick r.asks.items
+    (add_all p r.asks.items (leaves r.asks.items r.sealed.grants) c)
 beats_after p tick (Err f) c = c
 
 -- the first tick in which a user's transfer may be in a round

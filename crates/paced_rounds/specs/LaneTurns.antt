@@ -1,5 +1,5 @@
 -- The rounds of a second, by lanes: of two lanes of peers both have had the same but for an octet.
-use Rattle.std.specs.Prelude.{◌≡◌, ℕ, ◌+◌, ◌*◌, ◌<◌, ◌≤◌, ◌^◌, ◌⊎◌, nat_eq, if◌then◌else◌, List, [], ◌∷◌, ◌++◌, length, map, sum_by, slice_index, Result, Ok, Err}
+use Rattle.std.specs.Prelude.{◌≡◌, ℕ, ◌+◌, ◌<◌, ◌^◌, ◌⊎◌, nat_eq, if◌then◌else◌, List, [], ◌∷◌, ◌++◌, length, map, sum_by, slice_index, Result, Ok, Err}
 use Rattle.std.specs.List.{All}
 use Rattle.grant_ledger.specs.declared.ledger.TheConstants.{MAX_LANES}
 use Rattle.line_rates.specs.declared.ask.Ask.{Ask}

@@ -1,5 +1,5 @@
 -- Peers in a round, by users and sessions.
-use Rattle.std.specs.Prelude.{◌≡◌, ℕ, ◌≤◌, List, count_by}
+use Rattle.std.specs.Prelude.{◌≡◌, ◌≤◌, List, count_by}
 use Rattle.std.specs.FinMap as finite
 use Rattle.line_rates.specs.declared.ask.Ask.{Ask}
 use Rattle.line_rates.specs.declared.ask.Name.{Name}

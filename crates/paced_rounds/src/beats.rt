@@ -6,19 +6,22 @@ ghost use Rattle.paced_rounds.specs.Beating.{add_all, settle_all, beats_after};
 
 use lane_desk::{RoundFault, RoundRecord};
 use line_rates::Ask;
-use round_cadence::Cadence;
+use round_cadence::{Cadence, crowd_of};
 use round_pace::Pace;
 use std::alloc::Allocator;
 
-// Adds each grant to the rows of its own ask.
+// Adds each grant to the rows of its own ask, with the asks that share its part of the line.
 fn add<A: Allocator>(cadence: &mut Cadence<A>, pace: &Pace<A>, asks: &[Ask], grants: &[u64])
     requires each { length asks.now ≡ length grants.now }
-    ensures added { cadence.new ≡ add_all pace.now (leaves asks.now grants.now) cadence.old }
+    ensures added { cadence.new ≡ add_all pace.now asks.now (leaves asks.now grants.now)
+        cadence.old }
 {
+    let share_by = pace.limits().share_by();
     for i in 0..asks.len() {
         let ask = asks[i];
         let rows = pace.rows_of(ask.way, ask.user);
-        cadence.add(ask, &rows, grants[i]);
+        let crowd = crowd_of(share_by, asks, ask);
+        cadence.add(ask, &rows, grants[i], crowd);
     }
 }
 

@@ -1,10 +1,12 @@
 //! The limits that hold back the transfers of a round.
 
 ghost use Rattle.std.specs.Prelude.{◌≡◌, true, IfOk, None, slice_index_or};
+ghost use Rattle.fair_terms.specs.Fair.{AreSealedOwners};
 ghost use Rattle.limit_tree.specs.Outline.{limits as seen};
 ghost use Rattle.line_rates.specs.TickTree.{IsTickTree};
 ghost use Rattle.paced_rounds.specs.HeldLeaves.{AreHeld};
 
+use fair_terms::sealed_is_fair;
 use grant_certificate::Sealed;
 use grant_ledger::MAX_LANES;
 use held_names::held_by;
@@ -52,9 +54,11 @@ fn name_leaves<L: Allocator, A: Allocator>(
     names: &mut [Option<Name>; MAX_LANES],
 )
     requires tree { IsTickTree limits.now tick asks.now (seen sealed.now.tree) }
+    requires owners { AreSealedOwners limits.now.share_by asks.now sealed.now.owners }
     ensures held { AreHeld limits.now tick asks.now (seen sealed.now.tree) sealed.now.grants
         names.new }
 {
+    sealed_is_fair();
     let tree = sealed.tree();
     let grants = sealed.grants();
     let entries = sealed.certificate().entries();
@@ -71,6 +75,8 @@ pub(crate) fn see<L: Allocator, A: Allocator>(
 )
     requires tree { IfOk round.now (λ r. IsTickTree limits.now r.tick r.asks.items
         (seen r.sealed.tree)) }
+    requires owners { IfOk round.now
+        (λ r. AreSealedOwners limits.now.share_by r.asks.items r.sealed.owners) }
     ensures wanted { names.new.is_wanted ≡ names.old.is_wanted }
     ensures held { names.old.is_wanted ≡ true → IfOk round.now (λ r. AreHeld limits.now r.tick
         r.asks.items (seen r.sealed.tree) r.sealed.grants names.new.names) }

@@ -1,8 +1,8 @@
 //! The rounds of a desk at a pace.
 
 ghost use Rattle.std.specs.Prelude.{◌≡◌, ◌+◌, ◌≤◌, ◌/◌, ◌++◌, [], ◌∷◌, max, true, Some, sum, sum_by, IfOk, IfErr, OnOk, OnErr};
+ghost use Rattle.fair_terms.specs.Fair.{IsFair};
 ghost use Rattle.limit_tree.specs.Outline.{limits as seen};
-ghost use Rattle.limit_tree.specs.Sharing.{IsBest};
 ghost use Rattle.line_rates.specs.Rates.{Rates};
 ghost use Rattle.lane_desk.specs.Traces.{traces, IsRoundOf, IsSameRound};
 ghost use Rattle.lane_desk.specs.Tried.{is_given};
@@ -183,7 +183,9 @@ impl<N, A: Allocator> PacedRounds<N, A> {
             IfOk result (λ r. IsRoundOver (is_given given.now) p.offered (p.moment / 100)
             (traces self.old.rounds.desk) (traces self.new.rounds.desk) r.answered
             (seen r.sealed.tree) r.lanes.items r.asks.items r.sealed.grants) }
-        ensures best { IfOk result (λ r. IsBest (seen r.sealed.tree) r.sealed.grants) }
+        ensures best { let p = offer_round (tick_of (max now self.old.latest)) self.old.pace in
+            IfOk result (λ r. IsFair p.offered.share_by r.asks.items (seen r.sealed.tree)
+            r.sealed.grants) }
         ensures issued { IfOk result (λ r.
             self.new.rounds.book.issued ≡ self.old.rounds.book.issued + sum r.sealed.grants) }
         ensures last_tick { let p = offer_round (tick_of (max now self.old.latest)) self.old.pace in

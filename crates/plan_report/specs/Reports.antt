@@ -1,5 +1,5 @@
 -- The plan of a configuration. It is proved that a plan of some transfers is printed from shares
--- that are best, and that the JSON has these shares; which transfers a word states, and the lines,
+-- that are fair, and that the JSON has these shares; which transfers a word states, and the lines,
 -- are only tested.
 use Rattle.std.specs.Prelude.{◌≡◌, ◌++◌, ℕ, List, [], ◌∷◌, Some}
 use Rattle.serde_json.specs.Data.{Data}
@@ -11,7 +11,8 @@ use Rattle.config_file.specs.declared.tables.Tables.{Tables}
 use Rattle.rate_plan.specs.Plan.{IsPlanned}
 use Rattle.rate_plan.specs.declared.asks.Transfer.{Transfer}
 use Rattle.rate_plan.specs.declared.shares.TransferShare.{TransferShare}
-use Rattle.line_rates.specs.Rates.{Rates}
+use Rattle.line_rates.specs.Rates.{Rates, shared_by}
+use Rattle.line_rates.specs.declared.share_by.ShareBy.{ShareBy}
 use Rattle.server_config.specs.Configs.{IsConfigText}
 use Rattle.server_config.specs.Refused.{IsFaultOfText}
 use Rattle.server_config.specs.declared.config.Config.{Config}
@@ -27,11 +28,12 @@ pub record HasShares (rates : Rates) : Type 0 where
   pub shares : List TransferShare
   pub planned : IsPlanned rates sessions lanes transfers shares
 
--- the text has a configuration, by whose rates transfers are planned
-pub record IsPlanReport (octets : List ℕ) : Type 0 where
+-- the text has a configuration, by whose rates transfers are planned on a line that is shared among
+-- these
+pub record IsPlanReport (by : ShareBy) (octets : List ℕ) : Type 0 where
   pub config : Config
   pub read : IsConfigText octets config
-  pub shares : HasShares config.limits
+  pub shares : HasShares (shared_by by config.limits)
 
 -- these are the shares of some transfers, planned by these rates
 abbrev pub ArePlanned : Rates → List TransferShare → Type 0
@@ -52,14 +54,14 @@ pub record IsPlanText (tables : Tables) (rates : Rates) (text : List ℕ) : Type
 
 -- the octets have a configuration, and the text has the plan of some transfers by its rates, with
 -- the names that its tables state
-pub record IsPlanJson (octets text : List ℕ) : Type 0 where
+pub record IsPlanJson (by : ShareBy) (octets text : List ℕ) : Type 0 where
   pub config : Config
   pub configured : IsConfigText octets config
   pub document : Members
   pub parsed : parse_document octets ≡ Some document
   pub tables : Tables
   pub stated : IsTables document tables
-  pub plan : IsPlanText tables config.limits text
+  pub plan : IsPlanText tables (shared_by by config.limits) text
 
 -- the configuration is refused for that fault
 abbrev pub IsNoPlan : List ℕ → NoPlan → Type 0

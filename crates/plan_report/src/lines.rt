@@ -5,7 +5,7 @@ ghost use Rattle.plan_report.specs.PlanData.{group_text, held_text, user_text, w
 
 use crate::parts::{Part, parts_of, total_of};
 use config_file::{GroupTable, ServerTable, UserTable};
-use line_rates::{Name, Way};
+use line_rates::{Name, ShareBy, Way};
 use rate_columns::{write_megabits, write_megabits_column, write_rate_column};
 use rate_plan::TransferShare;
 use std::alloc::{AllocError, Global};
@@ -68,6 +68,10 @@ pub(crate) fn write_held(
     }
 }
 
+/// The last line of a plan among users.
+const AMONG_USERS: &str =
+    "shared among users: one share each way, and one for all who are anonymous\n";
+
 fn write_part(text: &mut String, named: Named<'_, '_>, part: Part) -> Result<(), AllocError> {
     let (count, grant) = (part.count, part.grant);
     write!(
@@ -122,10 +126,11 @@ fn write_both(text: &mut String, shares: &[TransferShare], rate: u64) -> Result<
     write_total(text, "both", total, rate)
 }
 
-/// The lines of a plan: a head, one for each part, and the totals.
+/// The lines of a plan: a head, one for each part, and the totals; among users, whose shares they are.
 pub(crate) fn lines_of(
     alloc: Global,
     named: Named<'_, '_>,
+    share_by: ShareBy,
     shares: &[TransferShare],
 ) -> Result<String, AllocError> {
     let parts = parts_of(alloc, shares)?;
@@ -141,5 +146,8 @@ pub(crate) fn lines_of(
     write_way(&mut text, Way::Down, shares, named.server.down_rate)?;
     write_way(&mut text, Way::Up, shares, named.server.up_rate)?;
     write_both(&mut text, shares, named.server.rate)?;
+    if share_by == ShareBy::Users {
+        text.push_str(AMONG_USERS)?;
+    }
     Ok(text)
 }

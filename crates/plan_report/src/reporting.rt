@@ -1,6 +1,7 @@
 //! The plan of a configuration, from its text.
 
 ghost use Rattle.std.specs.Prelude.{◌≡◌, IfErr, IfOk, string_bytes};
+ghost use Rattle.line_rates.specs.Rates.{shared_by};
 ghost use Rattle.server_config.specs.Configs.{IsConfigText};
 ghost use Rattle.plan_report.specs.Reports.{ArePlanned, HasShares, IsNoPlan, IsNoPlanOf, IsPlanJson, IsPlanReport, IsPlanText};
 
@@ -9,7 +10,7 @@ use crate::lines::{Named, lines_of, user_name, way_text, write_held};
 use crate::values::json_text;
 use crate::wishes::{too_many, transfers_of};
 use config_file::{Tables, read_tables};
-use line_rates::{Limits, Name};
+use line_rates::{Limits, Name, ShareBy};
 use rate_plan::{Transfer, TransferShare, Unplanned, plan_of};
 use server_config::{Config, ConfigFault};
 use std::alloc::{AllocError, Global};
@@ -74,10 +75,12 @@ fn no_plan(
             not_guaranteed(alloc, named, limits, transfers, place, name)
         }
         Unplanned::Memory => return NoPlan::Memory,
+        Unplanned::Unshared => { String::from_str(alloc, "no division among the users was found") }
         _ => String::from_str(alloc, "a rate is too large for so many transfers"),
     };
     let name = match fault {
         Unplanned::NotGuaranteed(_, _) => "NotGuaranteed",
+        Unplanned::Unshared => "Unshared",
         _ => "RateTooLarge",
     };
     match reported {
@@ -127,7 +130,7 @@ fn reported_of(
 {
     let named = named_of(tables);
     let shares = shares_of(alloc, named, limits, wishes)?;
-    let text = lines_of(alloc, named, &shares)?;
+    let text = lines_of(alloc, named, limits.share_by(), &shares)?;
     Ok(text)
 }
 
@@ -139,6 +142,13 @@ fn json_of(alloc: Global, tables: &Tables, limits: &Limits, wishes: &str) -> Res
     let shares = shares_of(alloc, named, limits, wishes)?;
     let text = json_text(alloc, named, &shares)?;
     Ok(text)
+}
+
+// The limits of a configuration, of a line that is shared among these.
+fn limits_of(config: Config, share_by: ShareBy) -> Limits
+    ensures limits { result ≡ shared_by share_by config.limits }
+{
+    config.limits.shared_by(share_by)
 }
 
 /// The configuration of a text.
@@ -154,9 +164,14 @@ fn config_of(alloc: Global, octets: &[u8]) -> Result<Config, NoPlan>
 }
 
 /// The plan of the transfers that a word states, by a configuration's text, in lines: who gets how much of a second, and
-/// which limit holds each back.
-pub fn plan_lines(alloc: Global, octets: &[u8], wishes: &str) -> Result<String, NoPlan>
-    ensures planned { IfOk result (λ _. IsPlanReport octets.now) }
+/// which limit holds each back, if the line is shared among its sessions, or among its users.
+pub fn plan_lines(
+    alloc: Global,
+    octets: &[u8],
+    share_by: ShareBy,
+    wishes: &str,
+) -> Result<String, NoPlan>
+    ensures planned { IfOk result (λ _. IsPlanReport share_by octets.now) }
     ensures fault { IfErr result (IsNoPlan octets.now) }
 {
     let config = config_of(alloc, octets)?;
@@ -166,12 +181,18 @@ pub fn plan_lines(alloc: Global, octets: &[u8], wishes: &str) -> Result<String, 
     let Ok(tables) = read_tables(alloc, &document) else {
         return Err(NoPlan::Memory);
     };
-    reported_of(alloc, &tables, &config.limits, wishes)
+    let limits = limits_of(config, share_by);
+    reported_of(alloc, &tables, &limits, wishes)
 }
 
 /// The same plan as JSON, with a row for each transfer, and a line feed.
-pub fn plan_json(alloc: Global, octets: &[u8], wishes: &str) -> Result<String, NoPlan>
-    ensures planned { IfOk result (λ text. IsPlanJson octets.now (string_bytes text)) }
+pub fn plan_json(
+    alloc: Global,
+    octets: &[u8],
+    share_by: ShareBy,
+    wishes: &str,
+) -> Result<String, NoPlan>
+    ensures planned { IfOk result (λ text. IsPlanJson share_by octets.now (string_bytes text)) }
     ensures fault { IfErr result (IsNoPlan octets.now) }
 {
     let config = config_of(alloc, octets)?;
@@ -181,5 +202,6 @@ pub fn plan_json(alloc: Global, octets: &[u8], wishes: &str) -> Result<String, N
     let Ok(tables) = read_tables(alloc, &document) else {
         return Err(NoPlan::Memory);
     };
-    json_of(alloc, &tables, &config.limits, wishes)
+    let limits = limits_of(config, share_by);
+    json_of(alloc, &tables, &limits, wishes)
 }

@@ -21,7 +21,8 @@ fn grants_are_checked(rt: HostRuntime) {
         input: Some(Given::Whole(LUNCH_GRANTS)),
     };
     let (sheet, grants) = ("file", STANDARD_INPUT);
-    let words = SheetWords::Check { sheet, grants };
+    let by = None;
+    let words = SheetWords::Check { sheet, grants, by };
     let ending = run_sheet_words(rt.alloc(), words, &mut files, &mut output);
     holds(&rt, ending.status() == 0);
     same(&rt, &output, "yes\n");

@@ -92,7 +92,7 @@ fn grants_are_not_read(rt: HostRuntime) {
     let mut output = Vec::new(rt.alloc());
     let mut sheet = FallibleIo(Given::Broken(LUNCH, 20).reader());
     let mut grants = LUNCH_GRANTS.as_bytes();
-    let answer = run_check(rt.alloc(), &mut sheet, &mut grants, &mut output);
+    let answer = run_check(rt.alloc(), None, &mut sheet, &mut grants, &mut output);
     holds(
         &rt,
         answer == Err(CheckFault::SheetText(TextFault::ReadFault)),

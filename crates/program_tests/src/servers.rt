@@ -5,7 +5,7 @@ use crate::expect::{holds, reports, same};
 use crate::texts::SMALL;
 use ftpd_program::{
     FtpdErrorText, FtpdExit, IdleOption, Patience, ReadConfig, ServeFault, ServeFiles, Server,
-    StartFault, idle_sessions, idle_sync, is_for_nothing, reads_input_again, run_words,
+    ShareBy, StartFault, idle_sessions, idle_sync, is_for_nothing, reads_input_again, run_words,
     stated_sessions,
 };
 use std::alloc::Global;
@@ -36,6 +36,8 @@ pub(crate) struct Noting {
     log_form: Option<String>,
     /// The last patience.
     patience: Option<Patience>,
+    /// The last way of sharing.
+    share_by: Option<ShareBy>,
     /// The last configuration had warnings.
     is_warned: bool,
     fault: Option<ServeFault>,
@@ -54,6 +56,7 @@ impl Noting {
             transfer_log: None,
             log_form: None,
             patience: None,
+            share_by: None,
             is_warned: false,
             fault: None,
         }
@@ -88,6 +91,7 @@ impl<W: TextWriter> Server<W> for Noting {
         self.transfer_log = copied(alloc, files.transfer_log);
         self.log_form = copied(alloc, files.log_form);
         self.patience = Some(patience);
+        self.share_by = Some(files.share_by);
         if output.write_text(b"ready\n").is_err() {
             return Err(ServeFault::WriteFault);
         }
@@ -180,7 +184,7 @@ fn a_server_is_given_its_files(rt: HostRuntime) {
 }
 
 #[test]
-fn a_server_is_given_its_log(rt: HostRuntime) {
+fn a_server_is_given_its_log_and_its_way(rt: HostRuntime) {
     let mut output = Vec::new(rt.alloc());
     let mut server = Noting::new();
     let words = [
@@ -195,6 +199,11 @@ fn a_server_is_given_its_log(rt: HostRuntime) {
     holds(&rt, ending.status() == 0);
     is_path(&rt, &server.transfer_log, "xferlog");
     is_path(&rt, &server.log_form, "journal");
+    holds(&rt, server.share_by == Some(ShareBy::Sessions));
+    let words = ["serve", "file", "--share-by", "users"];
+    let ending = served(&rt, &words, SMALL, &mut server, &mut output);
+    holds(&rt, ending.status() == 0);
+    holds(&rt, server.share_by == Some(ShareBy::Users));
 }
 
 /// Faults of a server, and their names.

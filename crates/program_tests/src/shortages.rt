@@ -3,8 +3,8 @@
 use crate::expect::{holds, reports, same};
 use crate::texts::{LUNCH, LUNCH_GRANTS, LUNCH_LINES};
 use linked_list_allocator::LocalHeap;
-use sheet_check::{CheckFault, run_check, verdict_of};
-use sheet_share::{Share, ShareFault, lines_of, run_share, sharing_of};
+use sheet_check::{CheckFault, run_check, verdict_at, verdict_of};
+use sheet_share::{Share, ShareFault, lines_of, run_share, sharing_at, sharing_of};
 use sheet_text::{Sheet, read_sheet};
 use std::process::Abort;
 use test_scarce_memory::leave_hole;
@@ -34,6 +34,8 @@ enum Asked {
     Lines,
     Sharing,
     Verdict,
+    UserSharing,
+    UserVerdict,
     Text,
 }
 
@@ -41,7 +43,7 @@ enum Asked {
 type Row = (Asked, &'static str, usize, usize);
 
 /// A text for which first its buffer is refused, then itself.
-static ROWS: [Row; 5] = [
+static ROWS: [Row; 7] = [
     (Asked::NoLines, "total 0\n", 0, 1),
     (
         Asked::Lines,
@@ -51,6 +53,8 @@ static ROWS: [Row; 5] = [
     ),
     (Asked::Sharing, LUNCH_LINES, 0, 9),
     (Asked::Verdict, "yes\n", 0, 5),
+    (Asked::UserSharing, LUNCH_LINES, 0, 20),
+    (Asked::UserVerdict, "yes\n", 0, 8),
     (Asked::Text, LUNCH, 65_280, 1),
 ];
 
@@ -73,6 +77,21 @@ fn answer<'h>(
         Asked::Verdict => same(
             rt,
             verdict_of(heap, sheet, LUNCH_GRANTS.as_bytes())?
+                .line
+                .as_str()
+                .as_bytes(),
+            text,
+        ),
+        Asked::UserSharing => match sharing_at(heap, LUNCH.as_bytes(), 1) {
+            Ok(lines) => same(rt, lines.as_str().as_bytes(), text),
+            Err(fault) => {
+                holds(rt, fault == ShareFault::Text(TextFault::Memory));
+                return Err(CheckFault::Text(TextFault::Memory));
+            }
+        },
+        Asked::UserVerdict => same(
+            rt,
+            verdict_at(heap, sheet, LUNCH_GRANTS.as_bytes(), 1)?
                 .line
                 .as_str()
                 .as_bytes(),
@@ -133,17 +152,17 @@ const BEFORE: &str = "before\n";
 
 /// Checks that the buffer of a read is refused.
 fn are_not_read(rt: &impl Abort, heap: &LocalHeap, output: &mut Vec<u8>) {
-    let shared = run_share(heap, &mut LUNCH.as_bytes(), output);
+    let shared = run_share(heap, None, &mut LUNCH.as_bytes(), output);
     holds(rt, shared == Err(ShareFault::Text(TextFault::Memory)));
     let (mut sheet, mut grants) = (LUNCH.as_bytes(), LUNCH_GRANTS.as_bytes());
-    let judged = run_check(heap, &mut sheet, &mut grants, output);
+    let judged = run_check(heap, None, &mut sheet, &mut grants, output);
     holds(rt, judged == Err(CheckFault::SheetText(TextFault::Memory)));
 }
 
 /// Checks that a list that cannot grow refuses the lines, and is unchanged.
 fn are_not_written(rt: &(impl Abort + AllocGlobal), heap: &LocalHeap) {
     let mut output = Vec::new(heap);
-    let shared = run_share(rt.alloc(), &mut LUNCH.as_bytes(), &mut output);
+    let shared = run_share(rt.alloc(), None, &mut LUNCH.as_bytes(), &mut output);
     holds(rt, shared == Err(ShareFault::Text(TextFault::WriteFault)));
     holds(rt, output.is_empty());
 }

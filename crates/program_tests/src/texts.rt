@@ -7,6 +7,16 @@ pub(crate) const LUNCH_LINES: &str =
 
 pub(crate) const LUNCH_GRANTS: &str = "grant /a 4 /\ngrant /b 3 /\ngrant /c 3 /\n";
 
+/// A sheet of two users by depth 1, of unlike many wants; its lines, and its grants.
+pub(crate) const TWO_USERS: &str =
+    "limit / 12\nwant /ann 100\nwant /bob/1 100\nwant /bob/2 100\nwant /bob/3 100\n";
+
+pub(crate) const TWO_USERS_LINES: &str =
+    "/ann 6 of 100 full /\n/bob/1 2 of 100 full /\n/bob/2 2 of 100 full /\n/bob/3 2 of 100 full /\ntotal 12\n";
+
+pub(crate) const TWO_USERS_GRANTS: &str =
+    "grant /ann 6\ngrant /bob/1 2\ngrant /bob/2 2\ngrant /bob/3 2\n";
+
 /// A configuration of one user, and the same in version 2.
 pub(crate) const SMALL: &str =
     "version = 1\n[server]\nroot = \"memory\"\npassive_last = 40001\npassive_first = 40000\n[[user]]\nname = \"ann\"\npassword = \"secret\"\nhome = \"/\"\n";

@@ -2,7 +2,8 @@
 
 use crate::expect::holds;
 use command_line::{
-    Patience, ServeFiles, SheetWords, Words, read_sheet_words, read_usage_words, read_words,
+    Patience, ServeFiles, ShareBy, SheetWords, Words, WordsFault, read_sheet_words,
+    read_usage_words, read_words, stated_depth,
 };
 use std::process::Abort;
 
@@ -79,6 +80,7 @@ const NO_FILES: ServeFiles<'static> = ServeFiles {
     syncs: false,
     end_file: None,
     user_sessions: None,
+    share_by: ShareBy::Sessions,
 };
 
 /// Checks that these words are those of `serve` for `office.toml`, with those files and that patience.
@@ -196,6 +198,14 @@ fn words_on_a_server(rt: HostRuntime) {
     };
     let words = ["serve", config, "--end-file", "end", "--user-sessions", "3"];
     serves(&rt, &words, counted, usual);
+    let by_users = ServeFiles {
+        share_by: ShareBy::Users,
+        ..NO_FILES
+    };
+    let words = ["serve", "--share-by", "users", config];
+    serves(&rt, &words, by_users, usual);
+    let words = ["serve", config, "--share-by=sessions"];
+    serves(&rt, &words, NO_FILES, usual);
 }
 
 // Words that ask for the transfers of a running server.
@@ -221,21 +231,26 @@ fn words_on_a_status(rt: HostRuntime) {
     shows(&rt, &["top", "--rows=500", "status.json"], false, 500);
 }
 
-// Words that ask for a plan of one transfer, in lines or as JSON.
-fn plans(rt: &(impl Abort + AllocGlobal), words: &[&str], json: bool) {
+// Words that ask for a plan of one transfer, in lines or as JSON, by one of the ways of sharing.
+fn plans(rt: &(impl Abort + AllocGlobal), words: &[&str], json: bool, share_by: ShareBy) {
     let command = read_words(rt.alloc(), words).expect(rt, "a command");
     let wanted = Words::Plan {
         config: "office.toml",
         transfers: "ann=1",
         json,
+        share_by,
     };
     holds(rt, command == wanted);
 }
 
 #[test]
 fn words_on_a_plan(rt: HostRuntime) {
-    plans(&rt, &["plan", "office.toml", "ann=1"], false);
-    plans(&rt, &["plan", "office.toml", "ann=1", "--json"], true);
+    let words = ["plan", "office.toml", "ann=1"];
+    plans(&rt, &words, false, ShareBy::Sessions);
+    let words = ["plan", "office.toml", "ann=1", "--json"];
+    plans(&rt, &words, true, ShareBy::Sessions);
+    let words = ["plan", "office.toml", "ann=1", "--share-by", "users"];
+    plans(&rt, &words, false, ShareBy::Users);
 }
 
 #[test]
@@ -271,16 +286,56 @@ fn are_of_both(rt: &(impl Abort + AllocGlobal), words: &[&str], wanted: SheetWor
 #[test]
 fn words_on_a_sheet(rt: HostRuntime) {
     for sheet in ["a", "lunch.sheet", "/dev/stdin", "a b"] {
-        let lines = SheetWords::Share { sheet, svg: false };
+        let lines = SheetWords::Share {
+            sheet,
+            svg: false,
+            by: None,
+        };
         are_of_both(&rt, &["share", sheet], lines);
     }
     let sheet = "lunch.sheet";
-    let picture = SheetWords::Share { sheet, svg: true };
+    let picture = SheetWords::Share {
+        sheet,
+        svg: true,
+        by: None,
+    };
     are_of_both(&rt, &["share", sheet, "--svg"], picture);
     are_of_both(&rt, &["share", "--svg", sheet], picture);
+    let by_users = SheetWords::Share {
+        sheet,
+        svg: true,
+        by: Some("2"),
+    };
+    are_of_both(&rt, &["share", sheet, "--svg", "--by", "2"], by_users);
     let (sheet, grants) = ("office.sheet", "office.grants");
-    let words = ["check", sheet, grants];
-    are_of_both(&rt, &words, SheetWords::Check { sheet, grants });
+    let plain = SheetWords::Check {
+        sheet,
+        grants,
+        by: None,
+    };
+    are_of_both(&rt, &["check", sheet, grants], plain);
+    let by_users = SheetWords::Check {
+        sheet,
+        grants,
+        by: Some("x"),
+    };
+    are_of_both(&rt, &["check", "--by=x", sheet, grants], by_users);
+}
+
+#[test]
+fn depths_in_words(rt: HostRuntime) {
+    for (word, depth) in [("0", 0), ("1", 1), ("16", 16), ("99", 99), ("007", 7)] {
+        let stated = stated_depth(rt.alloc(), Some(word));
+        holds(&rt, matches!(stated, Ok(Some(found)) if found == depth));
+    }
+    holds(&rt, matches!(stated_depth(rt.alloc(), None), Ok(None)));
+    for word in ["", "100", "+1", "-1", "1.", "one", "4294967297"] {
+        let stated = stated_depth(rt.alloc(), Some(word));
+        holds(
+            &rt,
+            matches!(stated, Err(WordsFault::Refused { is_help: false, .. })),
+        );
+    }
 }
 
 #[test]

@@ -18,9 +18,10 @@ use Rattle.line_rates.specs.declared.ask.Way.{Way}
 use Rattle.line_rates.specs.declared.ask.Way.TheVariants.{Down, Up}
 use Rattle.line_rates.specs.declared.row.GroupRate.{GroupRate}
 use Rattle.line_rates.specs.declared.row.UserRate.{UserRate}
+use Rattle.line_rates.specs.declared.share_by.ShareBy.{ShareBy}
 use Rattle.line_rates.specs.Names.{is_number}
 use Rattle.line_rates.specs.Rates.{Rates, group_rate, user_rate, session_rate, rate_of}
-use Rattle.line_rates.specs.Stated.{by_number, stated, group_number, user_number, IsRising, FitsUser}
+use Rattle.line_rates.specs.Stated.{by_number, group_number, user_number, IsRising, FitsUser}
 use Rattle.line_rates.proofs.RowLemmas.{rising_below, first_row, get-by_number, other_number}
 use Rattle.rate_floors.specs.declared.carry.CarryFault.{CarryFault}
 use Rattle.rate_floors.specs.declared.carry.CarryFault.TheVariants.{TooLarge, Broken}
@@ -424,7 +425,8 @@ names_a_broken_limit p name n rate rows e = names_broken p rows name n rate e
 
 -- ---- what the code has when all sums are made
 
-pub record IsReady (rates : Rates) (server down up promised_down promised_up : ℕ) (rows : List GroupRate) (groups : List GroupPromise) (users : List UserSessions) : Type 0 where
+pub record IsReady (rates : Rates) (share_by : ShareBy) (server down up promised_down promised_up : ℕ) (rows : List GroupRate) (groups : List GroupPromise) (users : List UserSessions) : Type 0 where
+  pub share_is : share_by ≡ rates.share_by
   pub server_is : server ≡ rates.server
   pub down_is : down ≡ rates.down
   pub up_is : up ≡ rates.up
@@ -440,17 +442,18 @@ pub record IsReady (rates : Rates) (server down up promised_down promised_up : �
   pub up_reported : promised_up ≡ promised users Up
   pub small : promised_down + promised_up ≤ MAX_PROMISED
 
-module _ (rates : Rates) (server down up promised_down promised_up : ℕ) (rows : List GroupRate) (groups : List GroupPromise) (users : List UserSessions) (ready : IsReady rates server down up promised_down promised_up rows groups users) where
+module _ (rates : Rates) (share_by : ShareBy) (server down up promised_down promised_up : ℕ) (rows : List GroupRate) (groups : List GroupPromise) (users : List UserSessions) (ready : IsReady rates share_by server down up promised_down promised_up rows groups users) where
   abbrev now : Promises
   now = record { rates = rates; users = users }
 
-  pub ready_seen : seen server down up groups users ≡ record { rates = rates; users = users }
+  pub ready_seen : seen share_by server down up groups users ≡ record { rates = rates; users = users }
   ready_seen =
-      ap (λ x. record { rates = stated x down up (map group_row groups) (map user_row users); users = users }) ready.server_is
-      ∙ ap (λ x. record { rates = stated rates.server x up (map group_row groups) (map user_row users); users = users }) ready.down_is
-      ∙ ap (λ x. record { rates = stated rates.server rates.down x (map group_row groups) (map user_row users); users = users }) ready.up_is
-      ∙ ap (λ m. record { rates = record { server = rates.server; down = rates.down; up = rates.up; groups = m; users = by_number user_number (map user_row users) }; users = users }) (ap (by_number group_number) ready.groups_are ∙ ready.rows_are)
-      ∙ ap (λ m. record { rates = record { server = rates.server; down = rates.down; up = rates.up; groups = rates.groups; users = m }; users = users }) ready.users_are
+      ap (λ x. seen x server down up groups users) ready.share_is
+      ∙ ap (λ x. seen rates.share_by x down up groups users) ready.server_is
+      ∙ ap (λ x. seen rates.share_by rates.server x up groups users) ready.down_is
+      ∙ ap (λ x. seen rates.share_by rates.server rates.down x groups users) ready.up_is
+      ∙ ap (λ m. record { rates = record { server = rates.server; down = rates.down; up = rates.up; groups = m; users = by_number user_number (map user_row users); share_by = rates.share_by }; users = users }) (ap (by_number group_number) ready.groups_are ∙ ready.rows_are)
+      ∙ ap (λ m. record { rates = record { server = rates.server; down = rates.down; up = rates.up; groups = rates.groups; users = m; share_by = rates.share_by }; users = users }) ready.users_are
 
   pub ready_rows : HasRows now
   ready_rows = record {
@@ -490,7 +493,7 @@ module _ (rates : Rates) (server down up promised_down promised_up : ℕ) (rows 
       ap (λ b. cond b (Some TooLarge) (broken_limit now)) (le-ltb MAX_PROMISED (promised users Down + promised users Up) within)
       ∙ sym limit_found
 
-  pub ready_kept : found ≡ None → IsKept server down up promised_down promised_up groups users
+  pub ready_kept : found ≡ None → IsKept share_by server down up promised_down promised_up groups users
   ready_kept none = record {
     reported = record {
       down_reported = ready.down_reported;

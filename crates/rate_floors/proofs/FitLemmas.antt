@@ -9,6 +9,7 @@ use Rattle.std.proofs.lemmas.List.Elements.{All-set}
 use Rattle.line_rates.specs.declared.ask.Way.{Way}
 use Rattle.line_rates.specs.declared.ask.Way.TheVariants.{Down, Up}
 use Rattle.line_rates.specs.declared.row.UserRate.{UserRate}
+use Rattle.line_rates.specs.declared.share_by.ShareBy.{ShareBy}
 use Rattle.line_rates.specs.Names.{is_number}
 use Rattle.line_rates.specs.Rates.{group_rate}
 use Rattle.line_rates.specs.Stated.{by_number, user_number, IsRising}
@@ -176,12 +177,12 @@ module _ (p : Promises) (user : ℕ) (fit : PromisesFit p) where
 pub keeps_nothing : (n rate : ℕ) → n ≡ 0 → keeps n rate ≡ true
 keeps_nothing n rate e = or_right (nat_eq rate 0) (nat_le n rate) (le-leb n rate (omega arith))
 
-pub fit_none : (server down up : ℕ) (groups : List GroupPromise) (users : List UserRate) → IsRising user_number users → PromisesFit (seen server down up groups (map no_session users))
-fit_none server down up groups users rising = record {
+pub fit_none : (share_by : ShareBy) (server down up : ℕ) (groups : List GroupPromise) (users : List UserRate) → IsRising user_number users → PromisesFit (seen share_by server down up groups (map no_session users))
+fit_none share_by server down up groups users rising = record {
   rows = refl;
   rising = rising_mapped user_number user_key no_session users (λ row. refl) rising;
   users = all_mapped (λ row. ⊤) (λ (x : UserSessions). entry_fits x ≡ true) no_session users (λ row h. refl) (λ k d lt. tt);
-  groups = λ g. both _ _ (keeps_nothing (promised_group (map no_session users) Down g) (group_rate (finite.get (seen server down up groups (map no_session users)).rates.groups g) Down) (none_of Down g)) (keeps_nothing (promised_group (map no_session users) Up g) (group_rate (finite.get (seen server down up groups (map no_session users)).rates.groups g) Up) (none_of Up g));
+  groups = λ g. both _ _ (keeps_nothing (promised_group (map no_session users) Down g) (group_rate (finite.get (seen share_by server down up groups (map no_session users)).rates.groups g) Down) (none_of Down g)) (keeps_nothing (promised_group (map no_session users) Up g) (group_rate (finite.get (seen share_by server down up groups (map no_session users)).rates.groups g) Up) (none_of Up g));
   line = both _ _
       (both _ _ (keeps_nothing (promised (map no_session users) Down) down (none_promised Down users)) (keeps_nothing (promised (map no_session users) Up) up (none_promised Up users)))
       (keeps_nothing (promised (map no_session users) Down + promised (map no_session users) Up) server (let a = none_promised Down users in let b = none_promised Up users in omega arith));

@@ -10,8 +10,9 @@ use Rattle.line_rates.specs.declared.ask.Way.{Way}
 use Rattle.line_rates.specs.declared.ask.Way.TheVariants.{Down, Up}
 use Rattle.line_rates.specs.declared.row.GroupRate.{GroupRate}
 use Rattle.line_rates.specs.declared.row.UserRate.{UserRate}
+use Rattle.line_rates.specs.declared.share_by.ShareBy.{ShareBy}
 use Rattle.line_rates.specs.Names.{is_number}
-use Rattle.line_rates.specs.Rates.{Rates, group_rate}
+use Rattle.line_rates.specs.Rates.{Rates, shared_by, group_rate}
 use Rattle.line_rates.specs.Stated.{by_number, stated, group_number, user_number, IsRising, FitsUser}
 use Rattle.line_rates.proofs.RowLemmas.{first_row, get-by_number}
 use Rattle.rate_floors.specs.declared.find.GroupPromise.{GroupPromise}
@@ -149,12 +150,12 @@ rows_of_users : (rows : List UserRate) → map user_row (map no_session rows) �
 rows_of_users [] = refl
 rows_of_users (row ∷ rows) = ap (λ rs. row ∷ rs) (rows_of_users rows)
 
-pub same_limits : (r : Rates) (groups : List GroupRate) (users : List UserRate) → by_number group_number groups ≡ r.groups → by_number user_number users ≡ r.users → stated r.server r.down r.up (map group_row (map no_promise groups)) (map user_row (map no_session users)) ≡ r
+pub same_limits : (r : Rates) (groups : List GroupRate) (users : List UserRate) → by_number group_number groups ≡ r.groups → by_number user_number users ≡ r.users → shared_by r.share_by (stated r.server r.down r.up (map group_row (map no_promise groups)) (map user_row (map no_session users))) ≡ r
 same_limits r groups users gs us =
-    ap (λ rows. stated r.server r.down r.up rows (map user_row (map no_session users))) (rows_of_groups groups)
-    ∙ ap (stated r.server r.down r.up groups) (rows_of_users users)
-    ∙ ap (λ m. record { server = r.server; down = r.down; up = r.up; groups = m; users = by_number user_number users }) gs
-    ∙ ap (λ m. record { server = r.server; down = r.down; up = r.up; groups = r.groups; users = m }) us
+    ap (λ rows. shared_by r.share_by (stated r.server r.down r.up rows (map user_row (map no_session users)))) (rows_of_groups groups)
+    ∙ ap (λ rows. shared_by r.share_by (stated r.server r.down r.up groups rows)) (rows_of_users users)
+    ∙ ap (λ m. record { server = r.server; down = r.down; up = r.up; groups = m; users = by_number user_number users; share_by = r.share_by }) gs
+    ∙ ap (λ m. record { server = r.server; down = r.down; up = r.up; groups = r.groups; users = m; share_by = r.share_by }) us
 
 pub none_counted : (users : List UserRate) → All (λ (entry : UserSessions). entry.sessions ≡ 0) (map no_session users)
 none_counted users = all_mapped (λ row. ⊤) (λ (entry : UserSessions). entry.sessions ≡ 0) no_session users (λ row h. refl) (λ k d lt. tt)
@@ -180,12 +181,12 @@ module _ (users : List UserSessions) (user i : ℕ) (entry : UserSessions) (at :
   entry_stands p same = ap (user_of p) entry_key ∙ ap (λ us. finite.get (by_number user_key us) user) (sym same) ∙ at.1 entry ∙ ap (λ x. Some x) (sym is)
 
   -- the struct's value once the entry is changed
-  pub changed_value : (server down up : ℕ) (groups gs : List GroupPromise) (change : ℕ → ℕ) (by : ℕ → ℕ → ℕ) (p : Promises) → IsRising user_key users → seen server down up groups users ≡ p → gs ≡ map (with_floors by entry.row) groups
-      → seen server down up gs (set users i (record { row = entry.row; sessions = change entry.sessions })) ≡ changed change p user
-  changed_value server down up groups gs change by p rise is_p is_gs =
-      ap (λ (x : UserSessions). seen server down up gs (set users i (record { row = x.row; sessions = change x.sessions }))) is
-      ∙ ap (λ rs. record { rates = rs; users = set users i (entry_with change (get_or users i entry)) }) (ap (λ g. stated server down up (map group_row g) (map user_row (set users i (entry_with change (get_or users i entry))))) is_gs ∙ same_rates users user i entry rise at server down up groups change by entry.row)
-      ∙ ap (λ us. record { rates = stated server down up (map group_row groups) (map user_row users); users = us }) (sym (users-set users user i entry rise at change))
+  pub changed_value : (share_by : ShareBy) (server down up : ℕ) (groups gs : List GroupPromise) (change : ℕ → ℕ) (by : ℕ → ℕ → ℕ) (p : Promises) → IsRising user_key users → seen share_by server down up groups users ≡ p → gs ≡ map (with_floors by entry.row) groups
+      → seen share_by server down up gs (set users i (record { row = entry.row; sessions = change entry.sessions })) ≡ changed change p user
+  changed_value share_by server down up groups gs change by p rise is_p is_gs =
+      ap (λ (x : UserSessions). seen share_by server down up gs (set users i (record { row = x.row; sessions = change x.sessions }))) is
+      ∙ ap (λ rs. record { rates = rs; users = set users i (entry_with change (get_or users i entry)) }) (ap (λ g. shared_by share_by (stated server down up (map group_row g) (map user_row (set users i (entry_with change (get_or users i entry)))))) is_gs ∙ ap (shared_by share_by) (same_rates users user i entry rise at server down up groups change by entry.row))
+      ∙ ap (λ us. record { rates = shared_by share_by (stated server down up (map group_row groups) (map user_row users)); users = us }) (sym (users-set users user i entry rise at change))
       ∙ ap (λ q. changed change q user) is_p
 
   module _ (down up : ℕ) (groups gs : List GroupPromise) (reported : IsReported down up groups users) where

@@ -1,5 +1,5 @@
 -- Why one more session is refused: the sums of its group, and that there is a reason exactly if it does not fit.
-use Rattle.std.proofs.Common.{◌≡◌, ◌↔◌, ℕ, ◌+◌, ◌<◌, Bool, true, false, ◌&&◌, cond, List, length, map, get_or, sym, refl, ap, ◌∙◌, subst, Option, Some, None}
+use Rattle.std.proofs.Common.{◌≡◌, ◌↔◌, ℕ, ◌+◌, Bool, true, false, ◌&&◌, cond, List, map, get_or, sym, refl, ap, ◌∙◌, Option, Some, None}
 use Rattle.std.specs.FinMap as finite
 use Rattle.std.specs.Option.{option_map, option_or}
 use Rattle.std.proofs.lemmas.Bool.{and_parts}
@@ -14,9 +14,9 @@ use Rattle.rate_floors.specs.declared.carry.CarryFault.{CarryFault}
 use Rattle.rate_floors.specs.declared.carry.CarryFault.TheVariants.{TooLarge}
 use Rattle.rate_floors.specs.declared.find.GroupPromise.{GroupPromise}
 use Rattle.rate_floors.specs.declared.find.UserSessions.{UserSessions}
-use Rattle.rate_floors.specs.Carried.{broken, broken_row, broken_sums, broken_line}
+use Rattle.rate_floors.specs.Carried.{broken, broken_sums}
 use Rattle.rate_floors.specs.Refusals.{with_more, broken_in_group, first_above, refused_for, RefusesWhatDoesNotFit}
-use Rattle.rate_floors.specs.Promises.{Promises, counted, keeps, user_of, user_key, group_key, group_row, promised, promised_group, is_small, session_fits, user_fits, group_fits, line_fits, fits, IsInGroup, HasNone, IsReported}
+use Rattle.rate_floors.specs.Promises.{Promises, counted, user_of, user_key, group_row, promised, promised_group, is_small, session_fits, user_fits, group_fits, fits, IsInGroup, HasNone, IsReported}
 use Rattle.rate_floors.proofs.CarryLemmas.{both, or_none, none_or, none_keeps, keeps_none, row_fits, fits_row, line_fits_now, fits_line_now}
 use Rattle.rate_floors.proofs.FloorLemmas.{in_group, get_row}
 

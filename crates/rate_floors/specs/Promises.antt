@@ -7,9 +7,10 @@ use Rattle.line_rates.specs.declared.ask.Way.{Way}
 use Rattle.line_rates.specs.declared.ask.Way.TheVariants.{Down, Up}
 use Rattle.line_rates.specs.declared.row.GroupRate.{GroupRate}
 use Rattle.line_rates.specs.declared.row.UserRate.{UserRate}
+use Rattle.line_rates.specs.declared.share_by.ShareBy.{ShareBy}
 use Rattle.line_rates.specs.Names.{is_number}
 use Rattle.line_rates.specs.Put.{IsAt}
-use Rattle.line_rates.specs.Rates.{Rates, way_of, group_rate, user_code, rates_code}
+use Rattle.line_rates.specs.Rates.{Rates, shared_by, way_of, group_rate, user_code, rates_code}
 use Rattle.line_rates.specs.Stated.{by_number, user_number, stated, IsRising, FitsUser}
 use Rattle.rate_floors.specs.declared.find.GroupPromise.{GroupPromise}
 use Rattle.rate_floors.specs.declared.find.UserSessions.{UserSessions}
@@ -216,10 +217,11 @@ pub record IsPromised (users : List UserSessions) (entry : GroupPromise) : Type 
   pub up : entry.up ≡ promised_group users Up entry.row.group
 
 -- the promises that rates and rows represent
-abbrev pub seen : ℕ → ℕ → ℕ → List GroupPromise → List UserSessions → Promises
-seen server down up groups users =
+abbrev pub seen : ShareBy → ℕ → ℕ → ℕ → List GroupPromise → List UserSessions → Promises
+seen share_by server down up groups users =
     record {
-      rates = stated server down up (map group_row groups) (map user_row users);
+      rates =
+          shared_by share_by (stated server down up (map group_row groups) (map user_row users));
       users = users;
     }
 
@@ -236,10 +238,10 @@ pub record IsReported (down up : ℕ) (groups : List GroupPromise)
   pub groups_reported : All (IsPromised users) groups
 
 -- promises as they are stored: in sums, which fit
-pub record IsKept (server down up promised_down promised_up : ℕ) (groups : List GroupPromise)
-    (users : List UserSessions) : Type 0 where
+pub record IsKept (share_by : ShareBy) (server down up promised_down promised_up : ℕ)
+    (groups : List GroupPromise) (users : List UserSessions) : Type 0 where
   pub reported : IsReported promised_down promised_up groups users
-  pub fit : PromisesFit (seen server down up groups users)
+  pub fit : PromisesFit (seen share_by server down up groups users)
 
 -- no session is counted
 abbrev pub HasNoSessions : Promises → Type 0

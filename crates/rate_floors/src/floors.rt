@@ -16,13 +16,14 @@ use crate::carry::{
 };
 use crate::find::{GroupPromise, UserSessions, add, find_group, find_user, take};
 use crate::fits::{MAX_PROMISED, group_keeps, keeps, session_fits, user_fits};
-use line_rates::{Limits, Name, UserRate, Way};
+use line_rates::{Limits, Name, ShareBy, UserRate, Way};
 use std::alloc::{AllocError, Allocator, Global};
 use std::marker::Model;
 
 /// The number of counted sessions of each user, and the sums of their guarantees.
 #[derive(Drop)]
 pub struct Floors<A: Allocator = Global> {
+    share_by: ShareBy,
     server: u64,
     down: u64,
     up: u64,
@@ -40,10 +41,10 @@ impl<A: Allocator> Model for Floors<A> {
 
     ghost coded = { promises_code };
 
-    ghost view = { λ f. seen f.server f.down f.up f.groups.items f.users.items };
+    ghost view = { λ f. seen f.share_by f.server f.down f.up f.groups.items f.users.items };
 
     ghost invariant = { λ f.
-        IsKept f.server f.down f.up f.promised_down f.promised_up f.groups.items f.users.items };
+        IsKept f.share_by f.server f.down f.up f.promised_down f.promised_up f.groups.items f.users.items };
 }
 
 fn no_sessions<A: Allocator>(
@@ -83,12 +84,14 @@ fn fitted<A: Allocator + Clone, L: Allocator>(
     let server = limits.rate(Name::Server);
     let down = limits.rate(Name::Direction(Way::Down));
     let up = limits.rate(Name::Direction(Way::Up));
+    let share_by = limits.share_by();
     let fault = first_broken_user(&users)
         .or(first_broken_group(&groups))
         .or(broken_line(promised_down, promised_up, server, down, up));
     match fault {
         Some(fault) => Err(fault),
         None => Ok(Floors {
+            share_by,
             server,
             down,
             up,
@@ -109,6 +112,7 @@ impl<A: Allocator + Clone> Floors<A> {
         let users = no_sessions(alloc.clone()?, limits.users())?;
         let groups = no_promises(alloc, limits.groups())?;
         Ok(Floors {
+            share_by: limits.share_by(),
             server: limits.rate(Name::Server),
             down: limits.rate(Name::Direction(Way::Down)),
             up: limits.rate(Name::Direction(Way::Up)),

@@ -1,8 +1,8 @@
 -- Admission of one session more.
-use Rattle.std.proofs.Common.{◌≡◌, ◌<◌, ◌+◌, ℕ, zero, suc, Bool, true, false, List, [], ◌∷◌, length, take, get_or, refl, ap, ◌∙◌, sym, subst, arith}
+use Rattle.std.proofs.Common.{◌≡◌, ◌<◌, ◌+◌, ℕ, zero, suc, Bool, true, false, List, [], ◌∷◌, length, take, get_or, refl, ap, ◌∙◌, sym, arith}
 use Rattle.std.specs.Prelude.{◌&&◌}
 use Rattle.rate_floors.specs.Promises.{Promises, admits, after_admit}
-use Rattle.rate_plan.specs.Admission.{IsFirstRefused, are_admitted}
+use Rattle.rate_plan.specs.Admission.{are_admitted}
 use Rattle.rate_plan.specs.declared.asks.Transfer.{Transfer}
 
 -- the promises after the sessions of transfers were asked for

@@ -1,5 +1,5 @@
 -- What holds of each element of a list holds after one more is pushed.
-use Rattle.std.proofs.Common.{◌≡◌, ◌+◌, ℕ, zero, suc, List, [], ◌∷◌, ◌++◌, length, subst, Some}
+use Rattle.std.proofs.Common.{◌≡◌, ℕ, zero, suc, List, [], ◌∷◌, ◌++◌, length, subst, Some}
 use Rattle.std.specs.Prelude.{slice_get}
 
 some_same : {X : Type 0} (x y : X) → Some x ≡ Some y → x ≡ y

@@ -1,14 +1,14 @@
 -- The tree of a tick by ten times the rates is that of a second by the rates.
-use Rattle.std.proofs.Common.{◌≡◌, ◌≤◌, ℕ, zero, suc, Bool, true, false, cond, List, [], ◌∷◌, map, refl, ap, ◌∙◌, sym, subst, arith, Option, Some, None}
+use Rattle.std.proofs.Common.{◌≡◌, ◌≤◌, ℕ, Bool, true, false, cond, List, [], ◌∷◌, map, refl, ap, ◌∙◌, sym, subst, arith, Option, Some, None}
 use Rattle.std.specs.Prelude.{◌*◌, ◌/◌, ◌&&◌, ◌||◌, nat_eq, nat_lt, min, IsTrue, slice_get}
 use Rattle.std.specs.FinMap as finite
-use Rattle.std.specs.List.{All, AllByRecursion, list_any}
+use Rattle.std.specs.List.{AllByRecursion, list_any}
 use Rattle.limit_tree.specs.Sharing.{Branch, LimitTree}
 use Rattle.line_rates.specs.declared.ask.Ask.{Ask}
 use Rattle.line_rates.specs.declared.ask.Name.{Name}
 use Rattle.line_rates.specs.declared.ask.Name.TheVariants.{Server, Direction, Group, User, Session}
 use Rattle.line_rates.specs.Names.{bears, floor_of, is_number, same_way}
-use Rattle.line_rates.specs.Rates.{Rates, floor_rate, group_of, rate_of}
+use Rattle.line_rates.specs.Rates.{Rates, floor_rate, rate_of}
 use Rattle.line_rates.specs.Ticks.{rate_limit, share_of}
 use Rattle.std.proofs.lemmas.Bool.{eqb-true, eq-eqb}
 use Rattle.line_rates.proofs.RowLemmas.{other_number}

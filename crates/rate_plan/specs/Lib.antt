@@ -6,3 +6,4 @@ pub mod Refused
 pub mod Second
 pub mod Shared
 pub mod Tens
+pub mod Unshared

@@ -1,7 +1,8 @@
 -- The shares of transfers in a second.
 use Rattle.std.specs.Prelude.{◌≡◌, ◌<◌, ◌≤◌, ℕ, List, length, map, slice_get, Some, IsPermutation}
 use Rattle.std.specs.List.Sorted.{IsNonDecreasingBy}
-use Rattle.limit_tree.specs.Sharing.{LimitTree, IsBest}
+use Rattle.limit_tree.specs.Sharing.{LimitTree}
+use Rattle.fair_terms.specs.Fair.{IsFair}
 use Rattle.line_rates.specs.declared.ask.Ask.{Ask}
 use Rattle.line_rates.specs.TickTree.{Asker}
 use Rattle.line_rates.specs.Rates.{Rates}
@@ -29,13 +30,13 @@ share_grant s = s.grant
 abbrev pub share_lane : TransferShare → ℕ
 share_lane s = s.lane
 
--- Shares in the order of the leaves of the tree of a second: best grants, the floors of the leaves,
+-- Shares in the order of the leaves of the tree of a second: fair grants, the floors of the leaves,
 -- and for each leaf with less than it wants the name of a bottleneck.
 pub record AreLeafShares (rates : Rates) (leaves : List TransferShare) : Type 0 where
   pub tree : LimitTree
   pub second : IsSecondTree rates (map share_ask leaves) tree
   pub floors : tree.floors ≡ map share_floor leaves
-  pub best : IsBest tree (map share_grant leaves)
+  pub best : IsFair rates.share_by (map share_ask leaves) tree (map share_grant leaves)
   pub held : (i : ℕ) (s : TransferShare) → slice_get leaves i ≡ Some s
       → IsHeld rates (map share_ask leaves) tree (map share_grant leaves) i s.held
 
@@ -44,7 +45,7 @@ pub record AreShares (rates : Rates) (transfers : List Transfer)
     (shares : List TransferShare) : Type 0 where
   pub asks : List Asker
   pub leaves : List TransferShare
-  pub asked : AreAsked transfers asks
+  pub asked : AreAsked rates.share_by transfers asks
   pub all : IsPermutation asks (map share_asker leaves)
   pub shared : AreLeafShares rates leaves
   pub same : IsPermutation leaves shares

@@ -10,7 +10,7 @@ use Rattle.rate_plan.specs.Admission.{IsExceeded, IsRefusedAt}
 use Rattle.rate_plan.specs.Asked.{AreAsked}
 use Rattle.rate_plan.specs.declared.asks.Transfer.{Transfer}
 use Rattle.rate_plan.specs.declared.fault.Unplanned.{Unplanned}
-use Rattle.rate_plan.specs.declared.fault.Unplanned.TheVariants.{TooManySessions, TooManyTransfers, NotGuaranteed, RateTooLarge, Rates as RatesRefused, Tree, Memory}
+use Rattle.rate_plan.specs.declared.fault.Unplanned.TheVariants.{TooManySessions, TooManyTransfers, NotGuaranteed, RateTooLarge, Rates as RatesRefused, Tree, Unshared, Memory}
 use Rattle.rate_plan.specs.declared.plan.TheConstants.{MAX_EXACT}
 use Rattle.rate_plan.specs.declared.tens.TheConstants.{MAX_PLANNED}
 
@@ -25,7 +25,7 @@ HasLarge rates = (n : Name) × (MAX_PLANNED < rate_of rates n)
 pub record IsRefusedBy (rates : Rates) (ts : List Transfer) (place : ℕ)
     (name : Option Name) : Type 0 where
   pub asks : List Asker
-  pub asked : AreAsked ts asks
+  pub asked : AreAsked rates.share_by ts asks
   pub at : IsRefusedAt rates ts place
   pub exceeded : IfSome name (IsExceeded rates (map ask_in (take (place + 1) asks)))
 
@@ -37,12 +37,14 @@ IsAdmissionFault rates ts fault = ⊥
 -- no rate above `MAX_PLANNED` is that of a name under which an ask of the transfers counts
 abbrev pub AreSmallForAll : Rates → List Transfer → Type 0
 AreSmallForAll rates ts =
-    (asks : List Asker) × AreAsked ts asks × All (λ x. AreSmallFor rates (ask_in x)) asks
+    (asks : List Asker) × AreAsked rates.share_by ts asks
+    × All (λ x. AreSmallFor rates (ask_in x)) asks
 
--- the fault of a tree, of its rates, or of memory
+-- the fault of a tree, of its rates, or of memory; or that no grants were found among users
 abbrev pub IsTreeFault : Unplanned → Type 0
 IsTreeFault (RatesRefused fault) = ⊤
 IsTreeFault (Tree fault) = ⊤
+IsTreeFault Unshared = ⊤
 IsTreeFault Memory = ⊤
 IsTreeFault fault = ⊥
 

@@ -1,6 +1,6 @@
 -- The tree of a whole second: a leaf for each ask, and a branch for each name that asks count
 -- under, with the rates themselves as limits.
-use Rattle.std.specs.Prelude.{◌≡◌, ℕ, ◌||◌, Bool, nat_eq, nat_lt, min, if◌then◌else◌, List, map, Option, Some, None, IsTrue, ⊤}
+use Rattle.std.specs.Prelude.{◌≡◌, ℕ, ◌||◌, nat_eq, nat_lt, min, if◌then◌else◌, List, map, Option, Some, None, IsTrue, ⊤}
 use Rattle.std.specs.FinMap as finite
 use Rattle.limit_tree.specs.Sharing.{Branch, LimitTree}
 use Rattle.line_rates.specs.declared.ask.Ask.{Ask}

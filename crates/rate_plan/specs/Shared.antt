@@ -1,11 +1,10 @@
 -- Shares of the leaves of the tree of a tick.
-use Rattle.std.specs.Prelude.{◌≡◌, ◌≤◌, ◌<◌, ℕ, List, length, map, slice_get, slice_index, Option, Some, None}
-use Rattle.limit_tree.specs.Sharing.{Branch, LimitTree, IsBest, IsBottleneck, IsUnmet}
-use Rattle.line_rates.specs.declared.ask.Ask.{Ask}
-use Rattle.line_rates.specs.declared.ask.Name.{Name}
+use Rattle.std.specs.Prelude.{◌≡◌, ℕ, List, length, map, slice_get, Some}
+use Rattle.limit_tree.specs.Sharing.{LimitTree}
+use Rattle.fair_terms.specs.Fair.{IsFair}
 use Rattle.line_rates.specs.Names.{floor_of}
 use Rattle.line_rates.specs.Rates.{Rates}
-use Rattle.line_rates.specs.TickTree.{Asker, IsNamed, ask_in}
+use Rattle.line_rates.specs.TickTree.{Asker, ask_in}
 use Rattle.held_names.specs.Held.{IsHeldBy}
 use Rattle.rate_plan.specs.declared.shares.TransferShare.{TransferShare}
 
@@ -24,10 +23,10 @@ pub record AreTickShares (rates : Rates) (order : List Asker) (t : LimitTree) (g
   pub each : (i : ℕ) (s : TransferShare) → slice_get shares i ≡ Some s
       → IsShareOf rates order t g i s
 
--- shares of best grants
+-- shares of fair grants
 pub record AreGrantedShares (rates : Rates) (order : List Asker) (t : LimitTree)
     (shares : List TransferShare) : Type 0 where
   pub grants : List ℕ
   pub count : length order ≡ length grants
-  pub best : IsBest t grants
+  pub best : IsFair rates.share_by (map ask_in order) t grants
   pub are : AreTickShares rates order t grants shares

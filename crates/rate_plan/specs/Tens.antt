@@ -32,6 +32,7 @@ ten_user row = record {
 }
 
 pub record AreTens (rates tens : Rates) : Type 0 where
+  pub share_by : tens.share_by ≡ rates.share_by
   pub rates_of : (n : Name) → rate_of tens n ≡ ten_rate (rate_of rates n)
   pub floors_of : (user : ℕ) (way : Way) → floor_rate (finite.get tens.users user) way
       ≡ ten_floor (floor_rate (finite.get rates.users user) way)

@@ -138,7 +138,7 @@ pub(crate) fn admit_all<L: Allocator, A: Allocator + Clone>(
     asks: &[(u8, Ask)],
 ) -> Result<(), Unplanned>
     requires few { length asks.now ≤ 256 }
-    requires asked { AreAsked transfers.now asks.now }
+    requires asked { AreAsked limits.now.share_by transfers.now asks.now }
     ensures admitted { OnOk result (AreAdmitted limits.now transfers.now) }
     ensures refused { IfErr result (IsAdmissionFault limits.now transfers.now) }
 {

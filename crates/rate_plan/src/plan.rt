@@ -18,7 +18,7 @@ use crate::shares::{TransferShare, granted_shares};
 use crate::small::has_large;
 use crate::tens::tenfold;
 use line_rates::{Ask, Limits, Plan, PlanFault, tree_of};
-use std::alloc::{AllocError, Allocator};
+use std::alloc::Allocator;
 
 /// Most transfers whose shares no rate above `MAX_PLANNED` limits.
 pub const MAX_EXACT: usize = 25;
@@ -32,20 +32,22 @@ fn sort_by_lane<A: Allocator>(shares: &mut Vec<TransferShare, A>)
 }
 
 // The shares of asks, from the plan of a tick.
-fn shares_in<L: Allocator, P: Allocator, A: Allocator + Clone>(
+fn shares_in<L: Allocator, A: Allocator + Clone>(
     alloc: A,
     tens: &Limits<L>,
     asks: &[(u8, Ask)],
-    plan: &Plan<P>,
-) -> Result<Vec<TransferShare, A>, AllocError>
-    requires asked { (transfers : List Transfer) × AreAsked transfers asks.now }
-    requires plan { IsPlan tens.now 0 asks.now (seen plan.now.tree) plan.now.lanes.items }
+    plan: Plan<A>,
+) -> Result<Vec<TransferShare, A>, Unplanned>
+    requires asked { (transfers : List Transfer) × AreAsked tens.now.share_by transfers asks.now }
+    requires plan { IsPlan tens.now 0 asks.now (seen plan.tree) plan.lanes.items }
     ensures shares { IfOk result (λ shares. (rates : Rates) (transfers : List Transfer)
-        → AreTens rates tens.now → AreAsked transfers asks.now
+        → AreTens rates tens.now → AreAsked rates.share_by transfers asks.now
         → AreShares rates transfers shares.items) }
+    ensures fault { IfErr result IsTreeFault }
 {
-    let order = in_order(alloc.clone()?, asks, &plan.lanes)?;
-    let mut shares = granted_shares(alloc, tens, &order, &plan.tree)?;
+    let Plan { tree, lanes } = plan;
+    let order = in_order(alloc.clone()?, asks, &lanes)?;
+    let mut shares = granted_shares(alloc, tens, &order, tree)?;
     sort_by_lane(&mut shares);
     Ok(shares)
 }
@@ -56,15 +58,15 @@ fn shares_by<L: Allocator, A: Allocator + Clone>(
     tens: &Limits<L>,
     asks: &[(u8, Ask)],
 ) -> Result<Vec<TransferShare, A>, Unplanned>
-    requires asked { (transfers : List Transfer) × AreAsked transfers asks.now }
+    requires asked { (transfers : List Transfer) × AreAsked tens.now.share_by transfers asks.now }
     ensures shares { IfOk result (λ shares. (rates : Rates) (transfers : List Transfer)
-        → AreTens rates tens.now → AreAsked transfers asks.now
+        → AreTens rates tens.now → AreAsked rates.share_by transfers asks.now
         → AreShares rates transfers shares.items) }
     ensures fault { IfErr result IsTreeFault }
 {
     match tree_of(alloc.clone()?, tens, 0, asks) {
         Ok(plan) => {
-            let shares = shares_in(alloc, tens, asks, &plan)?;
+            let shares = shares_in(alloc, tens, asks, plan)?;
             Ok(shares)
         }
         Err(PlanFault::Memory) => Err(Unplanned::Memory),
@@ -78,9 +80,9 @@ fn shares_of<L: Allocator, A: Allocator + Clone>(
     limits: &Limits<L>,
     asks: &[(u8, Ask)],
 ) -> Result<Vec<TransferShare, A>, Unplanned>
-    requires asked { (transfers : List Transfer) × AreAsked transfers asks.now }
+    requires asked { (transfers : List Transfer) × AreAsked limits.now.share_by transfers asks.now }
     ensures shares { IfOk result (λ shares. (transfers : List Transfer)
-        → AreAsked transfers asks.now
+        → AreAsked limits.now.share_by transfers asks.now
         → AreShares limits.now transfers shares.items) }
     ensures fault { IfErr result IsTreeFault }
 {
@@ -101,7 +103,7 @@ fn plan_few<L: Allocator, A: Allocator + Clone>(
         → IfOk result (λ shares. AreSmallForAll limits.now transfers.now) }
     ensures fault { IfErr result (IsPlanFault limits.now transfers.now) }
 {
-    let asks = asks_of(alloc.clone()?, transfers)?;
+    let asks = asks_of(alloc.clone()?, limits.share_by(), transfers)?;
     admit_all(alloc.clone()?, limits, transfers, &asks)?;
     if transfers.len() > MAX_EXACT && has_large(limits, &asks) {
         return Err(Unplanned::RateTooLarge);
@@ -109,8 +111,9 @@ fn plan_few<L: Allocator, A: Allocator + Clone>(
     shares_of(alloc, limits, &asks)
 }
 
-/// The shares of a second for transfers that want all they can get, each in a session of its own, in their order: best
-/// grants of the tree of the rates, and for each transfer that gets less than it wants a limit that holds it back.
+/// The shares of a second for transfers that want all they can get, each in a session of its own, in their order: fair
+/// grants of the tree of the rates, among sessions or among users as the limits say, and for each transfer that gets
+/// less than it wants a limit that holds it back.
 ///
 /// `TooManySessions`, `TooManyTransfers`: there are more than `sessions`, or than `lanes`. `NotGuaranteed`: the place
 /// of the first whose guarantees do not fit with those before it. `RateTooLarge`: more than `MAX_EXACT` transfers, and a

@@ -1,16 +1,19 @@
 //! The shares of transfers in a second.
 
-ghost use Rattle.std.specs.Prelude.{◌≡◌, ◌≤◌, ◌<◌, IfOk, length, map, slice_get, slice_index, slice_index_or, Some};
+ghost use Rattle.std.specs.Prelude.{◌≡◌, ◌≤◌, ◌<◌, IfOk, length, map, slice_get, slice_index, slice_index_or, IfErr, Some};
 ghost use Rattle.limit_tree.specs.Outline.{limits as seen};
-ghost use Rattle.limit_tree.specs.Sharing.{IsBackedBy, IsWanted};
+ghost use Rattle.limit_tree.specs.Sharing.{IsWanted};
+ghost use Rattle.fair_terms.specs.Fair.{IsBackedFair};
+ghost use Rattle.rate_plan.specs.Refused.{IsTreeFault};
 ghost use Rattle.line_rates.specs.Names.{floor_of};
 ghost use Rattle.line_rates.specs.TickTree.{IsTickTree, ask_in};
 ghost use Rattle.rate_plan.specs.Shared.{AreGrantedShares, AreTickShares, IsShareOf};
 
+use crate::fault::Unplanned;
+use fair_shares::share_tree;
 use held_names::held_by;
 use limit_tree::Tree;
 use line_rates::{Ask, Limits, Name};
-use round_allocator::allot;
 use std::alloc::{AllocError, Allocator};
 
 /// The share of a transfer in a second, in octets.
@@ -52,7 +55,8 @@ fn leaf_share<L: Allocator, A: Allocator>(
     requires asks { asks.now ≡ map ask_in order.now }
     requires tree { IsTickTree limits.now 0 asks.now (seen tree.now) }
     requires grants { IsWanted (seen tree.now) grants.now }
-    requires backed { IsBackedBy (seen tree.now) grants.now entries.now }
+    requires backed { IsBackedFair limits.now.share_by asks.now (seen tree.now) grants.now
+        entries.now }
     requires leaf { leaf < length order.now }
     ensures share { IsShareOf limits.now order.now (seen tree.now) grants.now leaf result }
 {
@@ -79,7 +83,8 @@ fn leaf_shares<L: Allocator, A: Allocator, B: Allocator>(
     requires asks { asks.now ≡ map ask_in order.now }
     requires tree { IsTickTree limits.now 0 asks.now (seen tree.now) }
     requires grants { IsWanted (seen tree.now) grants.now }
-    requires backed { IsBackedBy (seen tree.now) grants.now entries.now }
+    requires backed { IsBackedFair limits.now.share_by asks.now (seen tree.now) grants.now
+        entries.now }
     ensures shares { IfOk result (λ shares. AreTickShares limits.now order.now (seen tree.now)
         grants.now shares.items) }
 {
@@ -90,26 +95,28 @@ fn leaf_shares<L: Allocator, A: Allocator, B: Allocator>(
     Ok(shares)
 }
 
-/// The shares of the leaves of a tree, in their order, by best grants.
-pub(crate) fn granted_shares<L: Allocator, A: Allocator, B: Allocator + Clone>(
-    alloc: B,
+/// The shares of the leaves of a tree, in their order, by fair grants.
+pub(crate) fn granted_shares<L: Allocator, A: Allocator + Clone>(
+    alloc: A,
     limits: &Limits<L>,
     order: &[(u8, Ask)],
-    tree: &Tree<A>,
-) -> Result<Vec<TransferShare, B>, AllocError>
-    requires tree { IsTickTree limits.now 0 (map ask_in order.now) (seen tree.now) }
+    tree: Tree<A>,
+) -> Result<Vec<TransferShare, A>, Unplanned>
+    requires tree { IsTickTree limits.now 0 (map ask_in order.now) (seen tree) }
     ensures shares { IfOk result
-        (λ shares. AreGrantedShares limits.now order.now (seen tree.now) shares.items) }
+        (λ shares. AreGrantedShares limits.now order.now (seen tree) shares.items) }
+    ensures fault { IfErr result IsTreeFault }
 {
-    let (grants, certificate) = allot(alloc.clone()?, tree)?;
     let asks = asks_alone(alloc.clone()?, order)?;
-    leaf_shares(
+    let sealed = share_tree(alloc.clone()?, limits.share_by(), &asks, tree)?;
+    let shares = leaf_shares(
         alloc,
         limits,
         order,
         &asks,
-        tree,
-        &grants,
-        certificate.entries(),
-    )
+        sealed.tree(),
+        sealed.grants(),
+        sealed.certificate().entries(),
+    )?;
+    Ok(shares)
 }

@@ -71,7 +71,7 @@ fn ten_users<A: Allocator>(alloc: A, rows: &[UserRate]) -> Result<Vec<UserRate, 
     Ok(tens)
 }
 
-/// The limits of ten times the rates and guarantees. A rate above `MAX_PLANNED` becomes none, a guarantee above it
+/// The limits of ten times the rates and guarantees, of a line that is shared among the same. A rate above `MAX_PLANNED` becomes none, a guarantee above it
 /// becomes that of `MAX_PLANNED`.
 pub(crate) fn tenfold<L: Allocator, A: Allocator + Clone>(
     alloc: A,
@@ -86,7 +86,7 @@ pub(crate) fn tenfold<L: Allocator, A: Allocator + Clone>(
     let down = ten_rate(limits.rate(Name::Direction(Way::Down)));
     let up = ten_rate(limits.rate(Name::Direction(Way::Up)));
     match Limits::of(server, down, up, groups, users) {
-        Ok(tens) => Ok(tens),
+        Ok(tens) => Ok(tens.shared_by(limits.share_by())),
         Err(fault) => Err(Unplanned::Rates(fault)),
     }
 }

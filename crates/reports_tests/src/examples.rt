@@ -1,7 +1,7 @@
 //! The examples in the heads of these crates. `tools/examples` compares their lines.
 
 use crate::expect::holds;
-use line_rates::{Limits, Name, Way};
+use line_rates::{Limits, Name, ShareBy, Way};
 use plan_report::{NoPlan, plan_json, plan_lines};
 use rate_plan::{Transfer, plan_of};
 use std::process::Abort;
@@ -37,9 +37,9 @@ fn two_downloads_share(rt: HostRuntime) -> Result<(), Fail> {
 }
 
 fn plan_report(rt: &(impl Abort + AllocGlobal)) -> Result<(), NoPlan> {
-    let text = plan_lines(rt.alloc(), SMALL.as_bytes(), "ann=1")?; // a server and the user `ann`
+    let text = plan_lines(rt.alloc(), SMALL.as_bytes(), ShareBy::Sessions, "ann=1")?; // a server and the user `ann`
     holds(rt, text.as_str().contains("held by"));
-    let text = plan_json(rt.alloc(), SMALL.as_bytes(), "ann=1")?; // the same for programs
+    let text = plan_json(rt.alloc(), SMALL.as_bytes(), ShareBy::Sessions, "ann=1")?; // the same for programs
     holds(rt, text.as_str().contains("\"held_by\":\"server down\""));
     Ok(())
 }

@@ -1,7 +1,7 @@
 //! Lines that are divided among asks. The shares are worked by hand.
 
 use crate::expect::holds;
-use ask_shares::{Ask, AskShare, GroupRate, Limits, Name, PlanFault, UserRate, Way, share_asks};
+use ask_shares::{Ask, AskShare, GroupRate, Limits, Name, NotShared, UserRate, Way, share_asks};
 use std::process::Abort;
 use std::test::Fail;
 
@@ -80,10 +80,10 @@ fn a_line_is_divided(rt: HostRuntime) -> Result<(), Fail> {
 fn what_cannot_be_divided(rt: HostRuntime) -> Result<(), Fail> {
     let limits = limits(&rt)?;
     let large = share_asks(rt.alloc(), &limits, 0, &[ask(1, 4_294_967_296)]);
-    holds(&rt, matches!(large, Err(PlanFault::Tree(_))));
+    holds(&rt, matches!(large, Err(NotShared::Tree(_))));
     let guaranteed = [ask(0, 400), ask(0, 400), ask(0, 400)];
     let three = share_asks(rt.alloc(), &limits, 0, &guaranteed);
-    holds(&rt, matches!(three, Err(PlanFault::Tree(_))));
+    holds(&rt, matches!(three, Err(NotShared::Tree(_))));
     let none = share_asks(rt.alloc(), &limits, 0, &[])?;
     holds(&rt, none.is_empty());
     Ok(())

@@ -5,8 +5,8 @@ ghost use Rattle.std.specs.Prelude.{◌≡◌};
 use crate::expect::holds;
 use httpdate::HttpDate;
 use server_status::{
-    AccountStatus, Direction, EndCounts, GroupStatus, HeldRounds, LineRates, SessionStatus, Status,
-    TransferStatus,
+    AccountStatus, Direction, EndCounts, GroupStatus, HeldRounds, LineRates, SessionStatus,
+    SharedAmong, Status, TransferStatus,
 };
 use status_page::{MachineClock, MicrosClock, PAGE, Timed, metrics_text, serve_request};
 use std::alloc::AllocError;
@@ -45,6 +45,9 @@ ftpd_login_failures_total 7
 # HELP ftpd_refused_connections_total Refused connections.
 # TYPE ftpd_refused_connections_total counter
 ftpd_refused_connections_total 8
+# HELP ftpd_shared_among_users 1 if the line is shared among users, 0 if among sessions.
+# TYPE ftpd_shared_among_users gauge
+ftpd_shared_among_users 0
 # HELP ftpd_lanes Most transfers that run at once.
 # TYPE ftpd_lanes gauge
 ftpd_lanes 16
@@ -237,6 +240,7 @@ fn status_of(
             down: 15_000_000,
             up: 0,
         },
+        shared_among: SharedAmong::Sessions,
         guaranteed_down: 31,
         guaranteed_up: 0,
         groups,
@@ -280,9 +284,12 @@ fn status<R: AllocGlobal>(rt: &R) -> Result<Status, AllocError> {
 
 #[test]
 fn metrics_of_a_status(rt: HostRuntime) -> Result<(), Fail> {
-    let status = status(&rt)?;
+    let mut status = status(&rt)?;
     let text = metrics_text(rt.alloc(), &status)?;
     holds(&rt, text.as_str() == METRICS);
+    status.shared_among = SharedAmong::Users;
+    let text = metrics_text(rt.alloc(), &status)?;
+    holds(&rt, text.as_str().contains("\nftpd_shared_among_users 1\n"));
     Ok(())
 }
 

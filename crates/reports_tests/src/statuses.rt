@@ -2,8 +2,8 @@
 
 use crate::expect::holds;
 use server_status::{
-    AccountStatus, Direction, EndCounts, GroupStatus, HeldRounds, LineRates, SessionStatus, Status,
-    StatusFault, TransferStatus, read_status, status_text,
+    AccountStatus, Direction, EndCounts, GroupStatus, HeldRounds, LineRates, SessionStatus,
+    SharedAmong, Status, StatusFault, TransferStatus, read_status, status_text,
 };
 use std::alloc::{AllocError, Global};
 use std::process::Abort;
@@ -23,7 +23,7 @@ const FRONT: &str =
 \"peer\":\"192.0.2.7\",\"session\":3,\"user\":\"ann\"},\
 {\"active\":9000000,\"begun\":8000000,\"group\":null,\"guaranteed_down\":null,\"guaranteed_up\":250000,\
 \"peer\":\"192.0.2.9\",\"session\":4,\"user\":null}],\
-\"started\":1790000000,";
+\"shared_among\":\"users\",\"started\":1790000000,";
 
 /// Its transfers.
 const TRANSFERS: &str = "\"transfers\":[\
@@ -198,6 +198,7 @@ fn with_lists(
             down: 4_000_000,
             up: 0,
         },
+        shared_among: SharedAmong::Users,
         guaranteed_down: 500_000,
         guaranteed_up: 250_000,
         groups,
@@ -269,13 +270,14 @@ fn a_status_is_written_and_read(rt: HostRuntime) {
     let read = read_status(rt.alloc(), page.as_bytes()).expect(&rt, "a status");
     let again = status_text(rt.alloc(), &read).expect(&rt, "memory");
     holds(&rt, again.as_str() == page.as_str());
+    holds(&rt, read.shared_among == SharedAmong::Users);
     server_status(&rt, &status).expect(&rt, "a status");
 }
 
 /// A change of the text of the page, and the fault of what comes of it; none if it is a status.
 struct Change(&'static str, &'static str, Option<StatusFault>);
 
-const CHANGES: [Change; 28] = [
+const CHANGES: [Change; 31] = [
     Change("\"version\":1", "\"version\":1,\"zone\":[]", None),
     Change("}\n", "\n}", None),
     Change("\"session\":3,", "\"session\":8,\"session\":3,", None),
@@ -345,6 +347,21 @@ const CHANGES: [Change; 28] = [
         "\"both\":null,",
         "",
         Some(StatusFault::Missing("line.both")),
+    ),
+    Change(
+        "\"shared_among\":\"users\"",
+        "\"shared_among\":\"sessions\"",
+        None,
+    ),
+    Change(
+        "\"shared_among\":\"users\",",
+        "",
+        Some(StatusFault::Missing("shared_among")),
+    ),
+    Change(
+        "\"shared_among\":\"users\"",
+        "\"shared_among\":\"groups\"",
+        Some(StatusFault::OtherKind("shared_among")),
     ),
     Change(
         "\"nothing\":1250",

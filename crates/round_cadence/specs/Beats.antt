@@ -4,6 +4,7 @@ use Rattle.std.specs.Coded.{Coded, code_by, coded×, coded_ℕ, coded_bool}
 use Rattle.line_rates.specs.declared.ask.Way.{Way}
 use Rattle.line_rates.specs.declared.ask.Way.TheVariants.{Down, Up}
 use Rattle.round_pace.specs.declared.credit.Credit.{Credit}
+use Rattle.round_cadence.specs.declared.beat.TheConstants.{SHARER_PARTS}
 use Rattle.round_cadence.specs.declared.beat.Beat.{Beat}
 use Rattle.round_cadence.specs.declared.beat.WayBeats.{WayBeats}
 use Rattle.round_cadence.specs.declared.intervals.TheConstants.{WORTH}
@@ -33,15 +34,19 @@ added grant worth b = record {
   is_asked = true;
 }
 
+-- the parts of a sharer that one of a crowd adds, which are one sharer together
+abbrev pub sharer_parts : ℕ → ℕ
+sharer_parts crowd = SHARER_PARTS / max 1 (min crowd SHARER_PARTS)
+
 -- a beat after a grant of the current round to a transfer whose session has a guarantee, which may
--- be far above those of others: it is a sharer
-abbrev pub kept : ℕ → Beat → Beat
-kept worth b = record {
+-- be far above those of others: it is one of a crowd that is a sharer
+abbrev pub kept : ℕ → ℕ → Beat → Beat
+kept worth crowd b = record {
   opens = b.opens;
   sharers = b.sharers;
   granted = b.granted;
   greatest = b.greatest;
-  kept = min (b.kept + 1) (2 ^ 64 - 1);
+  kept = min (b.kept + sharer_parts crowd) (2 ^ 64 - 1);
   worth = if b.is_asked then max b.worth worth else worth;
   is_asked = true;
 }
@@ -64,9 +69,10 @@ abbrev pub div_up : ℕ → ℕ → ℕ
 div_up x y = x / y + min 1 (x % y)
 
 -- how many grants as great as the greatest are all that was granted: with equal grants, as many as
--- there are; small ones beside great ones count little; and those with a guarantee
+-- there are; small ones beside great ones count little; and those with a guarantee, rounded up
 abbrev pub parts_of : Beat → ℕ
-parts_of b = max (min (div_up b.granted (max b.greatest 1) + b.kept) (2 ^ 64 - 1)) 1
+parts_of b =
+    max (min (div_up b.granted (max b.greatest 1) + div_up b.kept SHARER_PARTS) (2 ^ 64 - 1)) 1
 
 -- the sharers after a round: an eighth fewer than before, or as many as shared in it
 abbrev pub sharers_after : Beat → ℕ

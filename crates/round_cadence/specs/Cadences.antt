@@ -1,10 +1,10 @@
 -- The beats of all rows of a line.
-use Rattle.std.specs.Prelude.{ℕ, ◌/◌, max, min, nat_eq, if◌then◌else◌, Bool, true, false, List, slice_index_or, slice_set, replicate, Option, Some, None, refl}
+use Rattle.std.specs.Prelude.{ℕ, ◌*◌, ◌/◌, max, min, nat_eq, if◌then◌else◌, Bool, true, false, List, slice_index_or, slice_set, replicate, Option, Some, None, refl}
 use Rattle.std.specs.Coded.{Coded, code_by, coded×, coded_list}
 use Rattle.line_rates.specs.declared.ask.Ask.{Ask}
 use Rattle.line_rates.specs.declared.ask.Way.{Way}
 use Rattle.line_rates.specs.declared.ask.Way.TheVariants.{Down, Up}
-use Rattle.round_cadence.specs.declared.intervals.TheConstants.{WORTH, WORTH_UP}
+use Rattle.round_cadence.specs.declared.intervals.TheConstants.{MOST_WORTH, WORTH, WORTH_UP}
 use Rattle.round_pace.specs.declared.rows.TransferRows.{TransferRows}
 use Rattle.round_cadence.specs.declared.beat.Beat.{Beat}
 use Rattle.round_cadence.specs.declared.beat.WayBeats.{WayBeats}
@@ -32,6 +32,11 @@ new_cadence users groups = record {
 abbrev pub worth_of : Way → ℕ
 worth_of Down = WORTH
 worth_of Up = WORTH_UP
+
+-- the octets that the transfers of a crowd, which share a part of a row, are to have in a round:
+-- each as many, and together at most those that one of them asks for
+abbrev pub crowd_worth : Way → ℕ → ℕ
+crowd_worth way crowd = min (worth_of way * crowd) MOST_WORTH
 
 -- the first tick in which the row of a number is open; a number without a beat is never closed
 abbrev pub opens_at : Way → List WayBeats → ℕ → ℕ
@@ -64,18 +69,23 @@ abbrev pub session_worth : Ask → ℕ
 session_worth a = min (worth_of a.way) (a.want / 4)
 
 -- a beat after a grant of the current round to an ask, whose session has a guarantee or not
-abbrev pub added_to : Bool → ℕ → ℕ → Beat → Beat
-added_to true grant worth b = kept worth b
-added_to false grant worth b = added grant worth b
+abbrev pub added_to : Bool → ℕ → ℕ → ℕ → Beat → Beat
+added_to true grant crowd worth b = kept worth crowd b
+added_to false grant crowd worth b = added grant worth b
 
--- the beats after a grant of the current round to an ask; each session has its rate to itself
-abbrev pub add_to : Ask → TransferRows → ℕ → Beats → Beats
-add_to a rows grant c = record {
-  server = added_to rows.has_floor grant (worth_of a.way) c.server;
-  ways = change a.way (added_to rows.has_floor grant (worth_of a.way)) c.ways;
-  groups = change_for a.way (added_to rows.has_floor grant (worth_of a.way)) rows.group_number
-      c.groups;
-  users = change_at a.way (added_to rows.has_floor grant (worth_of a.way)) a.user c.users;
+-- a beat of a row that is shared among crowds, after a grant of the current round to an ask of one
+abbrev pub crowd_added : Ask → TransferRows → ℕ → ℕ → Beat → Beat
+crowd_added a rows grant crowd b =
+    added_to rows.has_floor grant crowd (crowd_worth a.way crowd) b
+
+-- The beats after a grant of the current round to an ask, which shares its part of the line with a
+-- crowd. Among the user's own transfers each has a part; each session has its rate to itself.
+abbrev pub add_to : Ask → TransferRows → ℕ → ℕ → Beats → Beats
+add_to a rows grant crowd c = record {
+  server = crowd_added a rows grant crowd c.server;
+  ways = change a.way (crowd_added a rows grant crowd) c.ways;
+  groups = change_for a.way (crowd_added a rows grant crowd) rows.group_number c.groups;
+  users = change_at a.way (added_to rows.has_floor grant 1 (worth_of a.way)) a.user c.users;
   sessions = change_at a.way (asked (session_worth a)) a.user c.sessions;
 }
 

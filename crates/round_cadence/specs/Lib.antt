@@ -2,3 +2,4 @@ pub mod Intervals
 pub mod Beats
 pub mod Cadences
 pub mod Closed
+pub mod Crowds

@@ -2,11 +2,14 @@
 
 ghost use Rattle.std.specs.Prelude.{◌≡◌, ◌≤◌, ◌+◌, false, true};
 ghost use Rattle.round_cadence.specs.declared.intervals.TheConstants.{LONGEST};
-ghost use Rattle.round_cadence.specs.Beats.{new_beat, new_beats, added, kept, asked, parts_of, sharers_after, is_drained, opens_after, capped, settled, in_way, change};
+ghost use Rattle.round_cadence.specs.Beats.{new_beat, new_beats, added, sharer_parts, kept, asked, parts_of, sharers_after, is_drained, opens_after, capped, settled, in_way, change};
 
 use crate::intervals::{WORTH, interval, next_opening};
 use line_rates::Way;
 use round_pace::Credit;
+
+/// The parts of a sharer in which those with a guarantee are counted.
+pub const SHARER_PARTS: u64 = 64;
 
 /// The beat of a row.
 #[derive(Clone, Copy, Debug, PartialEq, Eq)]
@@ -20,8 +23,8 @@ pub struct Beat {
     pub granted: u64,
     /// The greatest of these grants.
     pub greatest: u64,
-    /// Number of asks of the current round whose sessions have a guarantee: each is a sharer, and its grant is not among
-    /// these.
+    /// Sharers of the current round whose sessions have a guarantee, in 64ths: the asks that share a part of the row are
+    /// one sharer. Their grants are not among these.
     pub kept: u64,
     /// The octets that one of these transfers is to have in a round: the most of those that share the row, the least of
     /// those that have its rate to themselves.
@@ -44,6 +47,13 @@ fn is_drained(credit: Credit) -> bool
     ensures drained { result ≡ is_drained credit }
 {
     credit.rate != 0 && credit.left <= (credit.rate / 1_000).min(WORTH)
+}
+
+// The parts of a sharer that one of the asks adds that are a sharer together, as many as the crowd.
+fn sharer_parts(crowd: u64) -> u64
+    ensures parts { result ≡ sharer_parts crowd }
+{
+    SHARER_PARTS / crowd.clamp(1, SHARER_PARTS)
 }
 
 impl Beat {
@@ -82,11 +92,12 @@ impl Beat {
     }
 
     /// Adds a grant of the current round to a transfer whose session has a guarantee: it may be far above those of others.
-    pub fn keep(self, worth: u64) -> Beat
-        ensures kept { result ≡ kept worth self }
+    /// It is one of a crowd of such transfers that share a part of the row, and are one sharer together.
+    pub fn keep(self, worth: u64, crowd: u64) -> Beat
+        ensures kept { result ≡ kept worth crowd self }
     {
         let mut beat = self.add(0, worth);
-        beat.kept = self.kept.saturating_add(1);
+        beat.kept = self.kept.saturating_add(sharer_parts(crowd));
         beat
     }
 
@@ -111,7 +122,8 @@ impl Beat {
         ensures sharers { result ≡ sharers_after self }
     {
         let parts = self.granted.div_ceil(self.greatest.max(1));
-        let sharers = parts.saturating_add(self.kept).max(1);
+        let kept = self.kept.div_ceil(SHARER_PARTS);
+        let sharers = parts.saturating_add(kept).max(1);
         sharers.max(self.sharers.saturating_sub(self.sharers.div_ceil(8)))
     }
 
@@ -200,18 +212,19 @@ impl WayBeats {
         }
     }
 
-    /// Adds a grant of the current round to a transfer whose session has a guarantee, to the beat of a direction.
-    pub fn keep(self, way: Way, worth: u64) -> WayBeats
-        ensures kept { result ≡ change way (kept worth) self }
+    /// Adds a grant of the current round to a transfer whose session has a guarantee, one of a crowd, to the beat of a
+    /// direction.
+    pub fn keep(self, way: Way, worth: u64, crowd: u64) -> WayBeats
+        ensures kept { result ≡ change way (kept worth crowd) self }
     {
         match way {
             Way::Down => WayBeats {
-                down: self.down.keep(worth),
+                down: self.down.keep(worth, crowd),
                 up: self.up,
             },
             Way::Up => WayBeats {
                 down: self.down,
-                up: self.up.keep(worth),
+                up: self.up.keep(worth, crowd),
             },
         }
     }

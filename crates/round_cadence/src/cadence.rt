@@ -4,10 +4,10 @@ ghost use Rattle.std.specs.Prelude.{◌≡◌, ◌≤◌, ◌+◌, replicate, If
 ghost use Rattle.round_cadence.specs.declared.intervals.TheConstants.{LONGEST};
 ghost use Rattle.round_cadence.specs.Beats.{new_beats, asked, capped, change, settled};
 ghost use Rattle.round_cadence.specs.Closed.{closed_by, closed_group, closed_line};
-ghost use Rattle.round_cadence.specs.Cadences.{worth_of, session_worth, new_cadence, opens_at, opens_for, added_to, soonest, aligned, change_at, change_for, opens_of, add_to, align_if, settled_of, settle_of};
+ghost use Rattle.round_cadence.specs.Cadences.{worth_of, crowd_worth, session_worth, new_cadence, opens_at, opens_for, added_to, soonest, aligned, change_at, change_for, opens_of, add_to, align_if, settled_of, settle_of};
 
 use crate::beat::{Beat, WayBeats};
-use crate::intervals::{LONGEST, WORTH, WORTH_UP};
+use crate::intervals::{LONGEST, MOST_WORTH, WORTH, WORTH_UP};
 use line_rates::{Ask, Name, Way};
 use round_pace::{Credit, TransferRows};
 use std::alloc::{AllocError, Allocator, Global};
@@ -62,6 +62,14 @@ fn session_worth(ask: Ask) -> u64
     worth_of(ask.way).min(ask.want / 4)
 }
 
+// The octets that the transfers of a crowd, which share a part of a row, are to have in a round: each as many, and together
+// at most those that one of them asks for.
+fn crowd_worth(way: Way, crowd: u64) -> u64
+    ensures worth { result ≡ crowd_worth way crowd }
+{
+    worth_of(way).saturating_mul(crowd).min(MOST_WORTH)
+}
+
 fn open_beats<A: Allocator>(alloc: A, count: usize) -> Result<Vec<WayBeats, A>, AllocError>
     ensures beats { IfOk result (λ beats. beats.items ≡ replicate count new_beats) }
 {
@@ -79,41 +87,45 @@ fn opens_at(beats: &[WayBeats], number: u32, way: Way) -> u64
     }
 }
 
-// A beat after a grant of the current round to an ask, whose session has a guarantee or not.
-fn added_to(beat: Beat, has_floor: bool, grant: u64, worth: u64) -> Beat
-    ensures added { result ≡ added_to has_floor grant worth beat }
-{
-    if has_floor {
-        beat.keep(worth)
-    } else {
-        beat.add(grant, worth)
-    }
-}
-
-fn ways_added_to(beats: WayBeats, way: Way, has_floor: bool, grant: u64, worth: u64) -> WayBeats
-    ensures added { result ≡ change way (added_to has_floor grant worth) beats }
-{
-    if has_floor {
-        beats.keep(way, worth)
-    } else {
-        beats.add(way, grant, worth)
-    }
-}
-
-fn add_at<A: Allocator>(
-    beats: &mut Vec<WayBeats, A>,
-    number: u32,
-    way: Way,
+// A grant of the current round: whether the session of its ask has a guarantee, its octets, how many asks share the part
+// of the row that the ask has, and the octets that the part is to have in a round.
+#[derive(Clone, Copy)]
+struct Share {
     has_floor: bool,
     grant: u64,
+    crowd: u64,
     worth: u64,
-)
-    ensures added { beats.new.items
-        ≡ change_at way (added_to has_floor grant worth) number beats.old.items }
+}
+
+// A beat after a grant of the current round.
+fn added_to(beat: Beat, share: Share) -> Beat
+    ensures added { result ≡ added_to share.has_floor share.grant share.crowd share.worth beat }
+{
+    if share.has_floor {
+        beat.keep(share.worth, share.crowd)
+    } else {
+        beat.add(share.grant, share.worth)
+    }
+}
+
+fn ways_added_to(beats: WayBeats, way: Way, share: Share) -> WayBeats
+    ensures added { result
+        ≡ change way (added_to share.has_floor share.grant share.crowd share.worth) beats }
+{
+    if share.has_floor {
+        beats.keep(way, share.worth, share.crowd)
+    } else {
+        beats.add(way, share.grant, share.worth)
+    }
+}
+
+fn add_at<A: Allocator>(beats: &mut Vec<WayBeats, A>, number: u32, way: Way, share: Share)
+    ensures added { beats.new.items ≡ change_at way
+        (added_to share.has_floor share.grant share.crowd share.worth) number beats.old.items }
 {
     let place = number as usize;
     if place < beats.len() {
-        beats[place] = ways_added_to(beats[place], way, has_floor, grant, worth);
+        beats[place] = ways_added_to(beats[place], way, share);
     }
 }
 
@@ -237,18 +249,28 @@ impl<A: Allocator> Cadence<A> {
     }
 
     /// Adds a grant of the current round to the rows that its ask is within, and the ask to the beat of the user's sessions,
-    /// of which each has its rate to itself. No memory.
-    pub fn add(&mut self, ask: Ask, rows: &TransferRows, grant: u64)
-        ensures added { self.new ≡ add_to ask rows.now grant self.old }
+    /// of which each has its rate to itself. `crowd` is the number of the round's asks that share the part of the line that
+    /// the ask has: 1 among sessions, and among users those of the same user and direction. No memory.
+    pub fn add(&mut self, ask: Ask, rows: &TransferRows, grant: u64, crowd: u64)
+        ensures added { self.new ≡ add_to ask rows.now grant crowd self.old }
     {
-        let worth = worth_of(ask.way);
-        let has_floor = rows.has_floor;
-        self.server = added_to(self.server, has_floor, grant, worth);
-        self.ways = ways_added_to(self.ways, ask.way, has_floor, grant, worth);
+        let share = Share {
+            has_floor: rows.has_floor,
+            grant,
+            crowd,
+            worth: crowd_worth(ask.way, crowd),
+        };
+        self.server = added_to(self.server, share);
+        self.ways = ways_added_to(self.ways, ask.way, share);
         if let Some(group) = rows.group_number {
-            add_at(&mut self.groups, group, ask.way, has_floor, grant, worth);
+            add_at(&mut self.groups, group, ask.way, share);
         }
-        add_at(&mut self.users, ask.user, ask.way, has_floor, grant, worth);
+        let alone = Share {
+            crowd: 1,
+            worth: worth_of(ask.way),
+            ..share
+        };
+        add_at(&mut self.users, ask.user, ask.way, alone);
         let own = session_worth(ask);
         ask_at(&mut self.sessions, ask.user, ask.way, own);
     }

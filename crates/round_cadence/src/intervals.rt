@@ -12,6 +12,10 @@ pub const WORTH: u64 = 4_096;
 /// and the rest is lost to the rate, so small grants lose less.
 pub const WORTH_UP: u64 = 256;
 
+/// The most octets that a round is to have for a part of a row, if several transfers share the part: those that one
+/// transfer asks for at most. A part that has a single transfer is then granted in whole.
+pub const MOST_WORTH: u64 = 65_536;
+
 /// The longest interval, in ticks of 2 ms.
 pub const LONGEST: u64 = 32;
 

@@ -1,15 +1,17 @@
--- A plan with best grants decides what the core decides, and the other way round.
+-- A plan with fair grants decides what the core decides, and the other way round.
 use Rattle.std.proofs.Common.{◌≡◌, ◌≢◌, ℕ, zero, suc, ◌+◌, ◌<◌, inl, inr, List, [], ◌∷◌, ◌++◌, map, length, get_or, set, sum, sym, refl, ap, ◌∙◌, subst, arith, append_assoc, All, Option, Some, None, IsPermutation, swap}
 use Rattle.std.proofs.lemmas.List.{ext_get_or, length-append, length-map, map-append, map-set}
 use Rattle.std.proofs.lemmas.List.Elements.{All-append, All-cons, All-head, All-nil, All-tail}
 use Rattle.std.proofs.lemmas.List.Sums.{sum_by-append, sum_by-cons}
 use Rattle.std.proofs.lemmas.List.Sorted.{All-permutation, IsPermutation-keeps, IsPermutation-map, IsPermutation-refl, IsPermutation-sym, IsPermutation-trans, sum_by-IsPermutation}
-use Rattle.limit_tree.specs.Sharing.{LimitTree, IsBest}
+use Rattle.fair_terms.specs.Fair.{IsFair, fair_within}
+use Rattle.limit_tree.specs.Sharing.{LimitTree}
 use Rattle.line_rates.specs.declared.ask.Ask.{Ask}
 use Rattle.line_rates.specs.Granted.{Granted, granted_ask, granted_octets}
 use Rattle.line_rates.specs.Names.{want_of}
 use Rattle.line_rates.specs.Rates.{Rates}
-use Rattle.line_rates.specs.TickTree.{Asker, IsPlan, IsTickTree, ask_in, lane_in}
+use Rattle.line_rates.specs.TickTree.{Asker, IsTickTree, ask_in, lane_in}
+use Rattle.share_world.specs.Shares.{IsFairPlan}
 use Rattle.world_terms.specs.declared.event.LaneState.{LaneState}
 use Rattle.world_terms.specs.declared.event.LaneState.TheVariants as state
 use Rattle.world_terms.specs.Decisions.{AllPosted, AreGiven, IsGiven, IsPosted, IsShared, asker_of, decided_grants, decided_of, decided_sum, grant_of, in_round, in_round_from}
@@ -82,8 +84,9 @@ wants_length : (xs : List Asker) → length (map want_of (map ask_in xs)) ≡ le
 wants_length [] = refl
 wants_length (x ∷ xs) = omega (arith, wants_length xs)
 
-pub plan_length : (rates : Rates) (tick : ℕ) (asks : List Asker) (t : LimitTree) (lanes grants : List ℕ) → (p : IsPlan rates tick asks t lanes) → IsBest t grants → length p.order ≡ length grants
-plan_length rates tick asks t lanes grants p b = sym (b.within.wanted.leaves ∙ ap length p.tree.wants ∙ wants_length p.order)
+pub plan_length : (rates : Rates) (tick : ℕ) (asks : List Asker) (t : LimitTree) (lanes grants : List ℕ) → (p : IsFairPlan rates tick asks t lanes grants) → length p.plan.order ≡ length grants
+plan_length rates tick asks t lanes grants p =
+    sym ((fair_within rates.share_by (map ask_in p.plan.order) t grants p.fair).wanted.leaves ∙ ap length p.plan.tree.wants ∙ wants_length p.plan.order)
 
 lane_amount : (d : ℕ → ℕ) (xs : List Asker) (i : ℕ) → i < length xs → get_or (map (λ (x : Asker). d x.0) xs) i 0 ≡ d (get_or (map lane_in xs) i 0)
 lane_amount d [] i h = absurd (omega arith)
@@ -174,26 +177,27 @@ module _ (rates : Rates) (tick : ℕ) (ls ms : List Lane) (posted : AllPosted ls
   unfolding amounts_of
   grants_in_round g = grants_are amounts_of 0 ls ms posted g (amounts_in ms)
 
-  planned_grants : (p : IsPlanned rates tick ls ms) → map (λ (x : Asker). amounts_of x.0) p.plan.order ≡ p.grants
+  planned_grants : (p : IsPlanned rates tick ls ms) → map (λ (x : Asker). amounts_of x.0) p.shares.plan.order ≡ p.grants
   unfolding amounts_of
   planned_grants p =
-      let order = p.plan.order in
-      let long : length order ≡ length p.grants = plan_length rates tick (in_round ls) p.tree p.lanes p.grants p.plan p.best in
-      let wide : length p.lanes ≡ length order = ap length p.plan.lanes_are ∙ length-map order lane_in in
+      let order = p.shares.plan.order in
+      let long : length order ≡ length p.grants = plan_length rates tick (in_round ls) p.tree p.lanes p.grants p.shares in
+      let wide : length p.lanes ≡ length order = ap length p.shares.plan.lanes_are ∙ length-map order lane_in in
       ext_get_or 0 (map (λ (x : Asker). amounts_of x.0) order) p.grants (length-map order (λ (x : Asker). amounts_of x.0) ∙ long)
       (λ i less. let within : i < length order = omega (arith, less, length-map order (λ (x : Asker). amounts_of x.0)) in
-      lane_amount amounts_of order i within ∙ ap (λ (is : List ℕ). amounts_of (get_or is i 0)) (sym p.plan.lanes_are) ∙ ap amount (p.decided i (omega (arith, within, wide))))
+      lane_amount amounts_of order i within ∙ ap (λ (is : List ℕ). amounts_of (get_or is i 0)) (sym p.shares.plan.lanes_are) ∙ ap amount (p.decided i (omega (arith, within, wide))))
 
   pub shared_of : IsPlanned rates tick ls ms → IsShared rates tick ls ms
   shared_of p =
-      let order = p.plan.order in
+      let order = p.shares.plan.order in
       record {
         given = p.given;
         leaves = map (grant_by amounts_of) order;
-        all = subst (IsPermutation (map (grant_by amounts_of) order)) (sym (grants_in_round p.given)) (IsPermutation-map (grant_by amounts_of) order (in_round ls) (IsPermutation-sym (in_round ls) order p.plan.all));
+        all = subst (IsPermutation (map (grant_by amounts_of) order)) (sym (grants_in_round p.given)) (IsPermutation-map (grant_by amounts_of) order (in_round ls) (IsPermutation-sym (in_round ls) order p.shares.plan.all));
         tree = p.tree;
-        of_tick = subst (λ (bs : List Ask). IsTickTree rates tick bs p.tree) (sym (asks_of amounts_of order)) p.plan.tree;
-        best = subst (IsBest p.tree) (sym (octets_of amounts_of order ∙ planned_grants p)) p.best;
+        of_tick = subst (λ (bs : List Ask). IsTickTree rates tick bs p.tree) (sym (asks_of amounts_of order)) p.shares.plan.tree;
+        best = subst (λ (bs : List Ask). IsFair rates.share_by bs p.tree (map granted_octets (map (grant_by amounts_of) order))) (sym (asks_of amounts_of order))
+            (subst (IsFair rates.share_by (map ask_in order) p.tree) (sym (octets_of amounts_of order ∙ planned_grants p)) p.shares.fair);
       }
 
   -- the amounts decided add up to the grants
@@ -202,7 +206,7 @@ module _ (rates : Rates) (tick : ℕ) (ls ms : List Lane) (posted : AllPosted ls
   planned_sum p =
       let f : Asker → ℕ = λ (x : Asker). amounts_of x.0 in
       sym (decided_octets ls ms posted p.given) ∙ ap (λ (gs : List Granted). sum (map granted_octets gs)) (grants_in_round p.given) ∙ ap sum (octets_of amounts_of (in_round ls))
-      ∙ sym (sum_by-IsPermutation (λ (n : ℕ). n) (map f (in_round ls)) (map f p.plan.order) (IsPermutation-map f (in_round ls) p.plan.order p.plan.all)) ∙ ap sum (planned_grants p)
+      ∙ sym (sum_by-IsPermutation (λ (n : ℕ). n) (map f (in_round ls)) (map f p.shares.plan.order) (IsPermutation-map f (in_round ls) p.shares.plan.order p.shares.plan.all)) ∙ ap sum (planned_grants p)
 
   planned_from : (s : IsShared rates tick ls ms) (order : List Asker) → IsPermutation (in_round ls) order → map (grant_by amounts_of) order ≡ s.leaves → IsPlanned rates tick ls ms
   unfolding amounts_of
@@ -211,13 +215,16 @@ module _ (rates : Rates) (tick : ℕ) (ls ms : List Lane) (posted : AllPosted ls
     tree = s.tree;
     lanes = map lane_in order;
     grants = map (λ (x : Asker). amounts_of x.0) order;
-    plan = record {
-      order = order;
-      all = perm;
-      tree = subst (λ (bs : List Ask). IsTickTree rates tick bs s.tree) (ap (map granted_ask) (sym same) ∙ asks_of amounts_of order) s.of_tick;
-      lanes_are = refl;
+    shares = record {
+      plan = record {
+        order = order;
+        all = perm;
+        tree = subst (λ (bs : List Ask). IsTickTree rates tick bs s.tree) (ap (map granted_ask) (sym same) ∙ asks_of amounts_of order) s.of_tick;
+        lanes_are = refl;
+      };
+      fair = subst (λ (bs : List Ask). IsFair rates.share_by bs s.tree (map (λ (x : Asker). amounts_of x.0) order)) (ap (map granted_ask) (sym same) ∙ asks_of amounts_of order)
+          (subst (IsFair rates.share_by (map granted_ask s.leaves) s.tree) (ap (map granted_octets) (sym same) ∙ octets_of amounts_of order) s.best);
     };
-    best = subst (IsBest s.tree) (ap (map granted_octets) (sym same) ∙ octets_of amounts_of order) s.best;
     decided = λ j less. amounts_at ms order j (All-permutation (HasAmount ms) (in_round ls) order perm (all_have [] ls ms 0 refl s.given)) less;
   }
 

@@ -1,13 +1,14 @@
--- A plan with best grants for the asks in Round leads to a decision.
+-- A plan with fair grants for the asks in Round leads to a decision.
 use Rattle.std.proofs.Common.{◌≡◌, ◌≢◌, ℕ, zero, suc, ◌+◌, ◌/◌, ◌<◌, ◌≤◌, ◌⊎◌, inl, inr, Bool, cond, nat_eq, eq-eqb, ne_eqb, List, [], ◌∷◌, ◌++◌, map, length, get_or, sum, sym, refl, ap, ◌∙◌, subst, arith, append_assoc, All, Option, Some}
 use Rattle.std.proofs.lemmas.List.{length-append, length-map}
 use Rattle.std.proofs.lemmas.List.Elements.{All-append, All-cons, All-head, All-nil, All-tail}
 use Rattle.std.proofs.lemmas.List.Sorted.{All-permutation}
 use Rattle.grant_ledger.specs.Books.{NamesNot}
 use Rattle.grant_ledger.specs.declared.ledger.TheConstants.{MAX_ISSUED}
-use Rattle.limit_tree.specs.Sharing.{LimitTree, IsBest}
+use Rattle.limit_tree.specs.Sharing.{LimitTree}
 use Rattle.line_rates.specs.Rates.{Rates}
-use Rattle.line_rates.specs.TickTree.{Asker, IsPlan, lane_in}
+use Rattle.line_rates.specs.TickTree.{Asker, lane_in}
+use Rattle.share_world.specs.Shares.{IsFairPlan}
 use Rattle.world_terms.specs.declared.event.LaneState.{LaneState}
 use Rattle.world_terms.specs.declared.event.LaneState.TheVariants as state
 use Rattle.world_terms.specs.Decisions.{AllPosted, AreGiven, IsDecision, IsGiven, IsReady, IsShared, asker_of, decided_sum, in_round, in_round_from, with_amount}
@@ -101,26 +102,25 @@ amount_at (i ∷ is) (n ∷ ns) (suc j) once long less =
     let k : ℕ = get_or is j 0 in
     ap (λ (b : Bool). cond b n (amount_on is ns k)) (ne_eqb i k (λ e. names_other i is j once.0 (omega arith) (sym e))) ∙ amount_at is ns j once.1 (omega (arith, long)) (omega arith)
 
-module _ (rates : Rates) (tick : ℕ) (ls : List Lane) (t : LimitTree) (lanes grants : List ℕ) (asked : All HasAsk ls) (p : IsPlan rates tick (in_round ls) t lanes) (best : IsBest t grants) (once : Once lanes) where
+module _ (rates : Rates) (tick : ℕ) (ls : List Lane) (t : LimitTree) (lanes grants : List ℕ) (asked : All HasAsk ls) (p : IsFairPlan rates tick (in_round ls) t lanes grants) (once : Once lanes) where
   abbrev pub decided_lanes : List Lane
   decided_lanes = give (amount_on lanes grants) 0 ls
 
   pub lanes_length : length lanes ≡ length grants
-  lanes_length = ap length p.lanes_are ∙ length-map p.order lane_in ∙ plan_length rates tick (in_round ls) t lanes grants p best
+  lanes_length = ap length p.plan.lanes_are ∙ length-map p.plan.order lane_in ∙ plan_length rates tick (in_round ls) t lanes grants p
 
   pub planned : IsPlanned rates tick ls decided_lanes
   planned =
       let f : ℕ → ℕ = amount_on lanes grants in
-      let gives : All (GivesTo f decided_lanes) p.order = All-permutation (GivesTo f decided_lanes) (in_round ls) p.order p.all (all_give f [] ls 0 refl asked) in
+      let gives : All (GivesTo f decided_lanes) p.plan.order = All-permutation (GivesTo f decided_lanes) (in_round ls) p.plan.order p.plan.all (all_give f [] ls 0 refl asked) in
       record {
         given = are_given f 0 ls asked;
         tree = t;
         lanes = lanes;
         grants = grants;
-        plan = p;
-        best = best;
+        shares = p;
         decided = λ j less.
-            subst (λ (is : List ℕ). decided_on decided_lanes (get_or is j 0) ≡ Some (f (get_or is j 0))) (sym p.lanes_are) (gives_at f decided_lanes p.order j gives (subst (λ (is : List ℕ). j < length is) p.lanes_are less))
+            subst (λ (is : List ℕ). decided_on decided_lanes (get_or is j 0) ≡ Some (f (get_or is j 0))) (sym p.plan.lanes_are) (gives_at f decided_lanes p.plan.order j gives (subst (λ (is : List ℕ). j < length is) p.plan.lanes_are less))
             ∙ ap Some (amount_at lanes grants j once lanes_length less);
       }
 
@@ -130,11 +130,11 @@ module _ (rates : Rates) (tick : ℕ) (ls : List Lane) (t : LimitTree) (lanes gr
   decided_is posted = (shared_of rates tick ls decided_lanes posted planned, planned_sum rates tick ls decided_lanes posted planned)
 
 -- a round's decision
-pub decides : (rates : Rates) (moment : ℕ) (last : Option ℕ) (issued : ℕ) (ls : List Lane) (t : LimitTree) (lanes grants : List ℕ) → All HasAsk ls → IsPlan rates (moment / 100) (in_round ls) t lanes → IsBest t grants → Once lanes
+pub decides : (rates : Rates) (moment : ℕ) (last : Option ℕ) (issued : ℕ) (ls : List Lane) (t : LimitTree) (lanes grants : List ℕ) → All HasAsk ls → IsFairPlan rates (moment / 100) (in_round ls) t lanes grants → Once lanes
     → IsReady (at last issued ls) moment → issued + sum grants ≤ MAX_ISSUED
     → IsDecision rates (at last issued ls) moment (moment / 100) (sum grants) (at (Some (moment / 100)) (issued + sum grants) (give (amount_on lanes grants) 0 ls))
-decides rates moment last issued ls t lanes grants asked p best once ready room =
-    let is = decided_is rates (moment / 100) ls t lanes grants asked p best once ready.posted in
+decides rates moment last issued ls t lanes grants asked p once ready room =
+    let is = decided_is rates (moment / 100) ls t lanes grants asked p once ready.posted in
     record {
       ready = ready;
       tick_is = refl;

@@ -9,7 +9,7 @@ use Rattle.atomic_table.specs.Table.{State}
 use Rattle.grant_ledger.specs.Books.{NamesNot}
 use Rattle.line_rates.specs.declared.ask.Ask.{Ask}
 use Rattle.line_rates.specs.Rates.{Rates}
-use Rattle.line_rates.specs.TickTree.{Asker, IsPlan}
+use Rattle.line_rates.specs.TickTree.{Asker}
 use Rattle.world_terms.specs.declared.event.LaneState.TheVariants as state
 use Rattle.world_terms.specs.Decisions.{IsDecision, asker_of, in_round, in_round_from, wants_too_much}
 use Rattle.world_terms.specs.Lanes.{Hidden, Lane, Shown, World, hidden}
@@ -24,6 +24,7 @@ use Rattle.desk_rule.specs.Shown.{last_of, shown_in, state_in}
 use Rattle.lane_desk.specs.Tried.{asks_from}
 use Rattle.round_events.specs.Desk.{HoldsDecision, Holdings, NoneDecided, decided_by, due_ask, grant_on, lanes_by, world_of}
 use Rattle.share_world.specs.Performed.{HasAsk}
+use Rattle.share_world.specs.Shares.{IsFairPlan}
 use Rattle.lane_desk.proofs.PostedLemmas.{names_other}
 use Rattle.round_events.proofs.Deciding.{Once, amount_on, amount_at, decides, give, given_to, lanes_length, to_other}
 use Rattle.round_events.proofs.Desk.{all_decided}
@@ -151,12 +152,12 @@ module _ {N : Type 0} (s : State (LaneSlot N) DeskView) (r : Kept s) (h h' : Hol
       let kn : KnowsRound (length s.homes) r.lane r.trace r.owner r.desk r.dealt seat view = r.each_view seat (Round view) there in
       let ls : List Lane = lanes_by (shown_in r) 0 h.lanes in
       let asks : in_round ls ≡ asks_from 0 os = due_asks_are (shown_in r) (λ i. get_or os i None) 0 h.lanes os (length-map view.traces due_ask ∙ kn.wide ∙ sym long) (λ i. (let z : 0 + i ≡ i = omega arith in ap (λ (n : ℕ). get_or os n None) z)) due in
-      let plan : IsPlan rates (moment / 100) (in_round ls) d.tree d.lanes = subst (λ (xs : List Asker). IsPlan rates (moment / 100) xs d.tree d.lanes) (sym asks) d.plan in
-      let are : AreFound os d.lanes = subst (AreFound os) (sym d.plan.lanes_are) (are_found os d.plan.order d.plan.all) in
+      let shares : IsFairPlan rates (moment / 100) (in_round ls) d.tree d.lanes d.grants = subst (λ (xs : List Asker). IsFairPlan rates (moment / 100) xs d.tree d.lanes d.grants) (sym asks) d.shares in
+      let are : AreFound os d.lanes = subst (AreFound os) (sym d.shares.plan.lanes_are) (are_found os d.shares.plan.order d.shares.plan.all) in
       let asked : All HasAsk ls = due_asked (shown_in r) (λ i. get_or os i None) 0 h.lanes due in
       let same : lanes_by (shown_in r) 0 (decided_by (grant_on d.lanes d.grants) 0 h.lanes) ≡ give (amount_on d.lanes d.grants) 0 ls =
-      all_same (grant_on d.lanes d.grants) (amount_on d.lanes d.grants) (shown_in r) 0 h.lanes (each_same d.lanes d.grants os are (lanes_length rates (moment / 100) ls d.tree d.lanes d.grants asked plan d.best are.once) (shown_in r) 0 h.lanes due d.posted) in
-      let core = decides rates moment h.last_tick h.issued ls d.tree d.lanes d.grants asked plan d.best are.once (record { posted = all_decided (shown_in r) 0 h.lanes d.posted; later = d.later; wants = ap (list_any wants_too_much) asks ∙ d.small })
+      all_same (grant_on d.lanes d.grants) (amount_on d.lanes d.grants) (shown_in r) 0 h.lanes (each_same d.lanes d.grants os are (lanes_length rates (moment / 100) ls d.tree d.lanes d.grants asked shares are.once) (shown_in r) 0 h.lanes due d.posted) in
+      let core = decides rates moment h.last_tick h.issued ls d.tree d.lanes d.grants asked shares are.once (record { posted = all_decided (shown_in r) 0 h.lanes d.posted; later = d.later; wants = ap (list_any wants_too_much) asks ∙ d.small })
       (subst (λ (n : ℕ). h.issued + n ≤ Rattle.grant_ledger.specs.declared.ledger.TheConstants.MAX_ISSUED) d.total_is d.room) in
       let here : World = world_of r h in
       let moved = subst (λ (z : ℕ × ℕ × List Lane). IsDecision rates here moment z.0 z.1 (record { lanes = z.2; last_tick = Some z.0; issued = h.issued + z.1 })) (λ q. (sym d.tick_is q, sym d.total_is q, sym same q)) core in

@@ -26,7 +26,9 @@ use Rattle.round_events.proofs.Desk.{lane_at}
 use Rattle.round_events.proofs.DeskDecision.{IsDueOn, due_on, grant_at, is_now_due, not_due}
 use Rattle.round_events.proofs.Decided.{plan_length}
 use Rattle.round_events.proofs.Found.{AreFound, are_found}
-use Rattle.line_rates.specs.TickTree.{IsPlan, lane_in}
+use Rattle.line_rates.specs.TickTree.{lane_in}
+use Rattle.fair_terms.specs.Fair.{IsFair}
+use Rattle.share_world.specs.Shares.{IsFairPlan}
 
 length-lanes : (f : ℕ → Shown) (k : ℕ) (xs : List Hidden) → length (lanes_by f k xs) ≡ length xs
 length-lanes f k [] = refl
@@ -127,13 +129,13 @@ round_decides given rates moment old new answered t lanes asks grants h r all sm
     let found = r.found in
     let same : map due_ask (tried given found old) ≡ found = tried_due given found old r.wide all in
     let are : AreFound found lanes = subst (AreFound found) (sym r.plan.lanes_are) (are_found found r.plan.order r.plan.all) in
-    let long : length lanes ≡ length grants = ap length r.plan.lanes_are ∙ length-map r.plan.order lane_in ∙ plan_length rates (moment / 100) (asks_from 0 found) t lanes grants r.plan best in (
+    let shares : IsFairPlan rates (moment / 100) (asks_from 0 found) t lanes grants = record { plan = r.plan; fair = subst (λ (bs : List Ask). IsFair rates.share_by bs t grants) r.asks_are best } in
+    let long : length lanes ≡ length grants = ap length r.plan.lanes_are ∙ length-map r.plan.order lane_in ∙ plan_length rates (moment / 100) (asks_from 0 found) t lanes grants shares in (
       record {
         tree = t;
         lanes = lanes;
         grants = grants;
-        plan = subst (λ (os : List (Option Ask)). IsPlan rates (moment / 100) (asks_from 0 os) t lanes) (sym same) r.plan;
-        best = best;
+        shares = subst (λ (os : List (Option Ask)). IsFairPlan rates (moment / 100) (asks_from 0 os) t lanes grants) (sym same) shares;
         small = subst (λ (os : List (Option Ask)). AreSmall (asks_from 0 os)) (sym same) small;
         posted = unset;
         later = later;

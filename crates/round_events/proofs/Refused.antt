@@ -5,7 +5,7 @@ use Rattle.std.proofs.lemmas.List.{length-map}
 use Rattle.std.proofs.lemmas.List.Sorted.{IsPermutation-refl}
 use Rattle.grant_ledger.specs.Books.{BookView}
 use Rattle.grant_ledger.specs.declared.ledger.TheConstants.{MAX_LANES}
-use Rattle.share_world.specs.Shares.{AreFitRates}
+use Rattle.share_world.specs.Shares.{AreFitRates, IsFairPlan}
 use Rattle.share_world.proofs.Small.{no_other_fault}
 use Rattle.limit_tree.specs.declared.fault.TreeFault.{TreeFault}
 use Rattle.limit_tree.specs.declared.fault.TreeFault.TheVariants.{TooDeep, TooManyLeaves, WantTooLarge, LimitTooLarge, FloorTooLarge, FloorsOverLimit}
@@ -13,7 +13,8 @@ use Rattle.line_rates.specs.declared.ask.Ask.{Ask}
 use Rattle.line_rates.specs.FloorSums.{FloorsFit}
 use Rattle.line_rates.specs.Rates.{Rates}
 use Rattle.line_rates.specs.Refused.{HasFault, IsNotOfFloors}
-use Rattle.line_rates.specs.TickTree.{Asker, IsPlan, ask_in, lane_in}
+use Rattle.line_rates.specs.TickTree.{Asker, ask_in, lane_in}
+use Rattle.fair_terms.specs.Fair.{IsFair}
 use Rattle.line_rates.proofs.FloorLemmas.{fit_in_order, floors_within, none_over}
 use Rattle.limit_tree.specs.Outline.{limits, places}
 use Rattle.line_rates.specs.declared.fault.PlanFault.TheVariants as plan
@@ -56,10 +57,12 @@ record IsAsking (asks : List Asker) (ls : List Lane) : Type 0 where
 passes : (rates : Rates) (moment : ℕ) (last : Option ℕ) (issued : ℕ) (asks : List Asker) (ls : List Lane) → IsAsking asks ls
     → ((order : List Asker) → IsPermutation asks order → Once (map lane_in order)) → PassesMost rates (moment / 100) asks issued → core.PassesMost rates (at last issued ls) moment
 passes rates moment last issued asks ls k once p =
-    let plan : IsPlan rates (moment / 100) (in_round ls) p.tree p.lanes = subst (λ (xs : List Asker). IsPlan rates (moment / 100) xs p.tree p.lanes) (sym k.asks_are) p.plan in
-    let one : Once p.lanes = subst Once (sym p.plan.lanes_are) (once p.plan.order p.plan.all) in
-    let is = decided_is rates (moment / 100) ls p.tree p.lanes p.grants k.asked plan p.best one k.posted in
-    record { lanes = decided_lanes rates (moment / 100) ls p.tree p.lanes p.grants k.asked plan p.best one; shared = is.0; above = omega (arith, p.above, is.1) }
+    let fair : IsFair rates.share_by (map ask_in p.plan.plan.order) p.tree p.grants = subst (λ (bs : List Ask). IsFair rates.share_by bs p.tree p.grants) p.plan.asks_are p.best in
+    let shares : IsFairPlan rates (moment / 100) (in_round ls) p.tree p.lanes p.grants =
+    subst (λ (xs : List Asker). IsFairPlan rates (moment / 100) xs p.tree p.lanes p.grants) (sym k.asks_are) (record { plan = p.plan.plan; fair = fair }) in
+    let one : Once p.lanes = subst Once (sym p.plan.plan.lanes_are) (once p.plan.plan.order p.plan.plan.all) in
+    let is = decided_is rates (moment / 100) ls p.tree p.lanes p.grants k.asked shares one k.posted in
+    record { lanes = decided_lanes rates (moment / 100) ls p.tree p.lanes p.grants k.asked shares one; shared = is.0; above = omega (arith, p.above, is.1) }
 
 floors_over : (A : Type 0) (r : Rates) (tick : ℕ) (asks : List Asker) (k : ℕ) → HasFault A r tick asks (FloorsOverLimit k) → FloorsFit r tick (map ask_in asks) → ⊥
 floors_over A r tick asks k has fit = none_over has.root k has.is (floors_within r tick (map ask_in has.order) (limits (places has.root)) has.tree (fit_in_order r tick asks has.order has.all fit))
@@ -94,6 +97,7 @@ module _ (A : Type 0) (rates : Rates) (moment : ℕ) (last : Option ℕ) (issued
   refuses false (reason.NotYet n) e yet later book same h = absurd (yet n refl)
   refuses false reason.BookFull e yet later book same h = (ready later e, passes rates moment last issued asks ls k once (subst (PassesMost rates (moment / 100) asks) (sym same) h.1))
   refuses false reason.Memory e yet later book same h = ready later e
+  refuses false reason.Unshared e yet later book same h = (ready later e, h.1)
   refuses false (reason.Plan (FloorsOverLimit n)) e yet later book same h = of_floors n h.1 (ready later e)
   refuses false (reason.Plan TooDeep) e yet later book same h = absurd (other TooDeep tt h.1 e)
   refuses false (reason.Plan TooManyLeaves) e yet later book same h = absurd (other TooManyLeaves tt h.1 e)
@@ -105,6 +109,7 @@ module _ (A : Type 0) (rates : Rates) (moment : ℕ) (last : Option ℕ) (issued
   refused_for (reason.NotYet n) book l i h = (k.posted, l ∙ h.0, h.1)
   refused_for reason.BookFull book l i h = refuses (list_any wants_too_much asks) reason.BookFull refl (λ n e. cc) (subst (IsLater (moment / 100)) (sym l) h.0) book i h
   refused_for reason.Memory book l i h = refuses (list_any wants_too_much asks) reason.Memory refl (λ n e. cc) (subst (IsLater (moment / 100)) (sym l) h) book i h
+  refused_for reason.Unshared book l i h = refuses (list_any wants_too_much asks) reason.Unshared refl (λ n e. cc) (subst (IsLater (moment / 100)) (sym l) h.0) book i h
   refused_for (reason.Plan f) book l i h = refuses (list_any wants_too_much asks) (reason.Plan f) refl (λ n e. cc) (subst (IsLater (moment / 100)) (sym l) h.0) book i h
 
 -- ---- the whole

@@ -5,16 +5,18 @@ use Rattle.std.proofs.lemmas.List.Elements.{All-nil}
 use Rattle.std.proofs.lemmas.Option.{slice_get-get_or}
 use Rattle.std.specs.Option.{option_map}
 use Rattle.limit_tree.specs.Faults.{first_fault, first_over}
+use Rattle.fair_terms.specs.Fair.{IsFair}
+use Rattle.grant_ledger.specs.declared.ledger.TheConstants.{MAX_ISSUED}
 use Rattle.limit_tree.specs.Sharing.{LimitTree}
 use Rattle.limit_tree.specs.declared.fault.TreeFault.TheVariants.{FloorsOverLimit}
 use Rattle.limit_tree.proofs.Leaves.{or_else-parts, sound_leaves}
 use Rattle.limit_tree.specs.declared.bounds.TheConstants.{MAX_WANT}
 use Rattle.line_rates.specs.declared.ask.Ask.{Ask}
 use Rattle.line_rates.specs.Rates.{Rates}
-use Rattle.line_rates.specs.TickTree.{Asker, IsPlan}
+use Rattle.line_rates.specs.TickTree.{Asker}
 use Rattle.world_terms.specs.declared.event.Event.TheVariants as event
 use Rattle.world_terms.specs.declared.event.EventAnswer.TheVariants as answer
-use Rattle.world_terms.specs.Decisions.{AllPosted, IsPosted, has_large_want, in_round, wants_too_much}
+use Rattle.world_terms.specs.Decisions.{AllPosted, IsLater, IsPosted, has_large_want, in_round, wants_too_much}
 use Rattle.world_terms.specs.Lanes.{Lane, World}
 use Rattle.world_terms.specs.Runs.{IsRun}
 use Rattle.desk_rule.specs.declared.view.TraceView.{TraceView}
@@ -23,11 +25,12 @@ use Rattle.lane_desk.specs.Rounded.{IsAnswered}
 use Rattle.lane_desk.specs.Tried.{asks_from}
 use Rattle.lane_desk.proofs.TriedLemmas.{posted_same}
 use Rattle.round_events.specs.Events.{collects, given_lanes, post_replies, posts, round_events, round_replies, try_replies}
-use Rattle.round_events.specs.Rounds.{IsDecided, PlansAreSmall, RoundIsEvents}
+use Rattle.round_events.specs.Rounds.{PlansAreSmall, RoundIsEvents}
 use Rattle.round_events.specs.Worlds.{AreFoundOn, AreShownBy, IsFoundOn, LeadsOn}
 use Rattle.round_events.proofs.Answered.{IsReadyFor, are_left, are_shown, waiting}
 use Rattle.round_events.proofs.Collects.{EachFound, OfGiven, at, collected, got, posted_got, tries_run}
 use Rattle.share_world.specs.Performed.{HasAsk}
+use Rattle.share_world.specs.Shares.{IsFairPlan}
 use Rattle.round_events.proofs.Deciding.{amount_at, amount_on, decides, give, given_to, lanes_length, to_other}
 use Rattle.round_events.proofs.Found.{AreFound, are_found}
 use Rattle.round_events.proofs.Posts.{AreWaiting, posted, posts_run}
@@ -94,14 +97,15 @@ unreported_on given t t' o e h = ap (λ (x : TraceView). x.posted) (subst (λ (p
 
 -- a decided round, from what is known of its plan
 record IsKnown (given : ℕ → Bool) (found : List (Option Ask)) (rates : ℕ → Rates) (moment : ℕ) (old new : List TraceView) (t : LimitTree) (lanes grants : List ℕ) (w : World) : Type 0 where
-  decided : IsDecided moment t grants w
+  later : IsLater (moment / 100) w.last_tick
+  room : w.issued + sum grants ≤ MAX_ISSUED
   before : AreShownBy old w.lanes
   on : AreFoundOn given found w.lanes
   only : OfGiven given (find found)
   wide : length found ≡ length w.lanes
   still : length new ≡ length old
   are : AreFound found lanes
-  plan : IsPlan (rates (moment / 100)) (moment / 100) (in_round (tried_lanes found w.lanes)) t lanes
+  shares : IsFairPlan (rates (moment / 100)) (moment / 100) (in_round (tried_lanes found w.lanes)) t lanes grants
   small : has_large_want (tried_lanes found w.lanes) ≡ false
   unreported : (i : ℕ) → i < length old → get_or found i None ≡ None → (trace_at new i).posted ≡ (trace_at old i).posted
   reported : (j : ℕ) → j < length lanes → (trace_at new (get_or lanes j 0)).posted ≡ (trace_at old (get_or lanes j 0)).posted ++ get_or grants j 0 ∷ []
@@ -117,7 +121,7 @@ module _ (given : ℕ → Bool) (found : List (Option Ask)) (rates : ℕ → Rat
   ready_lanes = give amounts 0 tried
 
   long : length lanes ≡ length grants
-  long = lanes_length (rates (moment / 100)) (moment / 100) tried t lanes grants (tried_asked rates given found old w k.before k.on k.only) k.plan k.decided.best k.are.once
+  long = lanes_length (rates (moment / 100)) (moment / 100) tried t lanes grants (tried_asked rates given found old w k.before k.on k.only) k.shares k.are.once
 
   ready : (i : ℕ) (l : Lane) → slice_get w.lanes i ≡ Some l → (m : Lane) × (slice_get ready_lanes i ≡ Some m) × IsReadyFor (Some (amounts i)) (get_or found i None) l m
   ready i l e =
@@ -133,8 +137,8 @@ module _ (given : ℕ → Bool) (found : List (Option Ask)) (rates : ℕ → Rat
   decision : IsRun rates (at w.last_tick w.issued tried) (event.Decide moment ∷ posts lanes) (Ok (answer.Decided (moment / 100) (sum grants)) ∷ post_replies grants) (at (Some (moment / 100)) (w.issued + sum grants) (posted lanes grants ready_lanes))
   decision = run_from rates (at w.last_tick w.issued tried) (at (Some (moment / 100)) (w.issued + sum grants) ready_lanes) (at (Some (moment / 100)) (w.issued + sum grants) (posted lanes grants ready_lanes))
       (event.Decide moment) (Ok (answer.Decided (moment / 100) (sum grants))) (posts lanes) (post_replies grants)
-      (decides (rates (moment / 100)) moment w.last_tick w.issued tried t lanes grants (tried_asked rates given found old w k.before k.on k.only) k.plan k.decided.best k.are.once
-      (record { posted = tried_posted rates given found old w k.before k.on k.only; later = k.decided.later; wants = k.small }) k.decided.room)
+      (decides (rates (moment / 100)) moment w.last_tick w.issued tried t lanes grants (tried_asked rates given found old w k.before k.on k.only) k.shares k.are.once
+      (record { posted = tried_posted rates given found old w k.before k.on k.only; later = k.later; wants = k.small }) k.room)
       (posts_run rates (Some (moment / 100)) (w.issued + sum grants) lanes grants ready_lanes waits)
 
   leads : LeadsOn rates w (round_events (given_lanes given 0 (length old)) moment lanes) (round_replies found (given_lanes given 0 (length old)) (Ok (answer.Decided (moment / 100) (sum grants))) grants) found new (Some (moment / 100)) (w.issued + sum grants)
@@ -154,14 +158,16 @@ round_is_events given rates moment old new answered t lanes asks grants w r few 
     let wide : length found ≡ length w.lanes = r.wide ∙ sym before.wide in
     let same : in_round (tried_lanes found w.lanes) ≡ asks_from 0 found = tried_asks rates given found old w before on r.only wide in
     leads given found rates moment old new t lanes grants w (record {
-      decided = decided;
+      later = decided.later;
+      room = decided.room;
       before = before;
       on = on;
       only = r.only;
       wide = wide;
       still = r.still;
       are = subst (AreFound found) (sym r.plan.lanes_are) (are_found found r.plan.order r.plan.all);
-      plan = subst (λ (xs : List Asker). IsPlan (rates (moment / 100)) (moment / 100) xs t lanes) (sym same) r.plan;
+      shares = subst (λ (xs : List Asker). IsFairPlan (rates (moment / 100)) (moment / 100) xs t lanes grants) (sym same)
+          (record { plan = r.plan; fair = subst (λ (bs : List Ask). IsFair (rates (moment / 100)).share_by bs t grants) r.asks_are decided.best });
       small = ap (list_any wants_too_much) same ∙ few;
       unreported = λ i less e. unreported_on (given i) (trace_at old i) (trace_at new i) (get_or found i None) e (r.each i less);
       reported = r.posted;

@@ -1,9 +1,9 @@
 -- Tries come before answers, in each list of the desk's steps.
-use Rattle.std.proofs.Common.{◌≡◌, ◌≢◌, ℕ, zero, suc, ◌+◌, ◌<◌, ◌⊎◌, inl, inr, ⊎_elim, nat_eq, eq-eqb, Bool, true, false, ◌||◌, List, [], ◌∷◌, ◌++◌, length, get_or, set, replicate, sym, refl, ap, ◌∙◌, subst, arith, length-set, get_or-set_other, get_or-set_same, Option, Some, None}
+use Rattle.std.proofs.Common.{◌≡◌, ◌≢◌, ℕ, zero, suc, ◌<◌, inl, inr, ⊎_elim, nat_eq, eq-eqb, Bool, true, false, ◌||◌, List, [], ◌∷◌, length, get_or, set, replicate, sym, refl, ap, ◌∙◌, subst, arith, length-set, get_or-set_other, get_or-set_same, Some, None}
 use mathlib.Core.Logic.{dite}
 use mathlib.Core.Option.{some, some-injective, some-ne-none}
 use native.Mathlib.Decide.{ℕ_discrete}
-use lib.ListN.{get_elem?, length-replicate}
+use lib.ListN.{get_elem?}
 use Rattle.atomic_table.specs.Table.{State, opening}
 use Rattle.atomic_table.proofs.Lists.{at_set}
 use Rattle.world_terms.specs.declared.event.Event.TheVariants as event
@@ -16,7 +16,7 @@ use Rattle.desk_rule.specs.declared.view.RoundView.{RoundView}
 use Rattle.desk_rule.specs.declared.view.TraceView.{TraceView}
 use Rattle.desk_rule.specs.Lanes.{any_due, dealer_after, dealt_to, first_round, has_collected, has_missed, has_posted, is_due, lane_in, taken_in, trace_in, untraced, with_answer, with_lane, with_trace}
 use Rattle.desk_rule.specs.Steps.{Done, StepOn, TableRuns}
-use Rattle.desk_rule.proofs.Keeps.{at_end, at_length}
+use Rattle.desk_rule.proofs.Keeps.{at_end}
 use Rattle.lane_desk.specs.Held.{round_in}
 use Rattle.round_events.specs.Tries.{TriesComeFirst, is_tried}
 

@@ -5,10 +5,11 @@ use mathlib.Core.Option.{some}
 use lib.ListN.{get_elem?}
 use Rattle.atomic_table.specs.Table.{State, opening}
 use Rattle.grant_ledger.specs.declared.ledger.TheConstants.{MAX_ISSUED}
-use Rattle.limit_tree.specs.Sharing.{LimitTree, IsBest}
+use Rattle.fair_terms.specs.Fair.{IsFair}
+use Rattle.limit_tree.specs.Sharing.{LimitTree}
 use Rattle.line_rates.specs.declared.ask.Ask.{Ask}
 use Rattle.line_rates.specs.Rates.{Rates}
-use Rattle.line_rates.specs.TickTree.{IsPlan}
+use Rattle.share_world.specs.Shares.{IsFairPlan}
 use Rattle.world_terms.specs.declared.event.Event.{Event}
 use Rattle.world_terms.specs.declared.event.Event.TheVariants as event
 use Rattle.world_terms.specs.declared.event.EventAnswer.{EventAnswer}
@@ -70,15 +71,14 @@ abbrev pub decided_by : (ℕ → Option ℕ) → ℕ → List Hidden → List Hi
 decided_by f k [] = []
 decided_by f k (x ∷ xs) = hidden x.moved x.back x.hand (f k) ∷ decided_by f (suc k) xs
 
--- A decision at a moment in milliseconds, by a round that knows these turns: best grants of a plan
+-- A decision at a moment in milliseconds, by a round that knows these turns: fair grants of a plan
 -- for the asks that it has collected and not answered, entered into the book.
 pub record HoldsDecision (rates : Rates) (traces : List TraceView) (moment tick total : ℕ)
     (h h' : Holdings) : Type 0 where
   pub tree : LimitTree
   pub lanes : List ℕ
   pub grants : List ℕ
-  pub plan : IsPlan rates (moment / 100) (asks_from 0 (map due_ask traces)) tree lanes
-  pub best : IsBest tree grants
+  pub shares : IsFairPlan rates (moment / 100) (asks_from 0 (map due_ask traces)) tree lanes grants
   pub small : AreSmall (asks_from 0 (map due_ask traces))
   pub posted : NoneDecided h.lanes
   pub later : IsLater (moment / 100) h.last_tick
@@ -210,8 +210,8 @@ RoundDecides =
     (given : ℕ → Bool) (rates : Rates) (moment : ℕ) (old new : List TraceView) (answered : ℕ)
     (t : LimitTree) (lanes : List ℕ) (asks : List Ask) (grants : List ℕ) (h : Holdings)
     (r : IsRoundOver given rates (moment / 100) old new answered t lanes asks grants)
-    → AllAnswered old → AreSmall (asks_from 0 r.found) → IsBest t grants → NoneDecided h.lanes
-    → IsLater (moment / 100) h.last_tick → h.issued + sum grants ≤ MAX_ISSUED
+    → AllAnswered old → AreSmall (asks_from 0 r.found) → IsFair rates.share_by asks t grants
+    → NoneDecided h.lanes → IsLater (moment / 100) h.last_tick → h.issued + sum grants ≤ MAX_ISSUED
     → HoldsDecision rates (tried given r.found old) moment (moment / 100) (sum grants) h
     (after_decision (moment / 100) lanes grants h)
     × ((j : ℕ) → j < length lanes

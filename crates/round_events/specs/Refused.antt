@@ -24,6 +24,7 @@ use Rattle.round_events.specs.Worlds.{AreFoundOn, AreShownBy, LeadsOn}
 abbrev pub fault_for : RoundRefusal → StepFault
 fault_for (reason.NotYet last) = fault.NotYet last
 fault_for reason.BookFull = fault.BookFull
+fault_for reason.Unshared = fault.Unshared
 fault_for reason.Memory = fault.Memory
 fault_for (reason.Plan (FloorsOverLimit branch)) = fault.FloorsOver
 fault_for (reason.Plan other) = fault.TooMuch

@@ -2,7 +2,8 @@
 use Rattle.std.specs.Prelude.{◌≡◌, ℕ, ◌+◌, ◌/◌, ◌≤◌, List, length, sum, Some, None, Ok, Bool, false}
 use Rattle.std.specs.List.{list_any}
 use Rattle.grant_ledger.specs.declared.ledger.TheConstants.{MAX_ISSUED}
-use Rattle.limit_tree.specs.Sharing.{LimitTree, IsBest}
+use Rattle.fair_terms.specs.Fair.{IsFair}
+use Rattle.limit_tree.specs.Sharing.{LimitTree}
 use Rattle.limit_tree.specs.Faults.{tree_fault}
 use Rattle.limit_tree.specs.Outline.{limits}
 use Rattle.limit_tree.specs.declared.place.Place.{Place}
@@ -29,10 +30,11 @@ PlansAreSmall =
     (rates : Rates) (tick : ℕ) (asks : List Asker) (outline : List Place) (lanes : List ℕ)
     → IsPlan rates tick asks (limits outline) lanes → tree_fault outline ≡ None → AreSmall asks
 
--- Of a round at a moment in milliseconds: its grants are best, the tick is above that of the
--- world's last decision, and the book has room for the grants.
-pub record IsDecided (moment : ℕ) (t : LimitTree) (grants : List ℕ) (w : World) : Type 0 where
-  pub best : IsBest t grants
+-- Of a round at a moment in milliseconds: its grants are fair for the asks of the leaves, the tick
+-- is above that of the world's last decision, and the book has room for the grants.
+pub record IsDecided (rates : Rates) (moment : ℕ) (t : LimitTree) (asks : List Ask)
+    (grants : List ℕ) (w : World) : Type 0 where
+  pub best : IsFair rates.share_by asks t grants
   pub later : IsLater (moment / 100) w.last_tick
   pub room : w.issued + sum grants ≤ MAX_ISSUED
 
@@ -46,8 +48,8 @@ RoundIsEvents =
     (t : LimitTree) (lanes : List ℕ) (asks : List Ask) (grants : List ℕ) (w : World)
     (r : IsRoundOver given (rates (moment / 100)) (moment / 100) old new answered t lanes asks
     grants)
-    → AreSmall (asks_from 0 r.found) → IsDecided moment t grants w → AreShownBy old w.lanes
-    → AreFoundOn given r.found w.lanes
+    → AreSmall (asks_from 0 r.found) → IsDecided (rates (moment / 100)) moment t asks grants w
+    → AreShownBy old w.lanes → AreFoundOn given r.found w.lanes
     → LeadsOn rates w (round_events (given_lanes given 0 (length old)) moment lanes)
     (round_replies r.found (given_lanes given 0 (length old))
     (Ok (answer.Decided (moment / 100) (sum grants))) grants)

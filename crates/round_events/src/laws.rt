@@ -19,7 +19,7 @@ pub fn refused_round_is_events<A>()
     ensures events { RefusedRoundIsEvents A }
 {}
 
-/// A decision of the core is that of a plan for the asks in Round with best grants, and the other way round.
+/// A decision of the core is that of a plan for the asks in Round with fair grants, and the other way round.
 pub fn decisions_are_one()
     ensures one { OneDecision }
 {}

@@ -4,6 +4,7 @@ use Rattle.std.specs.FinMap as finite
 use Rattle.std.specs.List.{All}
 use Rattle.std.specs.Prelude.{min, slice_index}
 use Rattle.std.proofs.lemmas.List.{get_or-map, length-map}
+use Rattle.fair_terms.specs.Fair.{fair_within}
 use Rattle.line_rates.specs.declared.ask.Ask.{Ask}
 use Rattle.line_rates.specs.Granted.{Granted, granted_ask, granted_octets}
 use Rattle.line_rates.specs.Names.{floor_of}
@@ -30,7 +31,7 @@ module _ (rates : Rates) (p : Paced) (tick : ℕ) (is : IsGuaranteed rates tick 
   given at leaves (inr best) k d lt =
       let long : length (map granted_octets leaves) ≡ length leaves = length-map leaves granted_octets in
       let asks : length (map granted_ask leaves) ≡ length leaves = length-map leaves granted_ask in
-      let floors : slice_index best.0.floors k ≤ slice_index (map granted_octets leaves) k = best.2.within.floors k (omega (arith, long, lt)) in
+      let floors : slice_index best.0.floors k ≤ slice_index (map granted_octets leaves) k = (fair_within (offer_round tick p).offered.share_by (map granted_ask leaves) best.0 (map granted_octets leaves) best.2).floors k (omega (arith, long, lt)) in
       let floor : slice_index best.0.floors k ≡ floor_of (offer_round tick p).offered (get_or leaves k d).ask =
       ap (λ (xs : List ℕ). slice_index xs k) best.1.floors
       ∙ get_or-map (floor_of (offer_round tick p).offered) (map granted_ask leaves) k d.ask 0 (omega (arith, asks, lt))

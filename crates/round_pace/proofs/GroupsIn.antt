@@ -86,6 +86,6 @@ hands_groups_in r us up keys =
     ∙ sym (get-by_number group_number q (map offer_group us))))
 
 -- nothing else is changed
-pub other_rates : (r : Rates) (us : List GroupPace) → ((put_groups r us).server ≡ r.server) × ((put_groups r us).down ≡ r.down) × ((put_groups r us).up ≡ r.up) × ((put_groups r us).users ≡ r.users)
-other_rates r [] = (refl, refl, refl, refl)
+pub other_rates : (r : Rates) (us : List GroupPace) → ((put_groups r us).server ≡ r.server) × ((put_groups r us).down ≡ r.down) × ((put_groups r us).up ≡ r.up) × ((put_groups r us).users ≡ r.users) × ((put_groups r us).share_by ≡ r.share_by)
+other_rates r [] = (refl, refl, refl, refl, refl)
 other_rates r (u ∷ us) = other_rates (with_group r (offer_group u)) us

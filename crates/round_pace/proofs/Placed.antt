@@ -94,7 +94,7 @@ group_at r gs k d up lt there =
     ap (λ m. finite.get m (group_key g)) (groups_folded r (take k gs)) ∙ (put_others group_key offer_group r.groups (take k gs) (group_key g) (before group_key offer_group gs k d up lt) ∙ there) in
     ap (put_groups r) (take_more gs k d lt)
     ∙ (fold-append put_group r (take k gs) (g ∷ [])
-    ∙ ap (λ m. record { server = rest.server; down = rest.down; up = rest.up; groups = m; users = rest.users }) (put_same rest.groups (group_key g) (offer_group g) same))
+    ∙ ap (λ m. record { server = rest.server; down = rest.down; up = rest.up; groups = m; users = rest.users; share_by = rest.share_by }) (put_same rest.groups (group_key g) (offer_group g) same))
 
 -- one that the limits have is not put, and another is
 pub groups_there : (r now new : Rates) (gs : List GroupPace) (k : ℕ) → IsRising group_key gs → k < length gs → now ≡ put_groups r (take k gs) → ((d : GroupPace) → finite.get r.groups (group_key (get_or gs k d)) ≡ Some (offer_group (get_or gs k d)))
@@ -140,7 +140,7 @@ module _ (down up : ℕ) (groups : List GroupPace) where
       ap (λ m. finite.get m (pace_number u)) (users_folded r (take k us)) ∙ (put_others pace_number (handed_user down up groups) r.users (take k us) (pace_number u) (before pace_number (handed_user down up groups) us k d rising lt) ∙ there) in
       ap (put_users down up groups r) (take_more us k d lt)
       ∙ (fold-append put_user r (take k us) (u ∷ [])
-      ∙ ap (λ m. record { server = rest.server; down = rest.down; up = rest.up; groups = rest.groups; users = m }) (put_same rest.users (pace_number u) (handed_user down up groups u) same))
+      ∙ ap (λ m. record { server = rest.server; down = rest.down; up = rest.up; groups = rest.groups; users = m; share_by = rest.share_by }) (put_same rest.users (pace_number u) (handed_user down up groups u) same))
 
   pub users_there : (r now new : Rates) (us : List UserPace) (k : ℕ) → IsRising pace_number us → k < length us → now ≡ put_users down up groups r (take k us) → ((d : UserPace) → finite.get r.users (pace_number (get_or us k d)) ≡ Some (handed_user down up groups (get_or us k d)))
       → new ≡ now → new ≡ put_users down up groups r (take (k + 1) us)

@@ -129,7 +129,7 @@ one_stretch_keeps rates hs keep = record {
 
 -- the rates of a changed pace
 rates_from : Rates → Groups → Users → Rates
-rates_from r gs us = record { server = r.server; down = r.down; up = r.up; groups = gs; users = us }
+rates_from r gs us = record { server = r.server; down = r.down; up = r.up; groups = gs; users = us; share_by = r.share_by }
 
 pub changed_rates : ChangedRates
 unfolding rates_from

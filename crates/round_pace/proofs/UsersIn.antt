@@ -87,6 +87,6 @@ hands_users_in down up groups r us rising keys =
     ∙ sym (get-by_number user_number q (map (handed_user down up groups) us))))
 
 -- nothing else is changed
-pub other_rates : (down up : ℕ) (groups : List GroupPace) (r : Rates) (us : List UserPace) → ((put_users down up groups r us).server ≡ r.server) × ((put_users down up groups r us).down ≡ r.down) × ((put_users down up groups r us).up ≡ r.up) × ((put_users down up groups r us).groups ≡ r.groups)
-other_rates down up groups r [] = (refl, refl, refl, refl)
+pub other_rates : (down up : ℕ) (groups : List GroupPace) (r : Rates) (us : List UserPace) → ((put_users down up groups r us).server ≡ r.server) × ((put_users down up groups r us).down ≡ r.down) × ((put_users down up groups r us).up ≡ r.up) × ((put_users down up groups r us).groups ≡ r.groups) × ((put_users down up groups r us).share_by ≡ r.share_by)
+other_rates down up groups r [] = (refl, refl, refl, refl, refl)
 other_rates down up groups r (u ∷ us) = other_rates down up groups (with_user r (handed_user down up groups u)) us

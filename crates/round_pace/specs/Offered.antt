@@ -4,7 +4,7 @@ use Rattle.std.specs.List.{fold}
 use Rattle.line_rates.specs.declared.row.GroupRate.{GroupRate}
 use Rattle.line_rates.specs.declared.row.UserRate.{UserRate}
 use Rattle.line_rates.specs.Put.{with_user, with_group, with_line}
-use Rattle.line_rates.specs.Rates.{Rates}
+use Rattle.line_rates.specs.Rates.{Rates, shared_by}
 use Rattle.line_rates.specs.Stated.{stated, IsRising}
 use Rattle.round_pace.specs.declared.credit.Credit.{Credit}
 use Rattle.round_pace.specs.declared.due.Due.{Due}
@@ -126,11 +126,12 @@ with_offered rates p = record {
 abbrev pub offer_round : ℕ → Paced → Paced
 offer_round tick p = with_offered (offer_all (refill_all tick p)) (refill_all tick p)
 
--- the rates of the rows: what is left under each rate
+-- the rates of the rows: what is left under each rate, of a line that is shared as before
 abbrev pub left_rates : Paced → Rates
-left_rates p = stated (credit_rate p.server) (credit_rate p.down) (credit_rate p.up)
+left_rates p = shared_by p.offered.share_by
+    (stated (credit_rate p.server) (credit_rate p.down) (credit_rate p.up)
     (map offer_group p.groups)
-    (map (handed_user (line_parts Down p) (line_parts Up p) p.groups) p.users)
+    (map (handed_user (line_parts Down p) (line_parts Up p) p.groups) p.users))
 
 -- The rates handed in are those of the rows, and there is no other row.
 abbrev pub HandsRowsIn : Type 0

@@ -17,12 +17,14 @@ use Rattle.server_status.specs.declared.status.Direction.TheVariants.{Down, Up}
 use Rattle.server_status.specs.declared.status.AccountStatus.{AccountStatus}
 use Rattle.server_status.specs.declared.status.GroupStatus.{GroupStatus}
 use Rattle.server_status.specs.declared.status.SessionStatus.{SessionStatus}
+use Rattle.server_status.specs.declared.status.SharedAmong.{SharedAmong}
+use Rattle.server_status.specs.declared.status.SharedAmong.TheVariants.{Sessions, Users}
 use Rattle.server_status.specs.declared.status.LineRates.{LineRates}
 use Rattle.server_status.specs.declared.status.Status.{Status}
 use Rattle.server_status.specs.declared.status.TransferStatus.{TransferStatus}
-use Rattle.server_status.specs.Fits.{AllHave, Fits, MemberRow, Has, HasAll, IsAddress, IsFirstFault, IsFirstFaultIn, IsFound, IsMemberFault, IsOtherKind, count_of, direction_of, found}
+use Rattle.server_status.specs.Fits.{AllHave, Fits, MemberRow, Has, HasAll, IsAddress, IsFirstFault, IsFirstFaultIn, IsFound, IsMemberFault, IsOtherKind, count_of, direction_of, found, sharers_of}
 use Rattle.server_status.specs.ReadBack.{AreSame, HavePeers, IsPeer, IsSame, IsSameAccount, IsSameGroup, IsSameSession, IsSameTransfer}
-use Rattle.server_status.specs.StatusData.{account_data, count_if_data, direction_text, group_data, line_data, rate_data, session_data, status_data, text_if_data, transfer_data}
+use Rattle.server_status.specs.StatusData.{account_data, count_if_data, direction_text, group_data, line_data, rate_data, session_data, sharers_text, status_data, text_if_data, transfer_data}
 use Rattle.server_status.specs.StatusRead.{AreOf, HasMembers, IsAccountOf, IsFaultOf, IsFine, IsGroupOf, IsListFault, IsOtherVersion, IsPeopleFault, IsSessionOf, IsTrafficFault, IsTransferOf, IsVersionFault, count_if_in, line_in, list_in, listed}
 use Rattle.server_status.specs.Tables.{account_rows, group_rows, session_rows, status_rows, transfer_rows, version_rows}
 
@@ -46,6 +48,10 @@ text_fits (Some text) = refl
 direction_fits : (d : Direction) → Fits kind.Direction (string (direction_text d))
 direction_fits Down = refl
 direction_fits Up = refl
+
+sharers_fit : (sharers : SharedAmong) → Fits kind.Sharers (string (sharers_text sharers))
+sharers_fit Sessions = refl
+sharers_fit Users = refl
 
 group_has : (g : GroupStatus) → HasAll group_rows (group_data g)
 group_has g = (refl, (rate_fits g.down, (rate_fits g.up, (rate_fits g.guaranteed_down, (rate_fits g.guaranteed_up, tt)))))
@@ -132,7 +138,7 @@ accounts_have [] = tt
 accounts_have (a ∷ xs) = (account_has a, accounts_have xs)
 
 status_has : (s : Status) → HasAll status_rows (status_data s)
-status_has s = (refl, (refl, (refl, (refl, (refl, (refl, (refl, (refl, (refl, (refl, (refl, (refl, (refl, (refl, (rate_fits s.line.both, (rate_fits s.line.down, (rate_fits s.line.up, (refl, (refl, (refl, (refl, (refl, (refl, (rate_fits s.guaranteed_down, (rate_fits s.guaranteed_up, (refl, (refl, (refl, (refl, (refl, (refl, (refl, (refl, (refl, (refl, (refl, (refl, (refl, (refl, (refl, tt))))))))))))))))))))))))))))))))))))))))
+status_has s = (refl, (refl, (refl, (refl, (refl, (refl, (refl, (refl, (refl, (refl, (refl, (refl, (refl, (refl, (rate_fits s.line.both, (rate_fits s.line.down, (rate_fits s.line.up, (sharers_fit s.shared_among, (refl, (refl, (refl, (refl, (refl, (refl, (rate_fits s.guaranteed_down, (rate_fits s.guaranteed_up, (refl, (refl, (refl, (refl, (refl, (refl, (refl, (refl, (refl, (refl, (refl, (refl, (refl, (refl, (refl, tt)))))))))))))))))))))))))))))))))))))))))
 
 pub fine : (s : Status) → HavePeers s → IsFine (status_data s)
 fine s peers = record {
@@ -237,6 +243,10 @@ direction_back : (d : Direction) → unwrap_or (direction_of (string (direction_
 direction_back Down = refl
 direction_back Up = refl
 
+sharers_back : (sharers : SharedAmong) → unwrap_or (sharers_of (string (sharers_text sharers))) Sessions ≡ sharers
+sharers_back Sessions = refl
+sharers_back Users = refl
+
 line_back : (line : LineRates) → line_in (Some (line_data line)) ≡ line
 line_back line = λ i. record { both = rate_back line.both i; down = rate_back line.down i; up = rate_back line.up i }
 
@@ -327,6 +337,7 @@ same s r peers is = record {
   started = sym is.started;
   micros = sym is.micros;
   line = sym (is.line ∙ line_back s.line);
+  shared_among = sym (is.shared_among ∙ sharers_back s.shared_among);
   guaranteed_down = sym (is.guaranteed_down ∙ rate_back s.guaranteed_down);
   guaranteed_up = sym (is.guaranteed_up ∙ rate_back s.guaranteed_up);
   groups = groups_back s.groups.items r.groups.items is.groups;

@@ -106,5 +106,5 @@ status_depth s =
     let sessions = items_low 2 (map session_data s.sessions_now.items) (sessions_low s.sessions_now.items) in
     let accounts = items_low 2 (map account_data s.accounts.items) (accounts_low s.accounts.items) in
     let are = shallow 3 (within (status_data s))
-    (omega (arith, accounts), (zero_low, (zero_low, (zero_low, (one_low, (zero_low, (omega (arith, groups), (rate_below s.guaranteed_down, (rate_below s.guaranteed_up, (one_low, (zero_low, (zero_low, (line_low s, (zero_low, (zero_low, (zero_low, (zero_low, (zero_low, (zero_low, (zero_low, (zero_low, (omega (arith, sessions), (zero_low, (omega (arith, transfers), (zero_low, (zero_low, (zero_low, (zero_low, tt)))))))))))))))))))))))))))) in
+    (omega (arith, accounts), (zero_low, (zero_low, (zero_low, (one_low, (zero_low, (omega (arith, groups), (rate_below s.guaranteed_down, (rate_below s.guaranteed_up, (one_low, (zero_low, (zero_low, (line_low s, (zero_low, (zero_low, (zero_low, (zero_low, (zero_low, (zero_low, (zero_low, (zero_low, (omega (arith, sessions), (zero_low, (zero_low, (omega (arith, transfers), (zero_low, (zero_low, (zero_low, (zero_low, tt))))))))))))))))))))))))))))) in
     omega (arith, are)

@@ -12,6 +12,8 @@ use Rattle.server_status.specs.declared.member.Kind.TheVariants as kind
 use Rattle.server_status.specs.declared.member.Member.{Member}
 use Rattle.server_status.specs.declared.status.Direction.{Direction}
 use Rattle.server_status.specs.declared.status.Direction.TheVariants.{Down, Up}
+use Rattle.server_status.specs.declared.status.SharedAmong.{SharedAmong}
+use Rattle.server_status.specs.declared.status.SharedAmong.TheVariants.{Sessions, Users}
 
 -- ---- values
 
@@ -29,6 +31,14 @@ direction_named name =
 abbrev pub direction_of : Data → Option Direction
 direction_of d = option_and_then direction_named (as_str d)
 
+abbrev pub sharers_named : List ℕ → Option SharedAmong
+sharers_named name =
+    if bytes_eq name (codes "sessions") then Some Sessions
+    else (if bytes_eq name (codes "users") then Some Users else None)
+
+abbrev pub sharers_of : Data → Option SharedAmong
+sharers_of d = option_and_then sharers_named (as_str d)
+
 abbrev pub is_unit : Data → Bool
 is_unit d = option_map_or (λ text. bytes_eq text (codes "octets")) (as_str d) Bool.false
 
@@ -44,6 +54,7 @@ Fits kind.Text d = IsTrue (is_some (as_str d))
 Fits kind.TextOrNull d = IsTrue (is_null d || is_some (as_str d))
 Fits kind.Flag d = IsTrue (is_some (as_bool d))
 Fits kind.Direction d = IsTrue (is_some (direction_of d))
+Fits kind.Sharers d = IsTrue (is_some (sharers_of d))
 Fits kind.Address d = (address : Ipv4Addr) × IsAddress d address
 Fits kind.Unit d = IsTrue (is_unit d)
 Fits kind.List d = IsTrue (is_some (as_array d))

@@ -5,7 +5,7 @@ use Rattle.serde_json.specs.View.{items_of}
 use Rattle.server_status.specs.declared.status.SessionStatus.{SessionStatus}
 use Rattle.server_status.specs.declared.status.Status.{Status}
 use Rattle.server_status.specs.declared.status.TransferStatus.{TransferStatus}
-use Rattle.server_status.specs.StatusData.{account_data, count_data, count_if_data, direction_text, ends_data, group_data, held_data, line_data, peer_data, rate_data, session_data, text_data, text_if_data, transfer_data}
+use Rattle.server_status.specs.StatusData.{account_data, count_data, count_if_data, direction_text, ends_data, group_data, held_data, line_data, peer_data, rate_data, session_data, sharers_text, text_data, text_if_data, transfer_data}
 
 -- ---- of a transfer
 
@@ -104,10 +104,15 @@ people_members status members =
     (put (codes "guaranteed_up") (rate_data status.guaranteed_up)
     (put (codes "guaranteed_down") (rate_data status.guaranteed_down) members)))
 
--- the rates, the rounds, the groups and the transfers
+-- the rates of the line, and among whom it is shared
+abbrev pub line_members : Status → Members → Members
+line_members status members =
+    put (codes "shared_among") (string (sharers_text status.shared_among))
+    (put (codes "line") (line_data status.line) members)
+
+-- the rounds, the groups and the transfers
 abbrev pub part_members : Status → Members → Members
 part_members status members =
     put (codes "transfers") (array (items_of (map transfer_data status.transfers.items)))
     (put (codes "groups") (array (items_of (map group_data status.groups.items)))
-    (put (codes "held") (held_data status.rounds)
-    (put (codes "line") (line_data status.line) members)))
+    (put (codes "held") (held_data status.rounds) members))

@@ -89,6 +89,7 @@ pub record IsSame (a b : Status) : Type 0 where
   pub started : a.started ≡ b.started
   pub micros : a.micros ≡ b.micros
   pub line : a.line ≡ b.line
+  pub shared_among : a.shared_among ≡ b.shared_among
   pub guaranteed_down : a.guaranteed_down ≡ b.guaranteed_down
   pub guaranteed_up : a.guaranteed_up ≡ b.guaranteed_up
   pub groups : AreSame IsSameGroup a.groups.items b.groups.items

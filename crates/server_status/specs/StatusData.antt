@@ -13,6 +13,8 @@ use Rattle.server_status.specs.declared.status.GroupStatus.{GroupStatus}
 use Rattle.server_status.specs.declared.status.HeldRounds.{HeldRounds}
 use Rattle.server_status.specs.declared.status.LineRates.{LineRates}
 use Rattle.server_status.specs.declared.status.SessionStatus.{SessionStatus}
+use Rattle.server_status.specs.declared.status.SharedAmong.{SharedAmong}
+use Rattle.server_status.specs.declared.status.SharedAmong.TheVariants.{Sessions, Users}
 use Rattle.server_status.specs.declared.status.Status.{Status}
 use Rattle.server_status.specs.declared.status.TransferStatus.{TransferStatus}
 
@@ -41,6 +43,11 @@ count_if_data (Some n) = count_data n
 abbrev pub direction_text : Direction → List ℕ
 direction_text Down = codes "down"
 direction_text Up = codes "up"
+
+-- among whom a line is shared
+abbrev pub sharers_text : SharedAmong → List ℕ
+sharers_text Sessions = codes "sessions"
+sharers_text Users = codes "users"
 
 -- four octets, as a dotted text
 abbrev pub peer_data : List ℕ → Data
@@ -154,12 +161,13 @@ status_data status =
     (member (codes "refused_logins") (count_data status.refused_logins)
     (member (codes "sessions") (count_data status.sessions)
     (member (codes "sessions_now") (array (items_of (map session_data status.sessions_now.items)))
+    (member (codes "shared_among") (string (sharers_text status.shared_among))
     (member (codes "started") (count_data status.started)
     (member (codes "transfers") (array (items_of (map transfer_data status.transfers.items)))
     (member (codes "unit") (string (codes "octets"))
     (member (codes "users") (count_data status.users)
     (member (codes "version") (count_data 1)
-    (member (codes "waits") (count_data status.waits) no_members))))))))))))))))))))))))))))
+    (member (codes "waits") (count_data status.waits) no_members)))))))))))))))))))))))))))))
 
 -- ---- texts
 

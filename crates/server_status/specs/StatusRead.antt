@@ -14,12 +14,15 @@ use Rattle.server_status.specs.declared.status.GroupStatus.{GroupStatus}
 use Rattle.server_status.specs.declared.status.HeldRounds.{HeldRounds}
 use Rattle.server_status.specs.declared.status.LineRates.{LineRates}
 use Rattle.server_status.specs.declared.status.SessionStatus.{SessionStatus}
+use Rattle.server_status.specs.declared.status.SharedAmong.{SharedAmong}
+use Rattle.server_status.specs.declared.status.SharedAmong.TheVariants.{Sessions}
 use Rattle.server_status.specs.declared.status.Status.{Status}
 use Rattle.server_status.specs.declared.status.TransferStatus.{TransferStatus}
-use Rattle.server_status.specs.Fits.{AllHave, HasAll, IsAddress, IsFirstFault, IsFirstFaultIn, count_of, direction_of}
+use Rattle.server_status.specs.Fits.{AllHave, HasAll, IsAddress, IsFirstFault, IsFirstFaultIn, count_of, direction_of, sharers_of}
 use Rattle.server_status.specs.Tables.{account_rows, group_rows, session_rows, status_rows, transfer_rows, version_rows}
 
--- ---- the value of a member of a record; 0, false, down, or nothing if the record has it not
+-- ---- the value of a member of a record; 0, false, down, sessions, or nothing if the record has it
+-- not
 
 abbrev pub member_in : List ℕ → Option Data → Option Data
 member_in name record_data = option_and_then (get name) record_data
@@ -36,6 +39,9 @@ flag_in name d = unwrap_or (option_and_then as_bool (member_in name d)) false
 
 abbrev pub direction_in : List ℕ → Option Data → Direction
 direction_in name d = unwrap_or (option_and_then direction_of (member_in name d)) Down
+
+abbrev pub sharers_in : List ℕ → Option Data → SharedAmong
+sharers_in name d = unwrap_or (option_and_then sharers_of (member_in name d)) Sessions
 
 abbrev pub text_if_in : List ℕ → Option Data → Option (List ℕ)
 text_if_in name d = option_and_then as_str (member_in name d)
@@ -143,6 +149,7 @@ pub record HasMembers (d : Data) (s : Status) : Type 0 where
   pub started : s.started ≡ count_in (codes "started") (Some d)
   pub micros : s.micros ≡ count_in (codes "micros") (Some d)
   pub line : s.line ≡ line_in (member_in (codes "line") (Some d))
+  pub shared_among : s.shared_among ≡ sharers_in (codes "shared_among") (Some d)
   pub guaranteed_down : s.guaranteed_down ≡ count_in (codes "guaranteed_down") (Some d)
   pub guaranteed_up : s.guaranteed_up ≡ count_in (codes "guaranteed_up") (Some d)
   pub groups : AreOf IsGroupOf (list_in (codes "groups") (Some d)) s.groups.items

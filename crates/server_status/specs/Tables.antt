@@ -1,7 +1,7 @@
 -- The members of a status and of its records, in the order in which they are judged.
 use Rattle.std.specs.Prelude.{ℕ, List, [], ◌∷◌, None, Some, codes}
 use Rattle.server_status.specs.declared.member.Kind.{Kind}
-use Rattle.server_status.specs.declared.member.Kind.TheVariants.{Address, Direction, Flag, List as Many, Number, NumberOrNull, Text, TextOrNull, Unit as Octets}
+use Rattle.server_status.specs.declared.member.Kind.TheVariants.{Address, Direction, Flag, List as Many, Number, NumberOrNull, Sharers, Text, TextOrNull, Unit as Octets}
 use Rattle.server_status.specs.Fits.{MemberRow}
 
 -- a member of the record itself
@@ -39,6 +39,7 @@ status_rows =
     ∷ inner (codes "line.both") (codes "line") (codes "both") NumberOrNull
     ∷ inner (codes "line.down") (codes "line") (codes "down") NumberOrNull
     ∷ inner (codes "line.up") (codes "line") (codes "up") NumberOrNull
+    ∷ own (codes "shared_among") (codes "shared_among") Sharers
     ∷ inner (codes "held.server") (codes "held") (codes "server") Number
     ∷ inner (codes "held.direction") (codes "held") (codes "direction") Number
     ∷ inner (codes "held.group") (codes "held") (codes "group") Number

@@ -2,13 +2,13 @@
 
 ghost use Rattle.std.specs.Prelude.{◌≡◌, ◌↔◌, IfErr, IfSome, IsNone, IsTrue, OnOk, Some, codes, map, option_map};
 ghost use Rattle.serde_json.specs.View.{view};
-ghost use Rattle.server_status.specs.Fits.{AllHave, Fits, Has, HasAll, IsAddress, IsFirstFault, IsFirstFaultIn, IsMemberFault, direction_named, direction_of, found, is_unit, row_of, rows_of};
+ghost use Rattle.server_status.specs.Fits.{AllHave, Fits, Has, HasAll, IsAddress, IsFirstFault, IsFirstFaultIn, IsMemberFault, direction_named, direction_of, found, is_unit, row_of, rows_of, sharers_named, sharers_of};
 ghost use Rattle.server_status.specs.StatusRead.{IsFaultOf, IsFine, IsListFault, IsPeopleFault, IsTrafficFault, IsVersionFault, count_if_in, list_in};
 ghost use Rattle.server_status.specs.Tables.{account_rows, group_rows, session_rows, transfer_rows};
 
 use crate::fault::StatusFault;
 use crate::member::{ACCOUNT, GROUP, Kind, Member, SESSION, STATUS, TRANSFER, VERSION};
-use crate::status::Direction;
+use crate::status::{Direction, SharedAmong};
 use serde_json::Value;
 use std::net::Ipv4Addr;
 
@@ -29,6 +29,27 @@ pub(crate) fn direction_of(value: &Value) -> Option<Direction>
 {
     match value.as_str() {
         Some(name) => direction_named(name),
+        None => None,
+    }
+}
+
+fn sharers_named(name: &str) -> Option<SharedAmong>
+    ensures sharers { result ≡ sharers_named name.now }
+{
+    if name == "sessions" {
+        Some(SharedAmong::Sessions)
+    } else if name == "users" {
+        Some(SharedAmong::Users)
+    } else {
+        None
+    }
+}
+
+pub(crate) fn sharers_of(value: &Value) -> Option<SharedAmong>
+    ensures sharers { result ≡ sharers_of (view value.now) }
+{
+    match value.as_str() {
+        Some(name) => sharers_named(name),
         None => None,
     }
 }
@@ -63,6 +84,7 @@ fn fits(kind: Kind, value: &Value) -> bool
         Kind::TextOrNull => value.is_null() || value.is_string(),
         Kind::Flag => value.is_boolean(),
         Kind::Direction => direction_of(value).is_some(),
+        Kind::Sharers => sharers_of(value).is_some(),
         Kind::Address => address_of(value).is_some(),
         Kind::Unit => is_unit(value),
         Kind::List => value.is_array(),

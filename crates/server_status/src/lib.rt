@@ -23,6 +23,6 @@ pub use fault::StatusFault;
 pub use reading::read_status;
 pub use status::{
     AccountStatus, Direction, EndCounts, GroupStatus, HeldRounds, LineRates, Rate, SessionStatus,
-    Status, TransferStatus,
+    SharedAmong, Status, TransferStatus,
 };
 pub use writing::status_text;

@@ -13,6 +13,8 @@ pub(crate) enum Kind {
     Flag,
     /// `down` or `up`.
     Direction,
+    /// `sessions` or `users`.
+    Sharers,
     /// Four numbers from 0 to 255, joined by dots.
     Address,
     /// `octets`.
@@ -34,7 +36,7 @@ pub(crate) struct Member(
 pub(crate) static VERSION: [Member; 1] = [Member("version", None, "version", Kind::Number)];
 
 /// The members of a status.
-pub(crate) static STATUS: [Member; 40] = [
+pub(crate) static STATUS: [Member; 41] = [
     Member("unit", None, "unit", Kind::Unit),
     Member("started", None, "started", Kind::Number),
     Member("micros", None, "micros", Kind::Number),
@@ -52,6 +54,7 @@ pub(crate) static STATUS: [Member; 40] = [
     Member("line.both", Some("line"), "both", Kind::NumberOrNull),
     Member("line.down", Some("line"), "down", Kind::NumberOrNull),
     Member("line.up", Some("line"), "up", Kind::NumberOrNull),
+    Member("shared_among", None, "shared_among", Kind::Sharers),
     Member("held.server", Some("held"), "server", Kind::Number),
     Member("held.direction", Some("held"), "direction", Kind::Number),
     Member("held.group", Some("held"), "group", Kind::Number),

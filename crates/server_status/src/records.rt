@@ -2,12 +2,12 @@
 
 ghost use Rattle.std.specs.Prelude.{◌≡◌, IfOk, Some, codes, map, option_map, string_bytes};
 ghost use Rattle.serde_json.specs.View.{view};
-ghost use Rattle.server_status.specs.StatusRead.{AreOf, HasMembers, IsAccountOf, IsGroupOf, IsPeerIn, IsSessionOf, IsTransferOf, count_if_in, count_in, direction_in, ends_in, flag_in, held_in, line_in, list_in, member_in, text_if_in, text_in};
+ghost use Rattle.server_status.specs.StatusRead.{AreOf, HasMembers, IsAccountOf, IsGroupOf, IsPeerIn, IsSessionOf, IsTransferOf, count_if_in, count_in, direction_in, ends_in, flag_in, held_in, line_in, list_in, member_in, sharers_in, text_if_in, text_in};
 
-use crate::judging::{address_of, direction_of, list};
+use crate::judging::{address_of, direction_of, list, sharers_of};
 use crate::status::{
-    AccountStatus, Direction, EndCounts, GroupStatus, HeldRounds, LineRates, SessionStatus, Status,
-    TransferStatus,
+    AccountStatus, Direction, EndCounts, GroupStatus, HeldRounds, LineRates, SessionStatus,
+    SharedAmong, Status, TransferStatus,
 };
 use serde_json::Value;
 use std::alloc::{AllocError, Global};
@@ -62,6 +62,18 @@ fn direction(row: Option<&Value>, name: &str) -> Direction
             None => Direction::Down,
         },
         None => Direction::Down,
+    }
+}
+
+fn sharers(row: Option<&Value>, name: &str) -> SharedAmong
+    ensures sharers { result ≡ sharers_in name.now (option_map (λ v. view v.now) row.entry) }
+{
+    match member(row, name) {
+        Some(value) => match sharers_of(value) {
+            Some(sharers) => sharers,
+            None => SharedAmong::Sessions,
+        },
+        None => SharedAmong::Sessions,
     }
 }
 
@@ -305,6 +317,7 @@ fn with_lists(
         started: count(row, "started"),
         micros: count(row, "micros"),
         line: line(member(row, "line")),
+        shared_among: sharers(row, "shared_among"),
         guaranteed_down: count(row, "guaranteed_down"),
         guaranteed_up: count(row, "guaranteed_up"),
         groups,

@@ -48,6 +48,15 @@ pub enum Direction {
     Up,
 }
 
+/// Among whom is shared what guarantees and limits leave over.
+#[derive(Clone, Copy, Debug, PartialEq, Eq)]
+pub enum SharedAmong {
+    /// Among the sessions that transfer.
+    Sessions,
+    /// Among the users first, and then among the sessions of each.
+    Users,
+}
+
 /// The rates of the whole line.
 #[derive(Clone, Copy, Debug, PartialEq, Eq)]
 pub struct LineRates {
@@ -143,6 +152,8 @@ pub struct Status {
     /// The moment, in microseconds after the start.
     pub micros: u64,
     pub line: LineRates,
+    /// Among whom the line is shared.
+    pub shared_among: SharedAmong,
     /// Guarantees of all sessions together; 0 for none.
     pub guaranteed_down: Rate,
     pub guaranteed_up: Rate,

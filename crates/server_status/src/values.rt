@@ -3,11 +3,11 @@
 ghost use Rattle.std.specs.Prelude.{◌≡◌, IfOk, OnOk, map, option_map};
 ghost use Rattle.serde_json.specs.View.{members_view, view};
 ghost use Rattle.server_status.specs.Members.{client_of, course_members, file_members, owner_members, rate_members, stay_of};
-ghost use Rattle.server_status.specs.StatusData.{account_data, count_if_data, direction_text, ends_data, group_data, held_data, line_data, peer_data, rate_data, session_data, text_data, text_if_data, transfer_data};
+ghost use Rattle.server_status.specs.StatusData.{account_data, count_if_data, direction_text, ends_data, group_data, held_data, line_data, peer_data, rate_data, session_data, sharers_text, text_data, text_if_data, transfer_data};
 
 use crate::status::{
     AccountStatus, Direction, EndCounts, GroupStatus, HeldRounds, LineRates, Rate, SessionStatus,
-    TransferStatus,
+    SharedAmong, TransferStatus,
 };
 use serde_json::{Map, Value, json, put};
 use std::alloc::{AllocError, Global};
@@ -56,6 +56,16 @@ fn direction_text(direction: Direction) -> &'static str
     match direction {
         Direction::Down => "down",
         Direction::Up => "up",
+    }
+}
+
+/// Those among whom a line is shared, by their name.
+pub(crate) fn sharers_text(sharers: SharedAmong) -> &'static str
+    ensures text { result.now ≡ sharers_text sharers }
+{
+    match sharers {
+        SharedAmong::Sessions => "sessions",
+        SharedAmong::Users => "users",
     }
 }
 

@@ -2,13 +2,13 @@
 
 ghost use Rattle.std.specs.Prelude.{◌≡◌, ◌++◌, ◌∷◌, [], IfOk, OnOk, string_bytes};
 ghost use Rattle.serde_json.specs.View.{members_view, view};
-ghost use Rattle.server_status.specs.Members.{client_members, login_members, moment_members, part_members, people_members, total_members};
+ghost use Rattle.server_status.specs.Members.{client_members, line_members, login_members, moment_members, part_members, people_members, total_members};
 ghost use Rattle.server_status.specs.StatusData.{IsStatusText, status_data};
 
 use crate::status::Status;
 use crate::values::{
     account_values, ends_value, group_values, held_value, line_value, rate_value, session_values,
-    transfer_values,
+    sharers_text, transfer_values,
 };
 use serde_json::{Map, Value, put};
 use std::alloc::{AllocError, Global};
@@ -111,12 +111,21 @@ fn put_people(
     put(map, alloc, "accounts", Value::Array(accounts))
 }
 
-/// Puts the rates of the line, the rounds, the groups and the transfers.
+/// Puts the rates of the line, and among whom it is shared.
+fn put_line(map: &mut Map<String, Value>, alloc: Global, status: &Status) -> Result<(), AllocError>
+    ensures line { OnOk result (members_view map.new.entries
+        ≡ line_members status.now (members_view map.old.entries)) }
+{
+    let sharers = Value::try_from_str(alloc, sharers_text(status.shared_among))?;
+    put(map, alloc, "line", line_value(alloc, status.line)?)?;
+    put(map, alloc, "shared_among", sharers)
+}
+
+/// Puts the rounds, the groups and the transfers.
 fn put_parts(map: &mut Map<String, Value>, alloc: Global, status: &Status) -> Result<(), AllocError>
     ensures parts { OnOk result (members_view map.new.entries
         ≡ part_members status.now (members_view map.old.entries)) }
 {
-    put(map, alloc, "line", line_value(alloc, status.line)?)?;
     put(map, alloc, "held", held_value(alloc, status.rounds)?)?;
     let groups = group_values(alloc, &status.groups)?;
     put(map, alloc, "groups", Value::Array(groups))?;
@@ -131,6 +140,7 @@ fn status_value(alloc: Global, status: &Status) -> Result<Value, AllocError>
     put_moment(&mut map, alloc, status)?;
     put_clients(&mut map, alloc, status)?;
     put_totals(&mut map, alloc, status)?;
+    put_line(&mut map, alloc, status)?;
     put_parts(&mut map, alloc, status)?;
     put_logins(&mut map, alloc, status)?;
     put_people(&mut map, alloc, status)?;

@@ -1,9 +1,11 @@
 //! The ticks in which transfers are in a round. The function with the crate's name is the example in its head.
 
 use super::expect::holds;
-use line_rates::{Ask, GroupRate, Limits, UserRate, Way};
+use line_rates::{Ask, GroupRate, Limits, ShareBy, UserRate, Way};
 use linked_list_allocator::LocalHeap;
-use round_cadence::{Beat, Cadence, LONGEST, WORTH, WORTH_UP, WayBeats, interval, next_opening};
+use round_cadence::{
+    Beat, Cadence, LONGEST, WORTH, WORTH_UP, WayBeats, crowd_of, interval, next_opening,
+};
 use round_pace::{Credit, Pace, TransferRows};
 use std::alloc::AllocError;
 use std::process::Abort;
@@ -18,7 +20,7 @@ fn round_cadence(
     let mut cadence = Cadence::new(rt.alloc(), 8, 0)?; // of users with numbers below 8
     for _ in 0..64 {
         // the grants of a round in tick 0, which drained the server's rate of 2,000,000 octets a second
-        cadence.add(ask, rows, 62);
+        cadence.add(ask, rows, 62, 1);
     }
     cadence.settle(Way::Down, 7, rows, 0);
     holds(rt, cadence.opens(Way::Down, 7, rows) == 31); // the last tick of the first 32
@@ -129,16 +131,19 @@ fn beats_count_sharers(rt: HostRuntime) {
     holds(&rt, beat.sharers == 9 && beat.opens == 15);
     beat = beat.add(4_000, WORTH).settle(left(2_001), 15);
     holds(&rt, beat.sharers == 7 && beat.opens == 0); // more than a thousandth is left
-    beat = beat.keep(WORTH).settle(left(0), 16);
+    beat = beat.keep(WORTH, 1).settle(left(0), 16);
     holds(&rt, beat.sharers == 6 && beat.opens == 23); // 8 ticks earn 4,096 octets for each of 6
     beat = beat
         .add(500, WORTH)
         .add(500, WORTH_UP)
-        .keep(WORTH)
-        .keep(WORTH_UP);
+        .keep(WORTH, 1)
+        .keep(WORTH_UP, 1);
     beat = beat.settle(left(0), 0);
     holds(&rt, beat.sharers == 5); // an eighth fewer: two equal grants and two guarantees are four
-    let first = Beat::new().keep(WORTH).add(500, WORTH).settle(left(0), 0);
+    let first = Beat::new()
+        .keep(WORTH, 1)
+        .add(500, WORTH)
+        .settle(left(0), 0);
     holds(&rt, first.sharers == 2 && first.kept == 0);
     holds(&rt, first.cap(0) == first && first.cap(2).opens == 2); // at the latest then
     let beats = WayBeats::new().add(Way::Up, 10, WORTH_UP);
@@ -148,7 +153,7 @@ fn beats_count_sharers(rt: HostRuntime) {
     let beat = Beat::new().ask(WORTH).ask(WORTH_UP).settle(left(0), 0);
     holds(&rt, beat.sharers == 1 && beat.opens == 1); // 1 tick earns 256 octets
     let beats = WayBeats::new()
-        .keep(Way::Up, WORTH_UP)
+        .keep(Way::Up, WORTH_UP, 1)
         .settle(Way::Up, left(0), 0);
     holds(&rt, beats.cap(Way::Up, 1).beat(Way::Up).opens == 1);
     let beats = WayBeats::new().ask(Way::Down, WORTH);
@@ -185,7 +190,7 @@ fn opens_after(
 ) -> u64 {
     let mut cadence = Cadence::new(rt.alloc(), 3, 0).expect(rt, "memory");
     for _ in 0..64 {
-        cadence.add(asked(2, way), rows, 62);
+        cadence.add(asked(2, way), rows, 62, 1);
     }
     cadence.settle(way, 2, rows, tick);
     cadence.opens(way, user, rows)
@@ -217,7 +222,7 @@ fn sessions_have_a_beat_in_common(rt: HostRuntime) {
     let mut small = asked(2, Way::Down);
     small.want = 1_024;
     let rows = session_rows(OPEN, drained(100_000), false);
-    cadence.add(small, &rows, 200);
+    cadence.add(small, &rows, 200, 1);
     cadence.settle(Way::Down, 2, &rows, 0);
     holds(&rt, cadence.opens(Way::Down, 2, &rows) == 1); // 2 ticks earn 256 octets, a quarter of what it wants
     let slow = session_rows(OPEN, drained(31_250), false);
@@ -229,13 +234,61 @@ fn sessions_have_a_beat_in_common(rt: HostRuntime) {
     holds(&rt, opens_after(&rt, Way::Down, &rows, 0, 1) == 31);
 }
 
+// The first tick in which the server's rate is open again, after a round in tick 0 that drained it: one transfer of user 1
+// was granted half, and the other half some transfers of user 2, each an equal part. The line is shared among users.
+fn opens_beside(
+    rt: &(impl Abort + AllocGlobal),
+    rate: u64,
+    transfers: u64,
+    floors: (bool, bool),
+) -> u64 {
+    let mut cadence = Cadence::new(rt.alloc(), 3, 0).expect(rt, "memory");
+    let rows = session_rows(drained(rate), OPEN, floors.0);
+    cadence.add(asked(1, Way::Down), &rows, 9_600, 1);
+    let rows = session_rows(drained(rate), OPEN, floors.1);
+    for _ in 0..transfers {
+        cadence.add(asked(2, Way::Down), &rows, 9_600 / transfers, transfers);
+    }
+    cadence.settle(Way::Down, 1, &rows, 0);
+    cadence.opens(Way::Down, 1, &rows)
+}
+
+/// The rate of a server, the transfers of user 2, whether those of user 1 and of user 2 have a guarantee, and the next tick
+/// in which the rate is open.
+static CROWDS: [(u64, u64, (bool, bool), u64); 8] = [
+    (2_048_000, 1, (false, false), 1), // 2 parts of 4,096 octets
+    (2_048_000, 8, (false, false), 15), // of 8 times as many
+    (2_048_000, 60, (false, false), 31), // of 65,536
+    (4_096_000, 60, (false, false), 15),
+    (65_536_000, 60, (false, false), 1),
+    (4_096_000, 60, (false, true), 15), // 60 with a guarantee are one sharer
+    (4_096_000, 60, (true, true), 15),
+    (4_096_000, 1, (true, true), 1),
+];
+
+#[test]
+fn transfers_of_a_user_share_a_part(rt: HostRuntime) {
+    for (rate, transfers, floors, opens) in &CROWDS {
+        holds(&rt, opens_beside(&rt, *rate, *transfers, *floors) == *opens);
+    }
+    let asks = [
+        asked(1, Way::Down),
+        asked(2, Way::Down),
+        asked(2, Way::Up),
+        asked(2, Way::Down),
+    ];
+    holds(&rt, crowd_of(ShareBy::Sessions, &asks, asks[1]) == 1);
+    holds(&rt, crowd_of(ShareBy::Users, &asks, asks[1]) == 2);
+    holds(&rt, crowd_of(ShareBy::Users, &asks, asks[2]) == 1);
+}
+
 /// The rows of a transfer with a guarantee open no later than those that they are within.
 #[test]
 fn rows_with_a_guarantee_are_aligned(rt: HostRuntime) {
     for (has_floor, opens) in &[(false, 31), (true, 3)] {
         let mut cadence = Cadence::new(rt.alloc(), 3, 0).expect(&rt, "memory");
         let rows = session_rows(left(0), drained(31_250), *has_floor);
-        cadence.add(asked(2, Way::Down), &rows, 62);
+        cadence.add(asked(2, Way::Down), &rows, 62, 1);
         cadence.settle(Way::Down, 2, &rows, 1); // the server's 2 ticks, the session's 32
         holds(&rt, cadence.opens(Way::Down, 2, &rows) == *opens);
     }
@@ -342,7 +395,7 @@ fn grouped(credit: Credit) -> TransferRows {
 }
 
 fn hold_round(cadence: &mut Cadence, user: u32, rows: &TransferRows) {
-    cadence.add(asked(user, Way::Down), rows, 100);
+    cadence.add(asked(user, Way::Down), rows, 100, 1);
     cadence.settle(Way::Down, user, rows, 0);
     cadence.settle(Way::Down, user, rows, 5); // nothing was added
 }

@@ -5,6 +5,7 @@ use Rattle.std.specs.List.{list_any}
 use Rattle.std.proofs.lemmas.Bool.{or_parts}
 use Rattle.std.proofs.lemmas.List.Sums.{sum_by-cons, sum_by-append}
 use Rattle.std.proofs.lemmas.List.Sorted.{sum_by-IsPermutation, All-permutation, IsPermutation-map, IsPermutation-sym}
+use Rattle.fair_terms.specs.Fair.{fair_within}
 use Rattle.line_rates.specs.declared.ask.Ask.{Ask}
 use Rattle.line_rates.specs.declared.ask.Name.{Name}
 use Rattle.line_rates.specs.Granted.{Granted, granted_ask, granted_octets, granted_under, GrantsKeepNames}
@@ -68,7 +69,7 @@ lanes_sum r n (l ∷ ls) = omega (arith, sum_by-append (λ (g : Granted). cond (
 
 pub keeps_limits : GrantsKeepNames → (r : Rates) (tick : ℕ) (ls ms : List Lane) → IsShared r tick ls ms → (n : Name) (most : ℕ) → rate_limit (rate_of r n) tick ≡ Some most → sum_by (decided_under r n) ms ≤ most
 keeps_limits law r tick ls ms s n most e =
-    omega (arith, lanes_sum r n ms, sum_by-IsPermutation (λ (g : Granted). cond (bears r n g.ask) g.octets 0) s.leaves (decided_grants ms) s.all, law r tick s.tree s.leaves s.of_tick s.best.within n most e)
+    omega (arith, lanes_sum r n ms, sum_by-IsPermutation (λ (g : Granted). cond (bears r n g.ask) g.octets 0) s.leaves (decided_grants ms) s.all, law r tick s.tree s.leaves s.of_tick (fair_within r.share_by (map granted_ask s.leaves) s.tree (map granted_octets s.leaves) s.best) n most e)
 
 -- ---- the asks
 
@@ -208,7 +209,7 @@ pub keeps_floors : (r : Rates) (tick : ℕ) (ls ms : List Lane) → IsShared r t
     → floor_of r a ≤ decided_of m
 keeps_floors r tick ls ms s i l m a x y here asks =
     let floors : (j : ℕ) → j < length (map granted_octets s.leaves) → slice_index (map (floor_of r) (map granted_ask s.leaves)) j ≤ slice_index (map granted_octets s.leaves) j =
-    λ j less. subst (λ (fs : List ℕ). slice_index fs j ≤ slice_index (map granted_octets s.leaves) j) s.of_tick.floors (s.best.within.floors j less) in
+    λ j less. subst (λ (fs : List ℕ). slice_index fs j ≤ slice_index (map granted_octets s.leaves) j) s.of_tick.floors ((fair_within r.share_by (map granted_ask s.leaves) s.tree (map granted_octets s.leaves) s.best).floors j less) in
     lanes_floored r ls ms i l m a s.given x y here asks (one_by_one r (decided_grants ms) (All-permutation (IsFloored r) s.leaves (decided_grants ms) s.all (leaves_floored r s.leaves floors)))
 
 -- ---- each decision

@@ -11,7 +11,7 @@ use Rattle.world_terms.specs.declared.event.Event.{Event}
 use Rattle.world_terms.specs.declared.event.EventAnswer.{EventAnswer}
 use Rattle.world_terms.specs.declared.fault.StepFault.{StepFault}
 use Rattle.world_terms.specs.Lanes.{World}
-use Rattle.world_terms.specs.Runs.{TraceEntry, IsRun, IsRunOfSome, event_of, reply_of, tick_of}
+use Rattle.world_terms.specs.Runs.{TraceEntry, IsRun, event_of, reply_of, tick_of}
 use Rattle.world_terms.specs.Steps.{Step}
 
 pub run_none : (r : ℕ → Rates) (start : World) → IsRun r start [] [] start

@@ -1,4 +1,4 @@
--- Best grants of a plan for the asks in Round, dealt to their lanes, are a decision.
+-- Fair grants of a plan for the asks in Round, dealt to their lanes, are a decision.
 use Rattle.std.proofs.Common.{◌≡◌, ◌≢◌, ℕ, zero, suc, ◌+◌, ◌/◌, ◌<◌, ◌≤◌, ◌⊎◌, inl, inr, Bool, cond, List, [], ◌∷◌, ◌++◌, length, map, set, sum, sum_by, sym, refl, ap, ◌∙◌, subst, arith, append-nil, Option, Some, None}
 use Rattle.std.specs.Prelude.{All, slice_get, slice_index_or, nat_eq, IsPermutation}
 use Rattle.std.proofs.lemmas.Bool.Decides.{eqb_tells}
@@ -6,7 +6,9 @@ use Rattle.std.proofs.lemmas.Bool.{eq-eqb}
 use Rattle.std.proofs.lemmas.List.Sums.{sum_by-cons, sum_by-append}
 use Rattle.std.proofs.lemmas.List.Sorted.{All-permutation, IsPermutation-sym, IsPermutation-trans, IsPermutation-middle, IsPermutation-append_right, IsPermutation-map, IsPermutation-refl, sum_by-IsPermutation}
 use Rattle.grant_ledger.specs.Books.{NamesNot}
-use Rattle.limit_tree.specs.Sharing.{LimitTree, IsBest}
+use Rattle.limit_tree.specs.Sharing.{LimitTree}
+use Rattle.fair_terms.specs.Fair.{IsFair, fair_within}
+use Rattle.fair_shares.specs.Asked.{AreApart}
 use Rattle.line_rates.specs.declared.ask.Ask.{Ask}
 use Rattle.line_rates.specs.declared.ask.Way.TheVariants as way
 use Rattle.line_rates.specs.Granted.{Granted, granted_ask, granted_octets}
@@ -23,7 +25,7 @@ use Rattle.grant_ledger.specs.declared.ledger.TheConstants.{MAX_ISSUED, MAX_LANE
 use Rattle.share_world.proofs.Grants.{EachPosted, all_octets, given_sum, posted_all}
 use Rattle.share_world.proofs.Kept.{shares_add}
 use Rattle.share_world.specs.Limited.{IsKept}
-use Rattle.share_world.specs.Shares.{AreOpen, dealt}
+use Rattle.share_world.specs.Shares.{AreOpen, IsFairPlan, dealt}
 use Rattle.share_world.specs.Performed.{HasAsk}
 use Rattle.share_world.proofs.Deals.{get_here, get_other, same_at}
 
@@ -308,9 +310,9 @@ map_length : (xs : List Asker) → length (map lane_in xs) ≡ length xs
 map_length [] = refl
 map_length (x ∷ xs) = omega (arith, map_length xs)
 
-pub is_shared : (r : Rates) (tick : ℕ) (ls : List Lane) (t : LimitTree) (numbers ns : List ℕ) → AllPosted ls → All HasAsk ls → IsPlan r tick (in_round ls) t numbers → IsBest t ns → length numbers ≡ length ns
+pub is_shared : (r : Rates) (tick : ℕ) (ls : List Lane) (t : LimitTree) (numbers ns : List ℕ) → AllPosted ls → All HasAsk ls → (plan : IsPlan r tick (in_round ls) t numbers) → IsFair r.share_by (map ask_in plan.order) t ns → length numbers ≡ length ns
     → IsShared r tick ls (dealt numbers ns ls)
-is_shared r tick ls t numbers ns posted asked plan best each =
+is_shared r tick ls t numbers ns posted asked plan fair each =
     let p : EachPosted ls = posted_all ls posted in
     let order_each : length plan.order ≡ length ns = omega (arith, map_length plan.order, ap length plan.lanes_are) in
     subst (λ (is : List ℕ). IsShared r tick ls (dealt is ns ls)) (sym plan.lanes_are) (record {
@@ -320,44 +322,50 @@ is_shared r tick ls t numbers ns posted asked plan best each =
           (all_more plan.order ns ls order_each (plan_asks ls plan.order p plan.all));
       tree = t;
       of_tick = subst (λ (asks : List Ask). IsTickTree r tick asks t) (sym (leaf_asks plan.order ns order_each)) plan.tree;
-      best = subst (IsBest t) (sym (leaf_octets plan.order ns order_each)) best;
+      best = subst (λ (asks : List Ask). IsFair r.share_by asks t (map granted_octets (leaf_grants plan.order ns))) (sym (leaf_asks plan.order ns order_each))
+          (subst (IsFair r.share_by (map ask_in plan.order) t) (sym (leaf_octets plan.order ns order_each)) fair);
     })
 
 -- ---- as the code has it
 
--- a plan for the asks in Round with best grants
+-- no two asks in Round are of one lane
+pub apart_in_round : (ls : List Lane) → AreApart (in_round ls)
+apart_in_round ls k = at_most_one k 0 ls
+
+-- a plan for the asks in Round with fair grants
 pub record IsDeal (r : Rates) (tick : ℕ) (ls : List Lane) (t : LimitTree) (numbers ns : List ℕ) : Type 0 where
   pub posted : AllPosted ls
   pub asked : All HasAsk ls
-  pub plan : IsPlan r tick (in_round ls) t numbers
-  pub best : IsBest t ns
+  pub fair : IsFairPlan r tick (in_round ls) t numbers ns
 
 wants_length : (xs : List Asker) → length (map want_of (map ask_in xs)) ≡ length xs
 wants_length [] = refl
 wants_length (x ∷ xs) = omega (arith, wants_length xs)
 
 deal_each : (r : Rates) (tick : ℕ) (ls : List Lane) (t : LimitTree) (numbers ns : List ℕ) → IsDeal r tick ls t numbers ns → length numbers ≡ length ns
-deal_each r tick ls t numbers ns d = omega (arith, ap length d.plan.lanes_are, map_length d.plan.order, d.best.within.wanted.leaves, ap length d.plan.tree.wants, wants_length d.plan.order)
+deal_each r tick ls t numbers ns d =
+    let plan = d.fair.plan in
+    omega (arith, ap length plan.lanes_are, map_length plan.order, (fair_within r.share_by (map ask_in plan.order) t ns d.fair.fair).wanted.leaves, ap length plan.tree.wants, wants_length plan.order)
 
 pub deal_due : (r : Rates) (tick : ℕ) (ls : List Lane) (t : LimitTree) (numbers ns : List ℕ) → IsDeal r tick ls t numbers ns → AreOpen numbers ls
-deal_due r tick ls t numbers ns d = subst (λ (is : List ℕ). AreOpen is ls) (sym d.plan.lanes_are) (plan_open ls d.plan.order (plan_asks ls d.plan.order (posted_all ls d.posted) d.plan.all))
+deal_due r tick ls t numbers ns d = subst (λ (is : List ℕ). AreOpen is ls) (sym d.fair.plan.lanes_are) (plan_open ls d.fair.plan.order (plan_asks ls d.fair.plan.order (posted_all ls d.posted) d.fair.plan.all))
 
 pub deal_shared : (r : Rates) (tick : ℕ) (ls : List Lane) (t : LimitTree) (numbers ns : List ℕ) → IsDeal r tick ls t numbers ns → IsShared r tick ls (dealt numbers ns ls)
-deal_shared r tick ls t numbers ns d = is_shared r tick ls t numbers ns d.posted d.asked d.plan d.best (deal_each r tick ls t numbers ns d)
+deal_shared r tick ls t numbers ns d = is_shared r tick ls t numbers ns d.posted d.asked d.fair.plan d.fair.fair (deal_each r tick ls t numbers ns d)
 
 pub deal_sum : (r : Rates) (tick : ℕ) (ls : List Lane) (t : LimitTree) (numbers ns : List ℕ) → IsDeal r tick ls t numbers ns → decided_sum (dealt numbers ns ls) ≡ sum ns
 deal_sum r tick ls t numbers ns d =
     let p : EachPosted ls = posted_all ls d.posted in
-    let each : length d.plan.order ≡ length ns = omega (arith, map_length d.plan.order, ap length d.plan.lanes_are, deal_each r tick ls t numbers ns d) in
-    let perm : IsPermutation (leaf_grants d.plan.order ns) (decided_grants (dealt (map lane_in d.plan.order) ns ls)) =
-    subst (λ (gs : List Granted). IsPermutation gs (decided_grants (dealt (map lane_in d.plan.order) ns ls))) (ap (λ (gs : List Granted). leaf_grants d.plan.order ns ++ gs) (none_decided ls p) ∙ append-nil (leaf_grants d.plan.order ns))
-    (all_more d.plan.order ns ls each (plan_asks ls d.plan.order p d.plan.all)) in
-    let octets : sum (map granted_octets (decided_grants (dealt (map lane_in d.plan.order) ns ls))) ≡ sum (map granted_octets (leaf_grants d.plan.order ns)) =
-    sum_by-IsPermutation (λ (n : ℕ). n) (map granted_octets (leaf_grants d.plan.order ns)) (map granted_octets (decided_grants (dealt (map lane_in d.plan.order) ns ls)))
-    (IsPermutation-map granted_octets (leaf_grants d.plan.order ns) (decided_grants (dealt (map lane_in d.plan.order) ns ls)) perm) in
-    ap (λ (is : List ℕ). decided_sum (dealt is ns ls)) d.plan.lanes_are
-    ∙ sym (all_octets ls (dealt (map lane_in d.plan.order) ns ls) p (are_given ls d.plan.order ns each p d.asked d.plan.all))
-    ∙ octets ∙ ap sum (leaf_octets d.plan.order ns each)
+    let each : length d.fair.plan.order ≡ length ns = omega (arith, map_length d.fair.plan.order, ap length d.fair.plan.lanes_are, deal_each r tick ls t numbers ns d) in
+    let perm : IsPermutation (leaf_grants d.fair.plan.order ns) (decided_grants (dealt (map lane_in d.fair.plan.order) ns ls)) =
+    subst (λ (gs : List Granted). IsPermutation gs (decided_grants (dealt (map lane_in d.fair.plan.order) ns ls))) (ap (λ (gs : List Granted). leaf_grants d.fair.plan.order ns ++ gs) (none_decided ls p) ∙ append-nil (leaf_grants d.fair.plan.order ns))
+    (all_more d.fair.plan.order ns ls each (plan_asks ls d.fair.plan.order p d.fair.plan.all)) in
+    let octets : sum (map granted_octets (decided_grants (dealt (map lane_in d.fair.plan.order) ns ls))) ≡ sum (map granted_octets (leaf_grants d.fair.plan.order ns)) =
+    sum_by-IsPermutation (λ (n : ℕ). n) (map granted_octets (leaf_grants d.fair.plan.order ns)) (map granted_octets (decided_grants (dealt (map lane_in d.fair.plan.order) ns ls)))
+    (IsPermutation-map granted_octets (leaf_grants d.fair.plan.order ns) (decided_grants (dealt (map lane_in d.fair.plan.order) ns ls)) perm) in
+    ap (λ (is : List ℕ). decided_sum (dealt is ns ls)) d.fair.plan.lanes_are
+    ∙ sym (all_octets ls (dealt (map lane_in d.fair.plan.order) ns ls) p (are_given ls d.fair.plan.order ns each p d.asked d.fair.plan.all))
+    ∙ octets ∙ ap sum (leaf_octets d.fair.plan.order ns each)
 
 pub deal_kept : (r : Rates) (tick : ℕ) (ls : List Lane) (t : LimitTree) (numbers ns : List ℕ) (total issued : ℕ) → IsDeal r tick ls t numbers ns → total ≡ sum ns → issued + total ≤ MAX_ISSUED → IsKept ls issued → IsKept (dealt numbers ns ls) (issued + total)
 deal_kept r tick ls t numbers ns total issued d is most k = record {

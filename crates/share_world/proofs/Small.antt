@@ -1,8 +1,8 @@
 -- The tree of a tick over few asks, none of which wants too much, has no fault but floors above a limit.
-use Rattle.std.proofs.Common.{◌≡◌, ℕ, zero, suc, ◌+◌, ◌*◌, ◌%◌, ◌<◌, ◌≤◌, Bool, true, false, cond, List, [], ◌∷◌, map, length, length-append, get_or, min, refl, sym, ap, ◌∙◌, subst, arith, ◌⊎◌, inl, inr, Option, Some, None, Result, Ok, Err}
+use Rattle.std.proofs.Common.{◌≡◌, ℕ, zero, suc, ◌+◌, ◌*◌, ◌%◌, ◌<◌, ◌≤◌, Bool, true, false, List, [], ◌∷◌, map, length, length-append, refl, sym, ap, ◌∙◌, subst, arith, inl, inr, Option, Some, None, Result, Ok, Err}
 use Rattle.std.specs.Prelude.{All, nat_eq, nat_lt, nat_le, ◌||◌, ◌&&◌, if◌then◌else◌, slice_get, unwrap_or, ⊤}
 use Rattle.std.specs.Result.{IfOk}
-use Rattle.std.specs.List.{list_any, filter_map, cons_option, Contains}
+use Rattle.std.specs.List.{list_any, cons_option}
 use Rattle.std.specs.Option.{option_and_then, option_map}
 use Rattle.std.specs.FinMap as finite
 use Rattle.std.proofs.lemmas.Bool.{and_parts, and_from, or_parts, leb-true, ltb-true, ltb-false, le-leb, lt-ltb, lt-leb, le-ltb, eqb-true, cases_lt, cases_order}
@@ -12,7 +12,7 @@ use Rattle.std.proofs.lemmas.List.Elements.{All-nil, All-cons}
 use Rattle.std.proofs.lemmas.List.Sorted.{All-permutation, length_permutation}
 use Rattle.limit_tree.specs.Sharing.{Branch as SharedBranch}
 use Rattle.limit_tree.specs.Outline.{leaf_count, leaf_range, leaf_want, leaf_floor, is_leaf_kind, branch_of, limits, places}
-use Rattle.limit_tree.specs.Faults.{or_else, kind_fault, node_fault, first_fault, first_over, tree_fault}
+use Rattle.limit_tree.specs.Faults.{or_else, kind_fault, node_fault, first_fault, first_over}
 use Rattle.limit_tree.specs.declared.bounds.TheConstants.{MAX_DEPTH, MAX_NODES, MAX_LEAVES, MAX_WANT, MAX_LIMIT}
 use Rattle.limit_tree.specs.declared.place.NodeKind.{NodeKind}
 use Rattle.limit_tree.specs.declared.place.NodeKind.TheVariants.{Branch, Leaf}
@@ -41,7 +41,7 @@ use Rattle.line_rates.specs.Refused.{HasFault, IsNotOfFloors}
 use Rattle.line_rates.specs.Stated.{by_number, group_number, user_number, FitsGroup, FitsUser}
 use Rattle.line_rates.specs.Ticks.{rate_limit, share_of}
 use Rattle.line_rates.specs.TickTree.{AreNamed, Asker, IsNamed, IsTickTree, ask_in, bears_at, bears_in, is_name}
-use Rattle.line_rates.proofs.RowLemmas.{first_contains, first_row, get-by_number}
+use Rattle.line_rates.proofs.RowLemmas.{first_contains, get-by_number}
 use Rattle.line_rates.proofs.TickLemmas.{times_more}
 use Rattle.world_terms.specs.Decisions.{asker_of, in_round, in_round_from, wants_too_much}
 use Rattle.world_terms.specs.Lanes.{Lane}

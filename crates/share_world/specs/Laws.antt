@@ -1,6 +1,7 @@
 -- Laws of every run from a new world.
-use Rattle.std.specs.Prelude.{◌≡◌, ◌≢◌, ℕ, ◌+◌, ◌≤◌, if◌then◌else◌, List, ◌∷◌, ◌++◌, map, slice_get, sum, sum_by, Some, Ok, IsPermutation}
-use Rattle.limit_tree.specs.Sharing.{LimitTree, IsBest}
+use Rattle.std.specs.Prelude.{◌≡◌, ℕ, ◌+◌, ◌≤◌, if◌then◌else◌, List, ◌∷◌, ◌++◌, map, slice_get, sum, sum_by, Some, Ok, IsPermutation}
+use Rattle.limit_tree.specs.Sharing.{LimitTree}
+use Rattle.fair_terms.specs.Fair.{IsFair}
 use Rattle.line_rates.specs.declared.ask.Ask.{Ask}
 use Rattle.line_rates.specs.declared.ask.Name.{Name}
 use Rattle.line_rates.specs.declared.ask.Name.TheVariants.{Server}
@@ -88,8 +89,9 @@ OfEachDecision P =
     → P rates w tick total w'
 
 -- Each lane in Round gets a decided amount, and no other lane does. These amounts, in some order,
--- are best grants for a tree of the tick, each for the leaf of its lane's ask; the leaves are
--- exactly the asks of the lanes in Round, and the amounts add up to this total.
+-- are fair grants for a tree of the tick, each for the leaf of its lane's ask: best among the
+-- sessions, or by users, as the rates say. The leaves are exactly the asks of the lanes in Round,
+-- and the amounts add up to this total.
 pub record AreBestInRound (rates : Rates) (w : World) (tick total : ℕ) (w' : World) : Type 0 where
   pub given : AreGiven w.lanes w'.lanes
   pub leaves : List Granted
@@ -97,7 +99,7 @@ pub record AreBestInRound (rates : Rates) (w : World) (tick total : ℕ) (w' : W
   pub all : IsPermutation (map ask_in (in_round w.lanes)) (map granted_ask leaves)
   pub tree : LimitTree
   pub of_tick : IsTickTree rates tick (map granted_ask leaves) tree
-  pub best : IsBest tree (map granted_octets leaves)
+  pub best : IsFair rates.share_by (map granted_ask leaves) tree (map granted_octets leaves)
   pub total_is : total ≡ sum (map granted_octets leaves)
 
 abbrev pub DecisionsAreBest : Type 0

@@ -1,11 +1,14 @@
--- Grants assigned to lanes by number.
+-- Fair grants of a plan, and grants assigned to lanes by number.
 use Rattle.std.specs.Prelude.{◌≡◌, ◌≤◌, ℕ, List, [], ◌∷◌, slice_get, slice_index_or, slice_set, Some, ⊤}
 use Rattle.grant_ledger.specs.Books.{NamesNot}
 use Rattle.line_rates.specs.FloorSums.{FloorsFit}
 use Rattle.line_rates.specs.Rates.{Rates, rate_of}
 use Rattle.line_rates.specs.declared.ask.Name.{Name}
 use Rattle.line_rates.specs.declared.rate.TheConstants.{MAX_RATE}
-use Rattle.line_rates.specs.TickTree.{Asker, ask_in}
+use Rattle.line_rates.specs.declared.share_by.ShareBy.TheVariants as share
+use Rattle.line_rates.specs.TickTree.{Asker, IsPlan, ask_in}
+use Rattle.fair_terms.specs.Fair.{IsFair}
+use Rattle.limit_tree.specs.Sharing.{LimitTree}
 use Rattle.std.specs.Prelude.{map}
 use Rattle.world_terms.specs.declared.event.LaneState.TheVariants as state
 use Rattle.world_terms.specs.declared.fault.StepFault.{StepFault}
@@ -32,9 +35,16 @@ abbrev pub AreOpen : List ℕ → List Lane → Type 0
 AreOpen [] ls = ⊤
 AreOpen (i ∷ numbers) ls = IsOpen i ls × NamesNot i numbers × AreOpen numbers ls
 
--- why no best grants were found for these asks in a tick
+-- a plan for these asks in a tick, with fair grants of its leaves
+pub record IsFairPlan (rates : Rates) (tick : ℕ) (asks : List Asker) (t : LimitTree)
+    (lanes grants : List ℕ) : Type 0 where
+  pub plan : IsPlan rates tick asks t lanes
+  pub fair : IsFair rates.share_by (map ask_in plan.order) t grants
+
+-- why no fair grants were found for these asks in a tick
 abbrev pub IsUnshared : Rates → ℕ → List Asker → StepFault → Type 0
 IsUnshared rates tick asks fault.FloorsOver = FloorsFit rates tick (map ask_in asks) → ⊥
+IsUnshared rates tick asks fault.Unshared = rates.share_by ≡ share.Users
 IsUnshared rates tick asks fault.Memory = ⊤
 IsUnshared rates tick asks f = ⊥
 

@@ -47,7 +47,8 @@ pub fn moved_in_all_is_within_the_limits()
     grants_keep_names();
 }
 
-/// Each decision is best for the tree of its tick over the asks collected.
+/// Each decision is best for the tree of its tick over the asks collected: among the sessions, or by users, as the
+/// rates say.
 pub fn decisions_are_best()
     ensures best { DecisionsAreBest }
 {}

@@ -8,9 +8,7 @@ ghost use Rattle.world_terms.specs.Steps.{RefusesDecide, Step, lane_of};
 ghost use Rattle.world_terms.specs.Sums.{shares_in};
 ghost use Rattle.world_terms.specs.Decisions.{IsReady, has_large_want, in_round};
 ghost use Rattle.limit_tree.specs.Outline.{limits as seen};
-ghost use Rattle.limit_tree.specs.Sharing.{IsBest};
-ghost use Rattle.line_rates.specs.TickTree.{IsPlan};
-ghost use Rattle.share_world.specs.Shares.{IsUnshared};
+ghost use Rattle.share_world.specs.Shares.{IsFairPlan, IsUnshared};
 ghost use Rattle.share_world.specs.Stopped.{HadMemory, IsStoppedRun};
 ghost use Rattle.world_terms.specs.declared.event.Event.TheVariants as event;
 ghost use Rattle.share_world.specs.Limited.{lane_at};
@@ -168,12 +166,11 @@ impl<A: Allocator + Clone> World<A> {
         Ok(())
     }
 
-    // The lanes of a plan for the asks in Round, and its best grants.
+    // The lanes of a plan for the asks in Round, and its fair grants.
     fn share(&self, tick: u64) -> Result<(Vec<u8, A>, Sealed<A>), StepFault>
         requires wants { has_large_want self.now.world.lanes ≡ false }
-        ensures plan { IfOk result (λ r.
-            IsPlan self.now.rates tick (in_round self.now.world.lanes) (seen r.1.tree) r.0.items) }
-        ensures best { IfOk result (λ r. IsBest (seen r.1.tree) r.1.grants) }
+        ensures fair { IfOk result (λ r. IsFairPlan self.now.rates tick
+            (in_round self.now.world.lanes) (seen r.1.tree) r.0.items r.1.grants) }
         ensures asked { IfOk result (λ _. All HasAsk self.now.world.lanes) }
         ensures refused { IfErr result
             (IsUnshared self.now.rates tick (in_round self.now.world.lanes)) }

@@ -15,6 +15,8 @@ mod examples;
 #[cfg(test)]
 mod expect;
 #[cfg(test)]
+mod fair;
+#[cfg(test)]
 mod floors;
 #[cfg(test)]
 mod limits;

@@ -2,3 +2,4 @@ mod There
 mod Checks
 mod Filling
 mod Full
+mod Ruled

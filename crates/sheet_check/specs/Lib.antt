@@ -3,3 +3,4 @@ pub mod Faults
 pub mod Grants
 pub mod Reading
 pub mod Slots
+pub mod Users

@@ -1,31 +1,32 @@
 -- The result of checking the grants of an end, within a sheet and for a sheet's text.
 use Rattle.std.specs.Prelude.{◌≡◌, ◌≢◌, ◌≤◌, ◌<◌, ℕ, Bool, List, Option, IfSome, None, length, true}
-use Rattle.grant_certificate.specs.declared.flaw.Verdict.{Verdict}
 use Rattle.sheet_text.specs.Sheet.{sheet_fault, IsSheetFaultOf}
 use Rattle.sheet_text.specs.Views.{SheetValue, IsSheetOf}
 use Rattle.text_io.specs.declared.fault.TextFault.TheVariants.{TooLong, ReadFault, WriteFault, Memory}
 use Rattle.text_io.specs.declared.read.TheConstants.{MAX_TEXT}
-use Rattle.sheet_check.specs.Checking.{IsCheckOf, IsGrantsFaultOf}
+use Rattle.sheet_check.specs.Checking.{IsGrantsFaultOf}
+use Rattle.sheet_check.specs.Users.{IsCheckBy}
 use Rattle.sheet_check.specs.declared.fault.CheckFault.{CheckFault}
 use Rattle.sheet_check.specs.declared.fault.CheckFault.TheVariants.{SheetText, Sheet, GrantsText, Grants, Text}
 use Rattle.sheet_check.specs.declared.grants_fault.GrantsFault.TheVariants.{Memory as NoGrantsMemory}
+use Rattle.sheet_check.specs.declared.sheet_verdict.SheetVerdict.{SheetVerdict}
 use Rattle.text_io.specs.Texts.{IsTextOf}
 
 -- the verdict on the grants of an end, for each text of the sheet
-pub record IsCheckWithin (sheet : SheetValue) (known : Option (List ℕ)) (verdict : Verdict)
-    (printed : List ℕ) : Type 0 where
+pub record IsCheckWithin (by : Option ℕ) (sheet : SheetValue) (known : Option (List ℕ))
+    (verdict : SheetVerdict) (printed : List ℕ) : Type 0 where
   pub text : List ℕ
   pub read : IsTextOf text known
   pub few : length text ≤ MAX_TEXT
-  pub check : (source : List ℕ) → IsSheetOf source sheet → IsCheckOf source text verdict printed
+  pub check : (source : List ℕ) → IsSheetOf source sheet → IsCheckBy by source text verdict printed
 
 -- the verdict on the grants of an end, for a sheet's text
-pub record IsCheckBeside (sheet_text : List ℕ) (known : Option (List ℕ)) (verdict : Verdict)
-    (printed : List ℕ) : Type 0 where
+pub record IsCheckBeside (by : Option ℕ) (sheet_text : List ℕ) (known : Option (List ℕ))
+    (verdict : SheetVerdict) (printed : List ℕ) : Type 0 where
   pub text : List ℕ
   pub read : IsTextOf text known
   pub few : length text ≤ MAX_TEXT
-  pub check : IsCheckOf sheet_text text verdict printed
+  pub check : IsCheckBy by sheet_text text verdict printed
 
 -- the faults of checking the grants of an end within a sheet
 abbrev pub IsFaultWithin : SheetValue → Option (List ℕ) → Bool → CheckFault → Type 0

@@ -1,9 +1,11 @@
 -- Wants that one limit holds back get the same, but for one octet, or their floor.
-use Rattle.std.proofs.Common.{◌≡◌, ◌∙◌, ◌<◌, ℕ, List, Option, Some, length, sym, subst, arith, inl, inr, slice_index, slice_get, IsTrue}
+use Rattle.std.proofs.Common.{◌≡◌, ◌∙◌, ◌<◌, ◌⊎◌, ℕ, List, Option, Some, length, sym, subst, arith, inl, inr, slice_index, slice_get, IsTrue}
 use Rattle.std.proofs.lemmas.Bool.{cases_lt}
 use Rattle.limit_tree.specs.Sharing.{Branch, LimitTree, IsBranch, IsBottleneck, IsFullAbove, IsNotTooGreat, IsUnmet}
+use Rattle.grant_certificate.specs.Users.{leaves_of, IsBackedByUsers, IsInnerNeck, IsOuterNeck}
+use Rattle.grant_certificate.proofs.UserSums.{own_leaf}
 use Rattle.round_allocator.specs.Rounds.{IsEntry, IsNamed}
-use Rattle.sheet_picture.specs.Levels.{OneLimitIsLevel}
+use Rattle.sheet_picture.specs.Levels.{OneLimitIsLevel, OneLimitIsLevelForAUser}
 
 same : {X : Type 0} (a b : X) → Some a ≡ Some b → a ≡ b
 same a b e = cc
@@ -30,3 +32,16 @@ one_level t g c named backed i j k less also is and =
     let back = backed.backed i less (held_at t g c named i k less is).0 in
     let number : back.0 ≡ k = same back.0 k (same (Some back.0) (Some k) (sym back.2 ∙ is)) in
     level_in t g i j k back.1 (subst (λ (n : ℕ). IsBranch t n back.1) number back.3) back.4 (held_at t g c named j k also and).1
+
+user_level : (t : LimitTree) (owners g : List ℕ) (i j k : ℕ) (b : Branch) → IsBranch t k b → IsInnerNeck t owners b g i ⊎ IsOuterNeck t owners b g i → IsFullAbove t g j k
+    → j < length owners → slice_index owners j ≡ slice_index owners i → IsNotTooGreat t g i j
+user_level t owners g i j k b is (inl neck) above less one =
+    neck.greatest j (subst (λ (x : Branch). IsTrue (x.holds j)) (same above.0 b (sym above.1 ∙ is)) above.2)
+user_level t owners g i j k b is (inr neck) above less one =
+    neck.greatest j (subst (λ (v : ℕ). IsTrue (leaves_of owners v j)) one (own_leaf owners j less))
+
+pub one_user_level : OneLimitIsLevelForAUser
+one_user_level t owners g c named backed i j k less also owned one is and =
+    let back = backed.backed i less (held_at t g c named i k less is).0 in
+    let number : back.0 ≡ k = same back.0 k (same (Some back.0) (Some k) (sym back.2 ∙ is)) in
+    user_level t owners g i j k back.1 (subst (λ (n : ℕ). IsBranch t n back.1) number back.3) back.4 (held_at t g c named j k also and).1 owned one

@@ -1,5 +1,5 @@
 -- The columns of a sheet, and their order.
-use Rattle.std.specs.Prelude.{◌≡◌, ℕ, nat_eq, Bool, true, not, if◌then◌else◌, List, [], Option, Some, None, length, min, slice_index, slice_index_or, IsPermutation, ◌<◌}
+use Rattle.std.specs.Prelude.{◌≡◌, ℕ, nat_eq, Bool, true, not, if◌then◌else◌, List, [], Option, Some, None, length, min, slice_index, slice_index_or, IsPermutation, ◌<◌, ◌+◌, ◌*◌}
 use Rattle.std.specs.List.{fold}
 use Rattle.std.specs.List.Sorted.{IsNonDecreasingBy, IsStableByKey}
 use Rattle.std.specs.Ordering.{nat_cmp}
@@ -12,7 +12,7 @@ use Rattle.sheet_text.specs.Paths.{text_of, written}
 use Rattle.sheet_text.specs.Views.{SheetValue}
 use Rattle.sheet_picture.specs.declared.column.Column.{Column}
 use Rattle.sheet_picture.specs.declared.column.Holder.{Holder}
-use Rattle.sheet_picture.specs.declared.column.TheConstants.{NOBODY}
+use Rattle.sheet_picture.specs.declared.column.TheConstants.{NOBODY, RANKS}
 
 -- the lower of two limits, each if there is one
 abbrev pub tighter : Option ℕ → Option ℕ → Option ℕ
@@ -48,7 +48,7 @@ pub record HolderValue : Type 0 where
   pub path : List ℕ
 
 -- A column: the path of a want, its grant, its want and its floor, a limit of its own, and the node
--- that holds it back.
+-- that holds it back, and its user.
 pub record ColumnValue : Type 0 where
   pub path : List ℕ
   pub grant : ℕ
@@ -56,6 +56,7 @@ pub record ColumnValue : Type 0 where
   pub floor : ℕ
   pub lid : Option ℕ
   pub holder : Option HolderValue
+  pub user : ℕ
 
 abbrev pub seen_holder : Holder → HolderValue
 seen_holder h = record { node = h.node; path = h.path.now }
@@ -68,6 +69,7 @@ seen c = record {
   floor = c.floor;
   lid = c.lid;
   holder = option_map seen_holder c.holder;
+  user = c.user;
 }
 
 abbrev pub holder_at : SheetValue → ℕ → HolderValue
@@ -76,29 +78,35 @@ holder_at sheet node = record {
   path = written (slice_index_or sheet.paths node []);
 }
 
--- the column of a leaf of a sheet, by the grants and the entries of its leaves
-abbrev pub column_at : SheetValue → List ℕ → List (Option ℕ) → ℕ → ColumnValue
-column_at sheet grants entries leaf = record {
+-- the column of a leaf of a sheet, by the users, the grants and the entries of its leaves
+abbrev pub column_at : SheetValue → List ℕ → List ℕ → List (Option ℕ) → ℕ → ColumnValue
+column_at sheet owners grants entries leaf = record {
   path = text_of (slice_index_or sheet.leaves leaf []);
   grant = slice_index grants leaf;
   want = slice_index (limits sheet.outline).wants leaf;
   floor = slice_index (limits sheet.outline).floors leaf;
   lid = lid_of sheet.outline leaf;
   holder = option_map (holder_at sheet) (slice_index_or entries leaf None);
+  user = slice_index owners leaf;
 }
 
 -- the number of the node that holds a want back; if none does, a number above all of them
-abbrev pub rank : Option Holder → ℕ
-rank None = NOBODY
-rank (Some holder) = holder.node
+abbrev pub rank_within : Option Holder → ℕ
+rank_within None = NOBODY
+rank_within (Some holder) = holder.node
+
+-- columns are ranked by their users, and those of one user by what holds them back
+abbrev pub rank : Column → ℕ
+rank c = c.user * RANKS + rank_within c.holder
 
 -- the rank is not that of the column before, or there is none before
 abbrev pub is_first : Option ℕ → ℕ → Bool
 is_first None rank = true
 is_first (Some last) rank = not (nat_eq last rank)
 
--- the columns sorted by what holds them back; those of one rank are in the order that they had
+-- the columns sorted by their users, and by what holds them back; those of one rank are in the
+-- order that they had
 pub record IsOrdered (columns sorted : List Column) : Type 0 where
   pub same : IsPermutation columns sorted
-  pub ascending : IsNonDecreasingBy (λ c. rank c.holder) sorted
-  pub stable : IsStableByKey (λ c. rank c.holder) nat_cmp columns sorted
+  pub ascending : IsNonDecreasingBy (λ c. rank c) sorted
+  pub stable : IsStableByKey (λ c. rank c) nat_cmp columns sorted

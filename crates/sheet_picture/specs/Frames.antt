@@ -41,10 +41,10 @@ place_as before column rank first = record {
 
 abbrev pub place : Placing → Column → Placing
 place before column =
-    place_as before column (rank column.holder) (is_first before.last (rank column.holder))
+    place_as before column (rank column) (is_first before.last (rank column))
 
 -- Columns that are sorted by rank, at their places from left to right: the limits that hold wants
--- back are numbered from 1, and the wants that none holds back have the next number.
+-- of one user back are numbered from 1, and the wants that none holds back have the next number.
 abbrev pub placed : List Column → List Placed
 placed sorted = (fold place start sorted).placed
 

@@ -1,6 +1,6 @@
 //! The columns of a sheet.
 
-ghost use Rattle.std.specs.Prelude.{◌≡◌, ◌<◌, IfOk, IfSome, length, map, option_map, take};
+ghost use Rattle.std.specs.Prelude.{◌≡◌, ◌<◌, IfOk, IfSome, length, map, option_map, slice_index, take};
 ghost use Rattle.limit_tree.specs.Outline.{limits};
 ghost use Rattle.round_allocator.specs.Rounds.{IsNamed};
 ghost use Rattle.sheet_picture.specs.Columns.{HasLids, column_at, holder_at, seen, seen_holder};
@@ -25,6 +25,13 @@ fn holder_of<'t, A: Allocator>(sheet: &Sheet<'t, A>, entry: Option<u32>) -> Opti
     }
 }
 
+/// The user of a leaf; 0 if it has none.
+fn user_of(owners: &[u32], leaf: usize) -> u32
+    ensures user { result ≡ slice_index owners.now leaf }
+{
+    if leaf < owners.len() { owners[leaf] } else { 0 }
+}
+
 /// The column of a leaf.
 fn column_of<'t, A: Allocator>(
     sheet: &Sheet<'t, A>,
@@ -32,6 +39,7 @@ fn column_of<'t, A: Allocator>(
     grants: &[u64],
     entries: &[Option<u32>],
     lids: &[Option<u64>],
+    owners: &[u32],
     leaf: usize,
 ) -> Column<'t>
     requires wants { take leaves.now.count leaves.now.wants ≡ (limits sheet.now.outline).wants }
@@ -43,7 +51,8 @@ fn column_of<'t, A: Allocator>(
     requires size { length lids.now ≡ length grants.now }
     requires lids { HasLids sheet.now.outline lids.now }
     requires leaf { leaf < length grants.now }
-    ensures column { seen result ≡ column_at sheet.now grants.now entries.now leaf }
+    ensures column { seen result
+        ≡ column_at sheet.now owners.now grants.now entries.now leaf }
 {
     Column {
         path: sheet.leaf_path(leaf),
@@ -52,10 +61,12 @@ fn column_of<'t, A: Allocator>(
         floor: leaves.floors()[leaf],
         lid: lids[leaf],
         holder: holder_of(sheet, entries[leaf]),
+        user: user_of(owners, leaf),
     }
 }
 
-/// The columns of a sheet, in the order of its wants.
+/// The columns of a sheet, in the order of its wants. `owners` has the number of the user of each leaf; without users it
+/// is empty.
 pub(crate) fn columns_of<'t, A: Allocator, B: Allocator>(
     alloc: B,
     sheet: &Sheet<'t, A>,
@@ -63,6 +74,7 @@ pub(crate) fn columns_of<'t, A: Allocator, B: Allocator>(
     grants: &[u64],
     entries: &[Option<u32>],
     lids: &[Option<u64>],
+    owners: &[u32],
 ) -> Result<Vec<Column<'t>, B>, AllocError>
     requires wants { take leaves.now.count leaves.now.wants ≡ (limits sheet.now.outline).wants }
     requires floors { take leaves.now.count leaves.now.floors ≡ (limits sheet.now.outline).floors }
@@ -73,12 +85,12 @@ pub(crate) fn columns_of<'t, A: Allocator, B: Allocator>(
     requires size { length lids.now ≡ length grants.now }
     requires lids { HasLids sheet.now.outline lids.now }
     ensures columns { IfOk result (λ v. map seen v.items
-        ≡ map (column_at sheet.now grants.now entries.now) sheet.now.wants) }
+        ≡ map (column_at sheet.now owners.now grants.now entries.now) sheet.now.wants) }
 {
     let wants = sheet.wants();
     let mut columns = Vec::with_capacity(alloc, wants.len())?;
     for leaf in wants {
-        let column = column_of(sheet, leaves, grants, entries, lids, *leaf);
+        let column = column_of(sheet, leaves, grants, entries, lids, owners, *leaf);
         columns.push(column)?;
     }
     Ok(columns)

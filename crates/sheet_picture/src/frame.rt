@@ -11,7 +11,7 @@ use std::alloc::{AllocError, Allocator};
 #[derive(Clone, Copy)]
 pub(crate) struct Placed<'a> {
     pub column: Column<'a>,
-    /// Number of the limit that holds it back, from 1; the next number if none does.
+    /// Number of the limit that holds it back among the columns of its user, from 1; the next number if none does.
     pub number: u64,
     /// Its left edge.
     pub x: u128,
@@ -19,7 +19,7 @@ pub(crate) struct Placed<'a> {
     pub first: bool,
 }
 
-fn is_first(last: Option<u64>, rank: u64) -> bool
+fn is_first(last: Option<u128>, rank: u128) -> bool
     ensures first { result ≡ is_first last rank }
 {
     match last {
@@ -58,7 +58,7 @@ pub(crate) fn placed_of<'a, A: Allocator>(
     let mut last = None;
     let mut number = 0;
     for column in sorted {
-        let rank = rank_of(column.holder);
+        let rank = rank_of(column);
         let first = is_first(last, rank);
         number = number_after(number, first);
         let next = placed_at(column, placed.len(), number, first);
@@ -129,7 +129,8 @@ pub(crate) struct Frame {
     pub longest: usize,
     /// Number of columns.
     pub columns: usize,
-    /// Number of colours: limits that hold a want back, and one more if a want is held back by none.
+    /// Number of colours: limits that hold back wants of one user, and one more for each user with a want that none holds
+    /// back.
     pub numbers: usize,
 }
 

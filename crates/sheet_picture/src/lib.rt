@@ -27,11 +27,15 @@ mod lids;
 mod order;
 mod parts;
 mod picture;
+mod run;
 mod svg;
 mod texts;
+mod users;
 
 pub use column::{Column, Holder};
 pub use escape::push_escaped;
-pub use laws::one_limit_is_level;
+pub use laws::{one_limit_is_level, one_limit_is_level_for_a_user};
 pub use order::drawn;
-pub use picture::{picture_of, run_picture};
+pub use picture::picture_of;
+pub use run::run_picture;
+pub use users::picture_at;

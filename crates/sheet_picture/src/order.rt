@@ -9,8 +9,8 @@ use crate::frame::placed_of;
 use crate::svg::picture_text;
 use std::alloc::{AllocError, Allocator};
 
-/// The columns, sorted by the number of the node that holds each back, those that none holds back last; those of one
-/// number in the order that they had.
+/// The columns, sorted by their users, and those of one user by the number of the node that holds each back, those that
+/// none holds back last; those of one number in the order that they had.
 fn sorted_of<'a, A: Allocator>(
     alloc: A,
     columns: &[Column<'a>],
@@ -18,7 +18,7 @@ fn sorted_of<'a, A: Allocator>(
     ensures ordered { IfOk result (λ v. IsOrdered columns.now v.items) }
 {
     let mut sorted = Vec::from_slice(alloc, columns)?;
-    sorted.sort_by_key(|column| rank_of(column.holder))?;
+    sorted.sort_by_key(|column| rank_of(column))?;
     Ok(sorted)
 }
 

@@ -4,6 +4,7 @@ use Rattle.std.specs.List.{flat_map, sum_by}
 use Rattle.std.specs.Fmt.{decimal}
 use Rattle.limit_tree.specs.Sharing.{IsWithin, IsBackedBy, IsBest}
 use Rattle.limit_tree.specs.Outline.{limits}
+use Rattle.depth_users.specs.Shared.{IsSharedAt}
 use Rattle.round_allocator.specs.Rounds.{IsExhausted, IsNamed}
 use Rattle.sheet_text.specs.Paths.{text_of, written}
 use Rattle.sheet_text.specs.Views.{SheetValue, IsSheetOf}
@@ -41,3 +42,20 @@ pub record IsSharingOf (text printed : List ℕ) : Type 0 where
   pub backed : IsBackedBy (limits sheet.outline) grants entries
   pub best : IsBest (limits sheet.outline) grants
   pub prints : printed ≡ sharing_text sheet grants entries
+
+-- The lines of a text's sheet, for grants that are within its limits, best among the users of a
+-- depth, and then among the leaves of each. The entry of each leaf that has less than it wants is
+-- the deepest full branch above it, which backs it among users; the others name none.
+pub record IsUserSharingOf (depth : ℕ) (text printed : List ℕ) : Type 0 where
+  pub sheet : SheetValue
+  pub grants : List ℕ
+  pub entries : List (Option ℕ)
+  pub is_sheet : IsSheetOf text sheet
+  pub shared : IsSharedAt sheet.outline depth grants entries
+  pub named : IsNamed (limits sheet.outline) grants entries
+  pub prints : printed ≡ sharing_text sheet grants entries
+
+-- the lines of a text's sheet among the users of a depth, or without users
+abbrev pub IsSharingBy : Option ℕ → List ℕ → List ℕ → Type 0
+IsSharingBy None text printed = IsSharingOf text printed
+IsSharingBy (Some depth) text printed = IsUserSharingOf depth text printed

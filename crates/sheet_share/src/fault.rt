@@ -1,5 +1,6 @@
 //! The reasons for which a sheet is not shared.
 
+use depth_users::DepthFault;
 use sheet_text::SheetFault;
 use std::alloc::AllocError;
 use text_io::TextFault;
@@ -14,6 +15,10 @@ pub enum ShareFault {
     /// The sheet is refused. Lack of memory for it is `Text(Memory)`.
     #[error("{0}")]
     Sheet(SheetFault),
+    /// No grants were found that are best among the users of a depth: a user can have more than a leaf may want, and
+    /// limits above it hold it back. Lack of memory for them is `Text(Memory)`.
+    #[error("UserTooLarge")]
+    UserTooLarge,
 }
 
 impl From<AllocError> for ShareFault {
@@ -49,6 +54,20 @@ impl From<SheetFault> for ShareFault {
         match fault {
             SheetFault::Memory => ShareFault::Text(TextFault::Memory),
             _ => ShareFault::Sheet(fault),
+        }
+    }
+}
+
+impl From<DepthFault> for ShareFault {
+    ghost use Rattle.std.specs.Prelude.{◌≡◌};
+    ghost use Rattle.sheet_share.specs.Faults.{of_depth};
+
+    ghost from_gives = { λ e fault. fault ≡ of_depth e };
+
+    fn from(fault: DepthFault) -> ShareFault {
+        match fault {
+            DepthFault::Memory => ShareFault::Text(TextFault::Memory),
+            DepthFault::UserTooLarge => ShareFault::UserTooLarge,
         }
     }
 }

@@ -1,25 +1,20 @@
 //! Sharing the limits of a sheet.
 
-ghost use Rattle.std.specs.Prelude.{◌≡◌, ◌≢◌, ◌<◌, ◌*◌, ◌^◌, [], ℕ, List, Some, true, IfErr, IfOk, IfSome, IsErrAnd, IsErrOf, OnOk, length, option_map, sum, slice_index, slice_index_or, string_bytes};
-ghost use Rattle.std.specs.Io.KnownBytes.{Appends};
+ghost use Rattle.std.specs.Prelude.{◌≡◌, ◌≢◌, ◌<◌, ◌*◌, ◌^◌, [], ℕ, List, Some, IfErr, IfOk, IfSome, length, option_map, sum, slice_index, slice_index_or, string_bytes};
 ghost use Rattle.limit_tree.specs.Outline.{limits};
 ghost use Rattle.limit_tree.specs.declared.bounds.TheConstants.{MAX_LEAVES};
 ghost use Rattle.round_allocator.specs.Rounds.{IsNamed};
 ghost use Rattle.sheet_text.specs.Paths.{written};
 ghost use Rattle.sheet_text.specs.Views.{IsSheetOf};
 ghost use Rattle.sheet_share.specs.Lines.{share_line, share_lines, total};
-ghost use Rattle.text_io.specs.Texts.{IsTextOf};
-ghost use Rattle.sheet_share.specs.Faults.{IsUnread};
 ghost use Rattle.sheet_share.specs.Sharing.{IsSharingOf, leaf_line, sharing_text};
-ghost use Rattle.sheet_text.specs.Sheet.{IsSheetFaultOf, sheet_fault};
+ghost use Rattle.sheet_text.specs.Sheet.{sheet_fault};
 
-use crate::fault::ShareFault;
 use crate::lines::{Share, lines_of};
 use grant_certificate::Leaves;
 use round_allocator::allot;
 use sheet_text::{Sheet, SheetFault, read_sheet};
 use std::alloc::{AllocError, Allocator};
-use text_io::{MAX_TEXT, TextFault, TextReader, TextWriter, read_whole, write_whole};
 
 /// The path of the node in an entry.
 fn path_of<'t, A: Allocator>(sheet: &Sheet<'t, A>, entry: Option<u32>) -> Option<&'t str>
@@ -58,7 +53,7 @@ fn share_of<'t, A: Allocator>(
 }
 
 /// The grants of the wants of a sheet, in the order of their lines.
-fn shares_of<'t, A: Allocator, B: Allocator>(
+pub(crate) fn shares_of<'t, A: Allocator, B: Allocator>(
     alloc: B,
     sheet: &Sheet<'t, A>,
     wants: &[u64],
@@ -114,36 +109,4 @@ pub fn sharing_of<A: Allocator + Clone>(alloc: A, text: &[u8]) -> Result<String<
     let sheet = read_sheet(alloc.clone()?, text)?;
     let lines = sharing_lines(alloc, &sheet)?;
     Ok(lines)
-}
-
-/// Reads a sheet, and writes the lines of its sharing. A text of more than `MAX_TEXT` octets is not read to its end.
-///
-/// `WriteFault`: the writer refuses these lines, and any part of them may have gone out. Any other fault comes before
-/// the first octet is written.
-pub fn run_share<A: Allocator + Clone, R: TextReader, W: TextWriter>(
-    alloc: A,
-    reader: &mut R,
-    writer: &mut W,
-) -> Result<(), ShareFault>
-    ensures written { OnOk result ((text : List ℕ) → R.remaining reader.old ≡ Some text
-        → (printed : List ℕ) × IsSharingOf text printed
-        × Appends (W.contents writer.old) (W.contents writer.new) printed) }
-    ensures sheet { (fault : SheetFault) → IsErrOf result (ShareFault.Sheet fault)
-        → (text : List ℕ) → R.remaining reader.old ≡ Some text → IsSheetFaultOf text fault }
-    ensures too_long { IsErrOf result (ShareFault.Text TextFault.TooLong)
-        → IfSome (R.remaining reader.old) (λ text. MAX_TEXT < length text) }
-    ensures long { (text : List ℕ) → R.remaining reader.old ≡ Some text → MAX_TEXT < length text
-        → IsErrAnd result IsUnread }
-    ensures read_fault { IsErrOf result (ShareFault.Text TextFault.ReadFault)
-        → R.may_fail reader.old ≡ true }
-    ensures write_fault { IsErrOf result (ShareFault.Text TextFault.WriteFault)
-        → (text printed : List ℕ) × IsTextOf text (R.remaining reader.old)
-        × IsSharingOf text printed × W.may_refuse writer.old printed }
-    ensures unwritten { IfErr result (λ fault. fault ≢ ShareFault.Text TextFault.WriteFault
-        → writer.new ≡ writer.old) }
-{
-    let text = read_whole(alloc.clone()?, reader)?;
-    let lines = sharing_of(alloc, &text)?;
-    write_whole(&lines, writer)?;
-    Ok(())
 }

@@ -36,7 +36,7 @@ pub(crate) fn share_cause<'w>(
 {
     match fault {
         ShareFault::Text(fault) => text_cause(fault, sheet, reason),
-        ShareFault::Sheet(_) => Cause {
+        ShareFault::Sheet(_) | ShareFault::UserTooLarge => Cause {
             file: Some(sheet),
             reason,
         },

@@ -14,6 +14,9 @@ const SHEET_LINE: &str =
 
 const GRANTS_LINE: &str = "a line is `grant PATH N` or `grant PATH N NODE`";
 
+const TOO_LARGE: &str =
+    "a user of this depth can have more than 4294967295 octets, and a limit above it holds it back";
+
 /// An ending, as the program of that name prints it.
 #[derive(Clone, Copy)]
 pub struct ErrorText<'e, 'w> {
@@ -141,6 +144,7 @@ impl ErrorText<'_, '_> {
         match fault {
             ShareFault::Text(fault) => self.text_above(f, cause, fault),
             ShareFault::Sheet(fault) => sheet_above(f, cause, fault),
+            ShareFault::UserTooLarge => writeln!(f, "{}: {TOO_LARGE}", name_of(cause)),
         }
     }
 

@@ -1,7 +1,7 @@
 //! Running the command of a line's words.
 
 ghost use Rattle.std.specs.Io.KnownBytes.{Appends};
-ghost use Rattle.std.specs.Prelude.{◌≡◌, ◌≢◌, ◌<◌, ◌⊎◌, ◌↔◌, ◌∷◌, [], ℕ, List, Some, false, true, IfErr, IfSome, IsErrOf, IsTrue, OnOk, codes, length, map};
+ghost use Rattle.std.specs.Prelude.{◌≡◌, ◌≢◌, ◌<◌, ◌⊎◌, ◌↔◌, ◌∷◌, [], ℕ, List, None, Some, false, true, IfErr, IfSome, IsErrOf, IsTrue, OnOk, codes, length, map};
 ghost use Rattle.clap.specs.Words.{fault_of, subcommand_of};
 ghost use Rattle.command_line.specs.Commands.{sheets};
 ghost use Rattle.command_line.specs.Given.{IsPlainWord, IsRefusal, IsSheetFound};
@@ -10,7 +10,7 @@ ghost use Rattle.command_line.specs.declared.words.WordsFault.{WordsFault};
 ghost use Rattle.sheets_program.specs.Causes.{AreBothOpened, AreOpened, IsCheckReason, IsShareReason, IsSheetWhy};
 ghost use Rattle.sheets_program.specs.Endings.{IsOutOfMemory, IsReportedEnd, IsUnwritten};
 ghost use Rattle.sheets_program.specs.Runs.{IsCheckEnd, IsNamedTwice, IsShareEnd, IsSheetEnd, IsShown};
-ghost use Rattle.sheet_text.specs.Sheet.{IsSheetFaultOf};
+ghost use Rattle.sheet_text.specs.Sheet.{IsSheetFaultOf, sheet_fault};
 ghost use Rattle.sheet_text.specs.declared.fault.SheetFault.{SheetFault};
 ghost use Rattle.text_io.specs.Texts.{IsTextOf};
 ghost use Rattle.text_io.specs.declared.read.TheConstants.{MAX_TEXT};
@@ -18,9 +18,8 @@ ghost use Rattle.text_io.specs.declared.read.TheConstants.{MAX_TEXT};
 use crate::cause::{Cause, check_cause, share_cause};
 use crate::ending::{Exit, report};
 use crate::files::{Opener, is_input};
-use command_line::{SheetWords, read_sheet_words};
-use grant_certificate::Verdict;
-use sheet_check::{CheckFault, run_check};
+use command_line::{SheetWords, read_sheet_words, stated_depth};
+use sheet_check::{CheckFault, SheetVerdict, run_check};
 use sheet_picture::run_picture;
 use sheet_share::{ShareFault, run_share};
 use std::alloc::Global;
@@ -28,45 +27,49 @@ use text_io::{TextFault, TextReader, TextWriter};
 
 const READ_TWICE: &str = "error: standard input cannot be both the sheet and the grants\n";
 
-/// Shares the sheet of a reader, as a picture or in lines.
+/// Shares the sheet of a reader, among the users of a depth if one is given, as a picture or in lines.
 fn show<R: TextReader, W: TextWriter>(
     alloc: Global,
+    by: Option<usize>,
     svg: bool,
     reader: &mut R,
     output: &mut W,
 ) -> Result<(), ShareFault>
     ensures written { OnOk result ((text : List ℕ) → R.remaining reader.old ≡ Some text
-        → (printed : List ℕ) × IsShown svg text printed
+        → (printed : List ℕ) × IsShown by svg text printed
         × Appends (W.contents output.old) (W.contents output.new) printed) }
     ensures sheet { (fault : SheetFault) → IsErrOf result (ShareFault.Sheet fault)
         → (text : List ℕ) → R.remaining reader.old ≡ Some text → IsSheetFaultOf text fault }
+    ensures users { IsErrOf result ShareFault.UserTooLarge → (by ≢ None)
+        × ((text : List ℕ) → R.remaining reader.old ≡ Some text → sheet_fault text ≡ None) }
     ensures too_long { IsErrOf result (ShareFault.Text TextFault.TooLong)
         → IfSome (R.remaining reader.old) (λ text. MAX_TEXT < length text) }
     ensures read_fault { IsErrOf result (ShareFault.Text TextFault.ReadFault)
         → R.may_fail reader.old ≡ true }
     ensures write_fault { IsErrOf result (ShareFault.Text TextFault.WriteFault)
         → (text printed : List ℕ) × IsTextOf text (R.remaining reader.old)
-        × IsShown svg text printed × W.may_refuse output.old printed }
+        × IsShown by svg text printed × W.may_refuse output.old printed }
     ensures unwritten { IfErr result (λ fault. fault ≢ ShareFault.Text TextFault.WriteFault
         → output.new ≡ output.old) }
 {
     match svg {
-        true => run_picture(alloc, reader, output),
-        false => run_share(alloc, reader, output),
+        true => run_picture(alloc, by, reader, output),
+        false => run_share(alloc, by, reader, output),
     }
 }
 
 fn share<'w, O: Opener, W: TextWriter>(
     alloc: Global,
+    by: Option<usize>,
     sheet: &'w str,
     svg: bool,
     files: &mut O,
     output: &mut W,
 ) -> Exit<'w>
-    ensures end { IsShareEnd (O.Gives files.old) svg sheet.now
+    ensures end { IsShareEnd (O.Gives files.old) by svg sheet.now
         (W.contents output.old) (W.contents output.new) result }
     ensures why { IsShareReason (O.Gives files.old sheet.now) (O.MayRefuse files.old sheet.now)
-        (O.MayFail files.old sheet.now) (W.may_refuse output.old) svg result }
+        (O.MayFail files.old sheet.now) (W.may_refuse output.old) by svg result }
     ensures opened { O.Opens files.old sheet.now files.new }
     ensures unwritten { IsUnwritten result → output.new ≡ output.old }
 {
@@ -80,7 +83,7 @@ fn share<'w, O: Opener, W: TextWriter>(
             return Exit::Share(ShareFault::Text(TextFault::ReadFault), cause);
         }
     };
-    match show(alloc, svg, &mut file, output) {
+    match show(alloc, by, svg, &mut file, output) {
         Ok(()) => Exit::Done,
         Err(fault) => Exit::Share(fault, share_cause(fault, sheet, O::reason(&file))),
     }
@@ -92,17 +95,18 @@ fn is_named_twice(sheet: &str, grants: &str) -> bool
     is_input(sheet) && is_input(grants)
 }
 
-/// Runs `check`. Both files are opened before anything is read.
+/// Runs `check`, among the users of a depth if one is given. Both files are opened before anything is read.
 fn check<'w, O: Opener, W: TextWriter>(
     alloc: Global,
+    by: Option<usize>,
     sheet: &'w str,
     grants: &'w str,
     files: &mut O,
     output: &mut W,
 ) -> Exit<'w>
-    ensures end { IsCheckEnd (O.Gives files.old) sheet.now grants.now
+    ensures end { IsCheckEnd (O.Gives files.old) by sheet.now grants.now
         (W.contents output.old) (W.contents output.new) result }
-    ensures why { IsCheckReason (O.Gives files.old sheet.now) (O.Gives files.old grants.now)
+    ensures why { IsCheckReason by (O.Gives files.old sheet.now) (O.Gives files.old grants.now)
         (O.MayRefuse files.old sheet.now ⊎ O.MayFail files.old sheet.now)
         (O.MayRefuse files.old grants.now ⊎ O.MayFail files.old grants.now)
         (W.may_refuse output.old) result }
@@ -133,9 +137,10 @@ fn check<'w, O: Opener, W: TextWriter>(
             return Exit::Check(CheckFault::GrantsText(TextFault::ReadFault), cause);
         }
     };
-    match run_check(alloc, &mut first, &mut second, output) {
-        Ok(Verdict::Yes) => Exit::Done,
-        Ok(Verdict::No(_)) => Exit::Flawed,
+    match run_check(alloc, by, &mut first, &mut second, output) {
+        Ok(SheetVerdict::Yes) => Exit::Done,
+        Ok(SheetVerdict::No(_)) => Exit::Flawed,
+        Ok(SheetVerdict::NotBestByUsers) => Exit::Flawed,
         Err(fault) => {
             let cause = check_cause(fault, sheet, O::reason(&first), grants, O::reason(&second));
             Exit::Check(fault, cause)
@@ -144,7 +149,8 @@ fn check<'w, O: Opener, W: TextWriter>(
 }
 
 /// Runs a command on a sheet, `share` or `check`, on files that are opened in the order of its words. Nothing is
-/// written to the output if standard input is named twice, nor before a fault other than that of the output.
+/// written to the output if a word states no depth or standard input is named twice, nor before a fault other than that
+/// of the output.
 pub fn run_sheet_words<'w, O: Opener, W: TextWriter>(
     alloc: Global,
     words: SheetWords<'w>,
@@ -160,8 +166,14 @@ pub fn run_sheet_words<'w, O: Opener, W: TextWriter>(
     ensures unwritten { IsUnwritten result → output.new ≡ output.old }
 {
     match words {
-        SheetWords::Share { sheet, svg } => share(alloc, sheet, svg, files, output),
-        SheetWords::Check { sheet, grants } => check(alloc, sheet, grants, files, output),
+        SheetWords::Share { sheet, svg, by } => match stated_depth(alloc, by) {
+            Ok(depth) => share(alloc, depth, sheet, svg, files, output),
+            Err(refusal) => report(refusal, output),
+        },
+        SheetWords::Check { sheet, grants, by } => match stated_depth(alloc, by) {
+            Ok(depth) => check(alloc, depth, sheet, grants, files, output),
+            Err(refusal) => report(refusal, output),
+        },
     }
 }
 
@@ -175,15 +187,15 @@ pub fn run_sheets<'w, O: Opener, W: TextWriter>(
 ) -> Exit<'w>
     ensures share { (sheet : List ℕ) → IsPlainWord sheet
         → map (λ s. s.now) words.now ≡ codes "share" ∷ sheet ∷ []
-        → IsShareEnd (O.Gives files.old) false sheet
+        → IsShareEnd (O.Gives files.old) None false sheet
         (W.contents output.old) (W.contents output.new) result }
     ensures share_svg { (sheet : List ℕ) → IsPlainWord sheet
         → map (λ s. s.now) words.now ≡ codes "share" ∷ sheet ∷ codes "--svg" ∷ []
-        → IsShareEnd (O.Gives files.old) true sheet
+        → IsShareEnd (O.Gives files.old) None true sheet
         (W.contents output.old) (W.contents output.new) result }
     ensures check { (sheet grants : List ℕ) → IsPlainWord sheet → IsPlainWord grants
         → map (λ s. s.now) words.now ≡ codes "check" ∷ sheet ∷ grants ∷ []
-        → IsCheckEnd (O.Gives files.old) sheet grants
+        → IsCheckEnd (O.Gives files.old) None sheet grants
         (W.contents output.old) (W.contents output.new) result }
     ensures command { fault_of sheets (map (λ s. s.now) words.now) ≡ []
         → IsOutOfMemory result ⊎ ((command : SheetWords)

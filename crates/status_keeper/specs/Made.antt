@@ -8,6 +8,8 @@ use Rattle.line_rates.specs.Rates.{Rates, floor_rate, group_of, rate_of}
 use Rattle.line_rates.specs.declared.ask.Name.TheVariants.{Server, Direction, Group, User, Session}
 use Rattle.line_rates.specs.declared.ask.Way.{Way}
 use Rattle.line_rates.specs.declared.ask.Way.TheVariants.{Down, Up}
+use Rattle.line_rates.specs.declared.share_by.ShareBy.{ShareBy}
+use Rattle.line_rates.specs.declared.share_by.ShareBy.TheVariants as by
 use Rattle.round_tally.specs.Counts.{all_rounds, held_sum, no_rounds}
 use Rattle.round_tally.specs.declared.held.HeldTally.{HeldTally}
 use Rattle.server_house.specs.declared.server_hooks.LaneLook.{LaneLook}
@@ -23,6 +25,8 @@ use Rattle.server_status.specs.declared.status.GroupStatus.{GroupStatus}
 use Rattle.server_status.specs.declared.status.HeldRounds.{HeldRounds}
 use Rattle.server_status.specs.declared.status.LineRates.{LineRates}
 use Rattle.server_status.specs.declared.status.SessionStatus.{SessionStatus}
+use Rattle.server_status.specs.declared.status.SharedAmong.{SharedAmong}
+use Rattle.server_status.specs.declared.status.SharedAmong.TheVariants as among
 use Rattle.server_status.specs.declared.status.Status.{Status}
 use Rattle.server_status.specs.declared.status.TransferStatus.{TransferStatus}
 use Rattle.status_keeper.specs.declared.facts.Counts.{Counts}
@@ -220,6 +224,11 @@ line_of rates = record {
   up = rate_of rates (Direction Up);
 }
 
+-- among whom a line is shared
+abbrev pub among_of : ShareBy → SharedAmong
+among_of by.Sessions = among.Sessions
+among_of by.Users = among.Users
+
 -- The status at a look. The octets granted to its transfers, and those granted to transfers that
 -- have ended, are those that were issued.
 pub record IsStatus (facts : StatusFacts) (ts : List KeptTransfer) (inside : List KeptSession)
@@ -228,6 +237,7 @@ pub record IsStatus (facts : StatusFacts) (ts : List KeptTransfer) (inside : Lis
   pub started : s.started ≡ facts.started
   pub micros : s.micros ≡ look.micros - facts.zero
   pub line : s.line ≡ line_of facts.limits
+  pub shared_among : s.shared_among ≡ among_of facts.limits.share_by
   pub guaranteed_down : s.guaranteed_down ≡ promised Down s.sessions_now.items
   pub guaranteed_up : s.guaranteed_up ≡ promised Up s.sessions_now.items
   pub groups : AreGroups facts.limits s.sessions_now.items facts.stated.items s.groups.items

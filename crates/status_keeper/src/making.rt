@@ -4,15 +4,15 @@ ghost use Rattle.std.specs.Prelude.{◌≡◌, ◌+◌, IfNone, IfOk, IfSome, No
 ghost use Rattle.std.specs.Option.{option_and_then};
 ghost use Rattle.std.specs.FinMap as finite;
 ghost use Rattle.line_rates.specs.Rates.{floor_rate};
-ghost use Rattle.status_keeper.specs.Made.{AreAccounts, AreGroups, AreRows, AreSessions, IsAccount, IsGroup, IsLaneOf, IsRow, IsSession, IsStatus, active_at, direction_of, granted_in, granted_now, group_in, guaranteed_of, is_inside, is_owned, is_transferring, line_of, promised, promised_in, promised_to, rounds_of, rounds_with, same_towards, way_of};
+ghost use Rattle.status_keeper.specs.Made.{AreAccounts, AreGroups, AreRows, AreSessions, IsAccount, IsGroup, IsLaneOf, IsRow, IsSession, IsStatus, active_at, among_of, direction_of, granted_in, granted_now, group_in, guaranteed_of, is_inside, is_owned, is_transferring, line_of, promised, promised_in, promised_to, rounds_of, rounds_with, same_towards, way_of};
 
 use crate::facts::{Counts, KeptAccount, KeptSession, KeptTransfer, StatedGroup, StatusFacts};
-use line_rates::{Limits, Name, Way};
+use line_rates::{Limits, Name, ShareBy, Way};
 use round_tally::HeldTally;
 use server_house::{LaneLook, ServerLook, TransferKind};
 use server_status::{
-    AccountStatus, Direction, GroupStatus, HeldRounds, LineRates, SessionStatus, Status,
-    TransferStatus,
+    AccountStatus, Direction, GroupStatus, HeldRounds, LineRates, SessionStatus, SharedAmong,
+    Status, TransferStatus,
 };
 use std::alloc::{AllocError, Global};
 
@@ -425,6 +425,15 @@ fn line_of(limits: &Limits) -> LineRates
     }
 }
 
+fn among_of(share_by: ShareBy) -> SharedAmong
+    ensures among { result ≡ among_of share_by }
+{
+    match share_by {
+        ShareBy::Sessions => SharedAmong::Sessions,
+        ShareBy::Users => SharedAmong::Users,
+    }
+}
+
 /// The status at a look, of the clients that are connected, of the transfers that they have begun, and of users. What was
 /// issued and granted to none of these transfers was granted to transfers that have ended.
 pub fn status_of(
@@ -448,6 +457,7 @@ pub fn status_of(
         started: facts.started,
         micros: look.micros.saturating_sub(facts.zero),
         line: line_of(&facts.limits),
+        shared_among: among_of(facts.limits.share_by()),
         guaranteed_down: promised(Way::Down, &inside),
         guaranteed_up: promised(Way::Up, &inside),
         groups,

@@ -9,6 +9,8 @@ use Rattle.server_status.specs.declared.status.GroupStatus.{GroupStatus}
 use Rattle.server_status.specs.declared.status.HeldRounds.{HeldRounds}
 use Rattle.server_status.specs.declared.status.LineRates.{LineRates}
 use Rattle.server_status.specs.declared.status.SessionStatus.{SessionStatus}
+use Rattle.server_status.specs.declared.status.SharedAmong.{SharedAmong}
+use Rattle.server_status.specs.declared.status.SharedAmong.TheVariants.{Sessions, Users}
 use Rattle.server_status.specs.declared.status.Status.{Status}
 use Rattle.server_status.specs.declared.status.TransferStatus.{TransferStatus}
 use Rattle.status_page.specs.Escapes.{escaped}
@@ -105,9 +107,17 @@ abbrev pub moved_in_all : Status → ℕ
 moved_in_all status =
     min (status.ended_moved + sum_by (λ t. t.moved) status.transfers.items) 18446744073709551615
 
+-- 1 if a line is shared among users
+abbrev pub by_users : SharedAmong → ℕ
+by_users Sessions = 0
+by_users Users = 1
+
 unfoldable pub transfer_lines : Status → List Line
 transfer_lines status =
-    gauge (codes "ftpd_lanes") (codes "Most transfers that run at once.") status.lanes
+    gauge (codes "ftpd_shared_among_users")
+    (codes "1 if the line is shared among users, 0 if among sessions.")
+    (by_users status.shared_among)
+    ∷ gauge (codes "ftpd_lanes") (codes "Most transfers that run at once.") status.lanes
     ∷ record {
       name = codes "ftpd_transfers";
       type = codes "gauge";

@@ -3,7 +3,7 @@
 /// The policy for browsers: they may run the script of the page and use its style, by their hashes, and ask the server
 /// itself. `tools/page-policy --write` computes the hashes.
 pub const POLICY: &str =
-    "default-src 'none'; connect-src 'self'; script-src 'sha256-tAD4mQWDZOjJidfCLyRvSeiag3UW5mbDNPzX8J4hUmk='; style-src 'sha256-S2OK/3jFGzhxX59B5bvWp9SZKq5+ulgFhhsqoTbxAT4='; base-uri 'none'; form-action 'none'; frame-ancestors 'none'";
+    "default-src 'none'; connect-src 'self'; script-src 'sha256-ZIy7ewLVqlajGmUj2lBPGHiXwyWzCZtat195aT+jsyM='; style-src 'sha256-S2OK/3jFGzhxX59B5bvWp9SZKq5+ulgFhhsqoTbxAT4='; base-uri 'none'; form-action 'none'; frame-ancestors 'none'";
 
 /// The page. It asks for `status.json` once a second, and shows each text in it as text.
 pub const PAGE: &str = r##"<!doctype html>
@@ -79,6 +79,7 @@ svg .scale { fill: var(--faint); }
 <p id="lost" class="lost" role="alert" hidden></p>
 <noscript><p class="lost">This page needs scripts; <a href="status.json">status.json</a> has its numbers.</p></noscript>
 <main>
+<p id="among" class="faint" hidden>Shared among users first, and then among the transfers of each.</p>
 <div id="lines"></div>
 <div id="alarms" role="status"></div>
 <p id="none" hidden>No transfers.</p>
@@ -185,6 +186,9 @@ function setSize(chart, wide, high) {
   chart.replaceChildren();
 }
 
+// Returns whether the line is shared among users: then two transfers that one limit holds back may get different rates.
+const isByUsers = status => status.shared_among === "users";
+
 // The limit that holds a transfer back, by the name that `ftpd plan` gives it; its client for none.
 function limitName(kind, { direction, group, user }, most) {
   if (kind === "direction") return "server " + direction;
@@ -262,6 +266,7 @@ function addLine(name, shown, now, style, rate, promised) {
 
 function fillLines(status, old, rows) {
   byId("lines").replaceChildren();
+  byId("among").hidden = !isByUsers(status);
   const promised = (limit, way) => limit["guaranteed_" + way] ?? 0;
   const got = (direction, inside) => gotSince(status, old, rows, [direction], inside);
   const add = (kind, transfer, now, rate, least) => {
@@ -329,7 +334,7 @@ function drawColumn(chart, row, style, x, width, y) {
   draw(column, "text", { transform: `translate(${x + width / 2 - 3}, ${BASE + 6}) rotate(90)` }, cut(transfer.user, 11));
 }
 
-function drawChart(way, all) {
+function drawChart(way, all, most) {
   const rows = all.filter(r => r.transfer.direction === way && !r.transfer.waiting);
   byId(way).hidden = rows.length === 0;
   if (rows.length === 0) return;
@@ -348,7 +353,7 @@ function drawChart(way, all) {
     const from = x, level = levelOf(group);
     for (const row of group.held) { drawColumn(chart, row, group.style, x, width, y); x += width + 4; }
     if (level !== null) draw(chart, "line", { x1: from - 4, x2: x, y1: y(level), y2: y(level), class: "level" });
-    nameLimit(list, group, level);
+    nameLimit(list, group, level, most);
     x += gap;
   }
 }
@@ -361,13 +366,13 @@ function addMark(list, style, text) {
   return item;
 }
 
-// A limit with its colour, how many it holds back, and what it leaves to each.
-function nameLimit(list, { limit, kind, held, style }, level) {
+// A limit with its colour, how many it holds back, and what it leaves to each, or at most.
+function nameLimit(list, { limit, kind, held, style }, level, most) {
   const promised = held.filter(r => r.transfer.guaranteed !== null).length, rest = held.length - promised;
   const parts = [];
   if (kind === "nothing") parts.push(held.length === 1 ? "asks for no more" : held.length + " ask for no more");
   else {
-    if (rest > 0) parts.push(rest === 1 ? rateText(level) : `${rest} transfers, ${rateText(level)} each`);
+    if (rest > 0) parts.push(rest === 1 ? rateText(level) : `${rest} transfers, ${most ? "up to " : ""}${rateText(level)} each`);
     if (promised > 0) parts.push(promised + " with a guarantee");
   }
   addMark(list, style, `${ownerName(kind, held[0].transfer, LONGEST)}: ${parts.join(", ")}`).title = limit;
@@ -485,7 +490,7 @@ function show(status, old) {
   giveColours(limitColours, [...new Set([limitsOf(rows), ...past.map(it => it.limits)].flat())]);
   fillLines(status, old, rows);
   fillAlarms(status, rows);
-  for (const way of WAYS) drawChart(way, rows);
+  for (const way of WAYS) drawChart(way, rows, isByUsers(status));
   drawPast(status);
   fillTransfers(rows);
   fillIdle(status);

@@ -1,10 +1,10 @@
 //! The samples of a status, but for those of its limits.
 
 ghost use Rattle.std.specs.Prelude.{◌≡◌, ◌≤◌, length, map};
-ghost use Rattle.status_page.specs.Metrics.{build_lines, byte_lines, counter, end_line, end_lines, further, gauge, idle, login_lines, moved_in_all, round_lines, session_lines, transfer_lines, waiting};
+ghost use Rattle.status_page.specs.Metrics.{build_lines, by_users, byte_lines, counter, end_line, end_lines, further, gauge, idle, login_lines, moved_in_all, round_lines, session_lines, transfer_lines, waiting};
 ghost use Rattle.status_page.specs.Samples.{line_of};
 
-use server_status::{EndCounts, HeldRounds, SessionStatus, Status, TransferStatus};
+use server_status::{EndCounts, HeldRounds, SessionStatus, SharedAmong, Status, TransferStatus};
 
 /// A sample of a metric. If it is the first, it has the type and the meaning of the metric; otherwise these are empty.
 #[derive(Clone, Copy)]
@@ -154,9 +154,19 @@ fn moved_in_all(status: &Status) -> u64
     total
 }
 
-/// The transfers that run, wait or have ended.
+/// 1 if a line is shared among users, otherwise 0.
+fn by_users(sharers: SharedAmong) -> u64
+    ensures users { result ≡ by_users sharers }
+{
+    match sharers {
+        SharedAmong::Sessions => 0,
+        SharedAmong::Users => 1,
+    }
+}
+
+/// Among whom the line is shared, and the transfers that run, wait or have ended.
 #[tactic(auto, unfolding(crate::specs::Metrics::transfer_lines))]
-pub(crate) fn transfer_samples(status: &Status) -> [Sample; 4]
+pub(crate) fn transfer_samples(status: &Status) -> [Sample; 5]
     ensures lines { map line_of result ≡ transfer_lines status.now }
 {
     let waiting = waiting(status.transfers.as_slice());
@@ -169,6 +179,11 @@ pub(crate) fn transfer_samples(status: &Status) -> [Sample; 4]
         value: running as u64,
     };
     [
+        gauge(
+            "ftpd_shared_among_users",
+            "1 if the line is shared among users, 0 if among sessions.",
+            by_users(status.shared_among),
+        ),
         gauge(
             "ftpd_lanes",
             "Most transfers that run at once.",

@@ -8,6 +8,8 @@ use Rattle.std.specs.List.Sorted.{IsNonDecreasingBy, IsPermutation}
 use Rattle.server_status.specs.declared.status.Direction.TheVariants.{Down, Up}
 use Rattle.server_status.specs.declared.status.GroupStatus.{GroupStatus}
 use Rattle.server_status.specs.declared.status.SessionStatus.{SessionStatus}
+use Rattle.server_status.specs.declared.status.SharedAmong.{SharedAmong}
+use Rattle.server_status.specs.declared.status.SharedAmong.TheVariants.{Sessions, Users}
 use Rattle.server_status.specs.declared.status.Status.{Status}
 use Rattle.server_status.specs.declared.status.TransferStatus.{TransferStatus}
 use Rattle.status_table.specs.Cells.{plain}
@@ -32,6 +34,11 @@ texts lines = map string_bytes lines.items
 
 -- ---- above the transfers
 
+-- a line that says so if the line is shared among users
+abbrev pub sharers_lines : SharedAmong → List (List ℕ)
+sharers_lines Sessions = []
+sharers_lines Users = codes "shared among users" ∷ []
+
 -- the line of the tightest limit that transfers of a direction share, if there is one
 abbrev pub level_lines : Option (Bor Status) → Status → Option (Bor TransferStatus) → List (List ℕ)
 level_lines before now None = []
@@ -40,7 +47,8 @@ level_lines before now (Some t) = level_line before now t.now ∷ []
 abbrev pub top_lines : Option (Bor Status) → Status → List (Bor TransferStatus) → List (List ℕ)
 top_lines before now shown =
     head_line now ∷ totals_line before now ∷ idle_line now
-    ∷ level_lines before now (lowest before Down shown)
+    ∷ sharers_lines now.shared_among
+    ++ level_lines before now (lowest before Down shown)
     ++ level_lines before now (lowest before Up shown)
 
 -- ---- each transfer

@@ -6,14 +6,14 @@ ghost use Rattle.std.specs.List.Sorted.{IsNonDecreasingBy, IsPermutation};
 ghost use Rattle.status_table.specs.Heads.{group_line, head_line, idle_line, totals_line};
 ghost use Rattle.status_table.specs.Lines.{session_line, user_line};
 ghost use Rattle.status_table.specs.Rates.{idle_sessions, rank};
-ghost use Rattle.status_table.specs.Tables.{IsTable, all_fit, body_lines, ended, entries, entry_lines, firsts, group_lines, has_mate, headed, joined, level_lines, names_lines, rest_line, rest_lines, screen_lines, session_lines, shown_groups, shown_users, summed_lines, texts, top_lines, user_names, users_fit, whole_lines};
+ghost use Rattle.status_table.specs.Tables.{IsTable, all_fit, body_lines, ended, entries, entry_lines, firsts, group_lines, has_mate, headed, joined, level_lines, names_lines, rest_line, rest_lines, screen_lines, session_lines, sharers_lines, shown_groups, shown_users, summed_lines, texts, top_lines, user_names, users_fit, whole_lines};
 
 use crate::cells::push_octets;
 use crate::heads::{push_group, push_head, push_idle, push_totals};
 use crate::held::{level_line, lowest};
 use crate::lines::{is_mate, push_rates, push_reasons, session_line, user_line};
 use crate::rates::{idle_sessions, rank};
-use server_status::{Direction, GroupStatus, SessionStatus, Status, TransferStatus};
+use server_status::{Direction, GroupStatus, SessionStatus, SharedAmong, Status, TransferStatus};
 use std::alloc::{AllocError, Global};
 
 /// Most characters of a line.
@@ -93,6 +93,20 @@ fn push_heads(
     push(lines, idle)
 }
 
+/// Appends a line that says so if the line is shared among users.
+fn push_sharers(
+    alloc: Global,
+    lines: &mut Vec<String>,
+    sharers: SharedAmong,
+) -> Result<(), AllocError>
+    ensures pushed { OnOk result (texts lines.new ≡ texts lines.old ++ sharers_lines sharers) }
+{
+    match sharers {
+        SharedAmong::Sessions => Ok(()),
+        SharedAmong::Users => push_text(alloc, lines, "shared among users"),
+    }
+}
+
 /// Appends the line of the tightest limit that transfers of a direction share, if there is one.
 fn push_level(
     alloc: Global,
@@ -125,6 +139,7 @@ fn top_of(
 {
     let mut lines = Vec::new(alloc);
     push_heads(alloc, &mut lines, before, now)?;
+    push_sharers(alloc, &mut lines, now.shared_among)?;
     let down = lowest(before, Direction::Down, shown);
     push_level(alloc, &mut lines, before, now, down)?;
     let up = lowest(before, Direction::Up, shown);

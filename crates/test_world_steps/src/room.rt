@@ -2,7 +2,7 @@
 
 use crate::fault::Fault;
 use crate::words::{Line, line_of};
-use line_rates::{GroupRate, Limits, UserRate};
+use line_rates::{GroupRate, Limits, ShareBy, UserRate};
 use share_world::{Event, EventAnswer, StepFault, World};
 use std::alloc::{AllocError, Global};
 use std::io::Write;
@@ -104,7 +104,7 @@ impl Room {
         match line {
             Line::Group(row) => Ok(self.add_group(row)?),
             Line::User(row) => Ok(self.add_user(row)?),
-            Line::World(lanes, rates) => self.begin(lanes, rates),
+            Line::World(lanes, rates, share_by) => self.begin(lanes, rates, share_by),
             Line::Event(event) => self.make(writer, event),
             Line::Run(count) => {
                 self.left = count;
@@ -129,10 +129,11 @@ impl Room {
         Ok(())
     }
 
-    fn begin(&mut self, lanes: u64, rates: [u64; 3]) -> Result<(), Fault> {
+    fn begin(&mut self, lanes: u64, rates: [u64; 3], share_by: ShareBy) -> Result<(), Fault> {
         let groups = mem::replace(&mut self.groups, Vec::new(self.alloc));
         let users = mem::replace(&mut self.users, Vec::new(self.alloc));
-        self.world = World::new(self.alloc, lanes as usize, limits(rates, groups, users)?)?;
+        let limits = limits(rates, groups, users)?.shared_by(share_by);
+        self.world = World::new(self.alloc, lanes as usize, limits)?;
         Ok(())
     }
 

@@ -1,6 +1,6 @@
 //! Requests in lines.
 
-use line_rates::{Ask, GroupRate, UserRate, Way};
+use line_rates::{Ask, GroupRate, ShareBy, UserRate, Way};
 use share_world::Event;
 
 /// The request of a line.
@@ -11,8 +11,9 @@ pub(crate) enum Line {
     /// `user NUMBER GROUP DOWN UP SESSION_DOWN SESSION_UP FLOOR_DOWN FLOOR_UP`: a user of the next world; `-` for no
     /// group.
     User(UserRate),
-    /// `world LANES SERVER DOWN UP`: a new world, with the groups and users before it.
-    World(u64, [u64; 3]),
+    /// `world LANES SERVER DOWN UP`: a new world, with the groups and users before it. A last word `users` shares its
+    /// line among users, and otherwise it is shared among sessions.
+    World(u64, [u64; 3], ShareBy),
     /// `sit LANE`, `ask LANE USER SESSION WAY WANT`, `collect LANE`, `decide MOMENT`, `post LANE`, `take LANE`,
     /// `move LANE OCTETS`, `rise LANE`: an event.
     Event(Event),
@@ -58,6 +59,14 @@ impl<'a> Words<'a> {
         match self.word() {
             "down" => Some(Way::Down),
             "up" => Some(Way::Up),
+            _ => None,
+        }
+    }
+
+    fn share_by(&mut self) -> Option<ShareBy> {
+        match self.word() {
+            "" => Some(ShareBy::Sessions),
+            "users" => Some(ShareBy::Users),
             _ => None,
         }
     }
@@ -118,7 +127,8 @@ fn world(words: &mut Words<'_>) -> Option<Line> {
     let server = words.number()?;
     let down = words.number()?;
     let up = words.number()?;
-    Some(Line::World(lanes, [server, down, up]))
+    let share_by = words.share_by()?;
+    Some(Line::World(lanes, [server, down, up], share_by))
 }
 
 fn event(verb: &str, words: &mut Words<'_>) -> Option<Event> {

@@ -2,7 +2,7 @@
 
 use crate::expect::holds;
 use linked_list_allocator::LocalHeap;
-use sheet_picture::{Column, Holder, drawn, picture_of, push_escaped, run_picture};
+use sheet_picture::{Column, Holder, drawn, picture_at, picture_of, push_escaped, run_picture};
 use sheet_text::SheetFault;
 use std::process::Abort;
 use std::test::Fail;
@@ -40,6 +40,7 @@ static NAMED: Column<'static> = Column {
         node: 0,
         path: "\"b\"",
     }),
+    user: 0,
 };
 
 #[test]
@@ -55,8 +56,30 @@ fn a_picture_is_written(rt: HostRuntime) -> Result<(), Fail> {
     let alloc = rt.alloc();
     let picture = picture_of(alloc, SHEET)?;
     let mut written = Vec::new(alloc);
-    run_picture(alloc, &mut SHEET, &mut written)?;
+    run_picture(alloc, None, &mut SHEET, &mut written)?;
     assert!(rt; written.as_slice() == picture.as_str().as_bytes());
+    Ok(())
+}
+
+/// The columns of a user are side by side, though another want is between them in the sheet.
+#[test]
+fn a_picture_among_users(rt: HostRuntime) -> Result<(), Fail> {
+    let alloc = rt.alloc();
+    let sheet = b"limit / 8\nwant /bob/1 9\nwant /ann 9\nwant /bob/2 9\n".as_slice();
+    let picture = picture_at(alloc, sheet, 1)?;
+    let mut written = Vec::new(alloc);
+    run_picture(alloc, Some(1), &mut &*sheet, &mut written)?;
+    assert!(rt; written.as_slice() == picture.as_str().as_bytes());
+    let titles = [
+        "<title>/bob/1: 2 of 9",
+        "<title>/bob/2: 2 of 9",
+        "<title>/ann: 4 of 9",
+    ];
+    let mut rest = picture.as_str();
+    for title in titles {
+        let (_, after) = rest.split_once(title).expect(&rt, "a title");
+        rest = after;
+    }
     Ok(())
 }
 

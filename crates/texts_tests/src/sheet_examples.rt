@@ -1,9 +1,8 @@
 //! The examples at the heads of the crates with the names of these tests, and the first calls of their parts.
 
 use crate::expect::holds;
-use grant_certificate::Verdict;
 use limit_tree::NodeKind;
-use sheet_check::{GrantsFault, read_grants, run_check};
+use sheet_check::{GrantsFault, SheetVerdict, read_grants, run_check};
 use sheet_picture::picture_of;
 use sheet_share::run_share;
 use sheet_text::{Nodes, cut_line, read_grant, read_sheet};
@@ -88,7 +87,7 @@ fn sheet_share(rt: HostRuntime) -> Result<(), Fail> {
     let alloc = rt.alloc();
     let sheet = "limit / 10\nwant /a 8\nwant /b 5\n";
     let mut shared = Vec::new(alloc);
-    run_share(alloc, &mut sheet.as_bytes(), &mut shared)?;
+    run_share(alloc, None, &mut sheet.as_bytes(), &mut shared)?;
     assert!(rt; shared.as_slice() == b"/a 5 of 8 full /\n/b 5 of 5\ntotal 10\n".as_slice());
     Ok(())
 }
@@ -113,7 +112,7 @@ fn sheet_check(rt: HostRuntime) -> Result<(), Fail> {
     let mut sheet = "limit / 10\nwant /a 8\nwant /b 5\n".as_bytes();
     let mut grants = "grant /a 5 /\ngrant /b 5\n".as_bytes();
     let mut verdict = Vec::new(alloc);
-    let is = run_check(alloc, &mut sheet, &mut grants, &mut verdict)?;
-    assert!(rt; is == Verdict::Yes && verdict.as_slice() == b"yes\n".as_slice());
+    let is = run_check(alloc, None, &mut sheet, &mut grants, &mut verdict)?;
+    assert!(rt; is == SheetVerdict::Yes && verdict.as_slice() == b"yes\n".as_slice());
     Ok(())
 }

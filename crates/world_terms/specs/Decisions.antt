@@ -1,9 +1,10 @@
--- Decisions of rounds: best grants for the asks collected.
+-- Decisions of rounds: fair grants for the asks collected, as the rates say.
 use Rattle.std.specs.Prelude.{◌≡◌, ◌≢◌, ◌⊎◌, All, ℕ, suc, ◌+◌, ◌/◌, ◌<◌, ◌≤◌, Bool, false, nat_lt, List, [], ◌∷◌, ◌++◌, map, sum_by, Option, Some, None, IsPermutation, ⊤}
 use Rattle.std.specs.List.{list_any}
 use Rattle.grant_ledger.specs.declared.ledger.TheConstants.{MAX_ISSUED}
-use Rattle.limit_tree.specs.Sharing.{LimitTree, IsBest}
+use Rattle.limit_tree.specs.Sharing.{LimitTree}
 use Rattle.limit_tree.specs.declared.bounds.TheConstants.{MAX_WANT}
+use Rattle.fair_terms.specs.Fair.{IsFair}
 use Rattle.line_rates.specs.declared.ask.Ask.{Ask}
 use Rattle.line_rates.specs.Granted.{Granted, granted_ask, granted_octets}
 use Rattle.line_rates.specs.Rates.{Rates}
@@ -62,7 +63,7 @@ abbrev pub decided_grants : List Lane → List Granted
 decided_grants [] = []
 decided_grants (l ∷ ls) = grant_of l.shown.ask l.hidden.decided ++ decided_grants ls
 
--- The decided grants are best for the tree of the tick over their asks, which are those of the
+-- The decided grants are fair for the tree of the tick over their asks, which are those of the
 -- lanes in Round; in some order they are the grants of its leaves.
 pub record IsShared (rates : Rates) (tick : ℕ) (before after : List Lane) : Type 0 where
   pub given : AreGiven before after
@@ -70,7 +71,7 @@ pub record IsShared (rates : Rates) (tick : ℕ) (before after : List Lane) : Ty
   pub all : IsPermutation leaves (decided_grants after)
   pub tree : LimitTree
   pub of_tick : IsTickTree rates tick (map granted_ask leaves) tree
-  pub best : IsBest tree (map granted_octets leaves)
+  pub best : IsFair rates.share_by (map granted_ask leaves) tree (map granted_octets leaves)
 
 abbrev pub decided_of : Lane → ℕ
 decided_of l = amount l.hidden.decided

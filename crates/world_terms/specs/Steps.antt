@@ -3,6 +3,7 @@ use Rattle.std.specs.Prelude.{◌≡◌, ◌≢◌, ◌⊎◌, ℕ, ◌+◌, ◌
 use Rattle.grant_ledger.specs.declared.ledger.TheConstants.{MAX_ISSUED}
 use Rattle.line_rates.specs.FloorSums.{FloorsFit}
 use Rattle.line_rates.specs.Rates.{Rates}
+use Rattle.line_rates.specs.declared.share_by.ShareBy.TheVariants as share
 use Rattle.line_rates.specs.TickTree.{ask_in}
 use Rattle.world_terms.specs.declared.event.LaneState.TheVariants as state
 use Rattle.world_terms.specs.declared.event.Event.{Event}
@@ -85,7 +86,7 @@ pub record AtLane (w : World) (i : ℕ) (P : Lane → Type 0) : Type 0 where
   pub there : slice_get w.lanes i ≡ Some lane
   pub fact : P lane
 
--- best grants would increase the octets issued above the most that a book issues
+-- fair grants would increase the octets issued above the most that a book issues
 pub record PassesMost (rates : Rates) (w : World) (moment : ℕ) : Type 0 where
   pub lanes : List Lane
   pub shared : IsShared rates (moment / 100) w.lanes lanes
@@ -100,6 +101,7 @@ RefusesDecide rates w m fault.TooMuch =
     AllPosted w.lanes × IsLater (m / 100) w.last_tick × (has_large_want w.lanes ≡ true)
 RefusesDecide rates w m fault.FloorsOver =
     IsReady w m × (FloorsFit rates (m / 100) (map ask_in (in_round w.lanes)) → ⊥)
+RefusesDecide rates w m fault.Unshared = IsReady w m × (rates.share_by ≡ share.Users)
 RefusesDecide rates w m fault.Memory = IsReady w m
 RefusesDecide rates w m fault.BookFull = IsReady w m × PassesMost rates w m
 RefusesDecide rates w m fault.NoLane = ⊥

@@ -4,7 +4,7 @@ use std::alloc::AllocError;
 use thiserror::Error;
 
 /// The reason for which an event is refused; it then changes nothing. `NoLane` is checked first, then `WrongState`; for
-/// a decision then `NotYet`, `TooMuch`, `FloorsOver` or `Memory`, and `BookFull`.
+/// a decision then `NotYet`, `TooMuch`, `FloorsOver`, `Unshared` or `Memory`, and `BookFull`.
 #[derive(Clone, Copy, Debug, PartialEq, Eq, Error)]
 pub enum StepFault {
     /// The event is not possible in the lane's state, or not all decided amounts are posted.
@@ -28,6 +28,10 @@ pub enum StepFault {
     /// The guarantees of the asks do not fit the limits of the tick.
     #[error("guarantees exceed the limits of the tick")]
     FloorsOver,
+    /// The line is shared among users, and no division among them was found that passes the check. This is returned only
+    /// if the asks of a user want more than 4,294,967,295 octets in total.
+    #[error("no division among the users was found")]
+    Unshared,
 }
 
 impl From<AllocError> for StepFault {

@@ -1,5 +1,5 @@
-//! Tests of the core of sharing that no stored run shows: a whole run with its replies, and memory that is refused at
-//! each growth in turn.
+//! Tests of the core of sharing that no stored run shows: a whole run with its replies, rounds among users, and memory
+//! that is refused at each growth in turn.
 #![tactic(auto)]
 
 #[cfg(test)]
@@ -10,3 +10,5 @@ mod expect;
 mod rounds;
 #[cfg(test)]
 mod shortages;
+#[cfg(test)]
+mod users;

@@ -1,7 +1,7 @@
 //! Two lanes over three rounds: events, their replies, and the state of the lanes at the end.
 
 use crate::expect::holds;
-use line_rates::{Ask, Limits, Way};
+use line_rates::{Ask, Limits, ShareBy, Way};
 use share_world::{Event, EventAnswer, StepFault, World, WorldFault};
 use std::alloc::Allocator;
 use std::process::Abort;
@@ -105,15 +105,17 @@ pub(crate) static REPLIES: [Reply; 29] = [
     Err(StepFault::NoLane),
 ];
 
-/// A world of two lanes with a rate of 30 octets per second.
+/// A world of two lanes with a rate of 30 octets per second. Each lane is one user's, so the line is shared alike among
+/// sessions and among users.
 pub(crate) fn two_lanes<A: Allocator + Clone>(
     rt: &impl Abort,
+    share_by: ShareBy,
     alloc: A,
     groups: A,
     users: A,
 ) -> World<A> {
     let limits = Limits::of(30, 0, 0, Vec::new(groups), Vec::new(users)).expect(rt, "limits");
-    World::new(alloc, 2, limits).expect(rt, "a world")
+    World::new(alloc, 2, limits.shared_by(share_by)).expect(rt, "a world")
 }
 
 /// The state of the world after these events.
@@ -131,10 +133,12 @@ pub(crate) fn is_settled<A: Allocator>(rt: &impl Abort, world: &World<A>) {
 #[test]
 fn a_whole_run(rt: HostRuntime) {
     let alloc = rt.alloc();
-    let mut world = two_lanes(&rt, alloc, alloc, alloc);
-    let replies = world.run(&EVENTS).expect(&rt, "memory");
-    holds(&rt, replies.as_slice() == REPLIES.as_slice());
-    is_settled(&rt, &world);
+    for share_by in [ShareBy::Sessions, ShareBy::Users] {
+        let mut world = two_lanes(&rt, share_by, alloc, alloc, alloc);
+        let replies = world.run(&EVENTS).expect(&rt, "memory");
+        holds(&rt, replies.as_slice() == REPLIES.as_slice());
+        is_settled(&rt, &world);
+    }
 }
 
 // The events of one round of this number of lanes, each of which wants as many octets as its number.

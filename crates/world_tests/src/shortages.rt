@@ -2,7 +2,7 @@
 
 use crate::expect::holds;
 use crate::rounds::{EVENTS, REPLIES, is_settled, two_lanes};
-use line_rates::Limits;
+use line_rates::{Limits, ShareBy};
 use linked_list_allocator::LocalHeap;
 use share_world::{StepFault, World, WorldFault};
 use std::process::Abort;
@@ -22,9 +22,9 @@ fn steps<'h>(rt: &impl Abort, world: &mut World<&'h LocalHeap>, from: usize) -> 
 
 // Returns whether a world has memory for all events beside one hole of some octets. If memory is refused, it is
 // available again for that event, and the world ends as one that never lacked any.
-fn has_memory(rt: &(impl Abort + AllocGlobal), room: usize) -> bool {
+fn has_memory(rt: &(impl Abort + AllocGlobal), share_by: ShareBy, room: usize) -> bool {
     let heap = LocalHeap::new(rt.alloc(), HEAP).expect(rt, "a heap");
-    let mut world = two_lanes(rt, &heap, &heap, &heap);
+    let mut world = two_lanes(rt, share_by, &heap, &heap, &heap);
     let rest = leave_hole(rt, &heap, room).expect(rt, "a hole");
     let refused = steps(rt, &mut world, 0);
     drop(rest);
@@ -34,9 +34,9 @@ fn has_memory(rt: &(impl Abort + AllocGlobal), room: usize) -> bool {
 }
 
 // Returns whether a whole run has memory; if it is refused, the lists are those of the events before it.
-fn runs(rt: &(impl Abort + AllocGlobal), room: usize) -> bool {
+fn runs(rt: &(impl Abort + AllocGlobal), share_by: ShareBy, room: usize) -> bool {
     let heap = LocalHeap::new(rt.alloc(), HEAP).expect(rt, "a heap");
-    let mut world = two_lanes(rt, &heap, &heap, &heap);
+    let mut world = two_lanes(rt, share_by, &heap, &heap, &heap);
     let rest = leave_hole(rt, &heap, room).expect(rt, "a hole");
     let has_run = world.run(&EVENTS).is_ok();
     drop(rest);
@@ -58,9 +58,9 @@ fn runs_of_one<'h>(rt: &impl Abort, world: &mut World<&'h LocalHeap>) -> usize {
 }
 
 // Returns whether these runs have memory. Once there is memory again, one run of all other events passes.
-fn runs_on(rt: &(impl Abort + AllocGlobal), room: usize) -> bool {
+fn runs_on(rt: &(impl Abort + AllocGlobal), share_by: ShareBy, room: usize) -> bool {
     let heap = LocalHeap::new(rt.alloc(), HEAP).expect(rt, "a heap");
-    let mut world = two_lanes(rt, &heap, &heap, &heap);
+    let mut world = two_lanes(rt, share_by, &heap, &heap, &heap);
     let rest = leave_hole(rt, &heap, room).expect(rt, "a hole");
     let refused = runs_of_one(rt, &mut world);
     drop(rest);
@@ -72,15 +72,32 @@ fn runs_on(rt: &(impl Abort + AllocGlobal), room: usize) -> bool {
     refused == EVENTS.len()
 }
 
+// Returns for each kind of run whether it has memory beside one hole of some octets.
+fn answers_in(rt: &(impl Abort + AllocGlobal), share_by: ShareBy, room: usize) -> [bool; 3] {
+    [
+        has_memory(rt, share_by, room),
+        runs(rt, share_by, room),
+        runs_on(rt, share_by, room),
+    ]
+}
+
 #[test]
 fn each_growth(rt: HostRuntime) {
     // Room rises by less than the smallest growth, so each growth in turn is the first to be refused.
     for step in 0..256usize {
-        let room = 16 * step;
-        let answers = [has_memory(&rt, room), runs(&rt, room), runs_on(&rt, room)];
+        let answers = answers_in(&rt, ShareBy::Sessions, 16 * step);
         // With no room each is refused, and with enough none.
         holds(&rt, step > 0 || answers == [false; 3]);
         holds(&rt, step < 255 || answers == [true; 3]);
+    }
+}
+
+#[test]
+fn each_growth_among_users(rt: HostRuntime) {
+    for step in 0..512usize {
+        let answers = answers_in(&rt, ShareBy::Users, 16 * step);
+        holds(&rt, step > 0 || answers == [false; 3]);
+        holds(&rt, step < 511 || answers == [true; 3]);
     }
 }
 

@@ -12,30 +12,30 @@ use Rattle.ask_shares.proofs.sharing.shares_in.Goals as goal
 pub in_order-requires : goal.in_order-requires
 in_order-requires g c = record {
   places = subst (All (λ lane. lane < length c.args.asks.now)) (sym c.deref.ensures.value)
-      (lanes_within c.args.asks.now c.requires.plan.0 c.requires.plan.2.order c.args.plan.now.lanes.items c.requires.plan.1 c.requires.plan.2.all c.requires.plan.2.lanes_are);
+      (lanes_within c.args.asks.now c.requires.plan.0 c.requires.plan.2.order c.args.plan.lanes.items c.requires.plan.1 c.requires.plan.2.all c.requires.plan.2.lanes_are);
 }
 
-pub best_shares-requires-clause-tree : goal.best_shares-requires-clause-tree
-best_shares-requires-clause-tree g c =
-    subst (λ (x : List Ask). IsTickTree c.args.limits.now c.args.tick x (limits c.args.plan.now.tree)) (sym (c.deref-2.ensures.value
-    ∙ same_order c.args.asks.now c.requires.plan.0 c.requires.plan.2.order c.in_ok-order.order.items c.args.plan.now.lanes.items c.requires.plan.1 c.requires.plan.2.all c.requires.plan.2.lanes_are
+pub fair_leaves-requires-clause-tree : goal.fair_leaves-requires-clause-tree
+fair_leaves-requires-clause-tree g c =
+    subst (λ (x : List Ask). IsTickTree c.args.limits.now c.args.tick x (limits c.args.plan.tree)) (sym (c.deref-2.ensures.value
+    ∙ same_order c.args.asks.now c.requires.plan.0 c.requires.plan.2.order c.in_ok-order.order.items c.args.plan.lanes.items c.requires.plan.1 c.requires.plan.2.all c.requires.plan.2.lanes_are
     (subst (λ (x : List ℕ). map (λ lane. slice_get c.args.asks.now lane) x ≡ map (λ ask. Some ask) c.in_ok-order.order.items) c.deref.ensures.value c.in_ok-order.ensures.order))) c.requires.plan.2.tree
 
 pub returns-clause-shares : goal.returns-clause-shares
 returns-clause-shares g c =
     let order_is : c.deref-2.result.now ≡ map ask_in c.requires.plan.2.order = c.deref-2.ensures.value
-    ∙ same_order c.args.asks.now c.requires.plan.0 c.requires.plan.2.order c.in_ok-order.order.items c.args.plan.now.lanes.items c.requires.plan.1 c.requires.plan.2.all c.requires.plan.2.lanes_are
+    ∙ same_order c.args.asks.now c.requires.plan.0 c.requires.plan.2.order c.in_ok-order.order.items c.args.plan.lanes.items c.requires.plan.1 c.requires.plan.2.all c.requires.plan.2.lanes_are
     (subst (λ (x : List ℕ). map (λ lane. slice_get c.args.asks.now lane) x ≡ map (λ ask. Some ask) c.in_ok-order.order.items) c.deref.ensures.value c.in_ok-order.ensures.order) in
-    ask_shares c.args.limits.now c.args.tick c.args.asks.now c.requires.plan.0 c.requires.plan.2.order c.args.plan.now.lanes.items (limits c.args.plan.now.tree) c.in_ok-shares.shares.items c.sort_by_place.new.shares.items c.requires.plan.1 c.requires.plan.2.all c.requires.plan.2.lanes_are c.requires.plan.2.tree
-    (subst (λ (x : List Ask). AreBestLeaves c.args.limits.now c.args.tick x c.args.plan.now.lanes.items (limits c.args.plan.now.tree) c.in_ok-shares.shares.items) order_is c.in_ok-shares.ensures.shares)
+    ask_shares c.args.limits.now c.args.tick c.args.asks.now c.requires.plan.0 c.requires.plan.2.order c.args.plan.lanes.items (limits c.args.plan.tree) c.in_ok-shares.shares.items c.sort_by_place.new.shares.items c.requires.plan.1 c.requires.plan.2.all c.requires.plan.2.lanes_are c.requires.plan.2.tree
+    (subst (λ (x : List Ask). AreBestLeaves c.args.limits.now c.args.tick x c.args.plan.lanes.items (limits c.args.plan.tree) c.in_ok-shares.shares.items) order_is (subst (λ (ls : List ℕ). AreBestLeaves c.args.limits.now c.args.tick c.deref-2.result.now ls (limits c.args.plan.tree) c.in_ok-shares.shares.items) c.deref-3.ensures.value c.in_ok-shares.ensures.shares))
     c.sort_by_place.ensures.same c.sort_by_place.ensures.sorted
 
 pub returns-clause-names : goal.returns-clause-names
 returns-clause-names g c =
     let order_is : c.deref-2.result.now ≡ map ask_in c.requires.plan.2.order = c.deref-2.ensures.value
-    ∙ same_order c.args.asks.now c.requires.plan.0 c.requires.plan.2.order c.in_ok-order.order.items c.args.plan.now.lanes.items c.requires.plan.1 c.requires.plan.2.all c.requires.plan.2.lanes_are
+    ∙ same_order c.args.asks.now c.requires.plan.0 c.requires.plan.2.order c.in_ok-order.order.items c.args.plan.lanes.items c.requires.plan.1 c.requires.plan.2.all c.requires.plan.2.lanes_are
     (subst (λ (x : List ℕ). map (λ lane. slice_get c.args.asks.now lane) x ≡ map (λ ask. Some ask) c.in_ok-order.order.items) c.deref.ensures.value c.in_ok-order.ensures.order) in
     names_are_kept c.args.limits.now c.args.tick c.in_ok-shares.shares.items c.sort_by_place.new.shares.items c.grants_keep_names.ensures.kept
-    (tree_shares c.args.limits.now c.args.tick (map ask_in c.requires.plan.2.order) c.args.plan.now.lanes.items (limits c.args.plan.now.tree) c.in_ok-shares.shares.items c.requires.plan.2.tree
-    (subst (λ (x : List Ask). AreBestLeaves c.args.limits.now c.args.tick x c.args.plan.now.lanes.items (limits c.args.plan.now.tree) c.in_ok-shares.shares.items) order_is c.in_ok-shares.ensures.shares))
+    (tree_shares c.args.limits.now c.args.tick (map ask_in c.requires.plan.2.order) c.args.plan.lanes.items (limits c.args.plan.tree) c.in_ok-shares.shares.items c.requires.plan.2.tree
+    (subst (λ (x : List Ask). AreBestLeaves c.args.limits.now c.args.tick x c.args.plan.lanes.items (limits c.args.plan.tree) c.in_ok-shares.shares.items) order_is (subst (λ (ls : List ℕ). AreBestLeaves c.args.limits.now c.args.tick c.deref-2.result.now ls (limits c.args.plan.tree) c.in_ok-shares.shares.items) c.deref-3.ensures.value c.in_ok-shares.ensures.shares)))
     c.sort_by_place.ensures.same

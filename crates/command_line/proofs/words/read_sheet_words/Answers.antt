@@ -1,8 +1,8 @@
-use Rattle.std.proofs.Common.{refl, Bool, sym, [], ◌≡◌, ◌∙◌, ap, ap₂, subst, map, ℕ, List, Option, true}
+use Rattle.std.proofs.Common.{codes, false, refl, Bool, sym, [], ◌≡◌, ◌∙◌, ap, ap₂, subst, map, ℕ, List, Option, true}
 use Rattle.std.specs.Borrow.{Bor}
 use Rattle.command_line.specs.Commands.{sheets}
-use Rattle.command_line.specs.Given.{IsSheetFound, IsRefusal, IsShare}
-use Rattle.clap.specs.Words.{App, Row, Text, app_of, fault_of, is_simple, is_simple_and_free, subcommand_of, takes}
+use Rattle.command_line.specs.Given.{IsCheck, IsSheetFound, IsRefusal, IsShare}
+use Rattle.clap.specs.Words.{App, Row, Text, app_of, fault_of, first_of, is_simple, is_simple_and_free, subcommand_of, takes}
 use Rattle.command_line.proofs.Taken.{refused_by_none, sheets_is_free, sheets_is_simple, sheets_checks, sheets_pictures, sheets_shares}
 use Rattle.command_line.proofs.GivenCommand.{check_is, share_is, sheets_found}
 use Rattle.command_line.proofs.words.read_sheet_words.Goals as goal
@@ -53,23 +53,26 @@ returns-clause-share c = λ word plain are.
     let held = sheets_shares word plain in
     let simple : is_simple (app_of c.in-Ok.command) ≡ true = ap is_simple c.in-Ok.ensures.sheets ∙ sheets_is_simple in
     let entered = c.in-Ok-parsed.ensures.found simple ∙ ap₂ subcommand_of c.in-Ok.ensures.sheets are ∙ held.entered in
-    subst (λ (flag : Bool). IsShare word flag c.in-Some.words) held.unflagged
-    (share_is _ _ held.rows word entered held.sheet c.in-Some.ensures.found)
+    subst (λ (by : Option Text). IsShare word false by c.in-Some.words) held.alone
+    (subst (λ (flag : Bool). IsShare word flag (first_of (codes "by") held.rows) c.in-Some.words) held.unflagged
+    (share_is _ _ held.rows word entered held.sheet c.in-Some.ensures.found))
 
 pub returns-clause-share_svg : goal.returns-clause-share_svg
 returns-clause-share_svg c = λ word plain are.
     let held = sheets_pictures word plain in
     let simple : is_simple (app_of c.in-Ok.command) ≡ true = ap is_simple c.in-Ok.ensures.sheets ∙ sheets_is_simple in
     let entered = c.in-Ok-parsed.ensures.found simple ∙ ap₂ subcommand_of c.in-Ok.ensures.sheets are ∙ held.entered in
-    subst (λ (flag : Bool). IsShare word flag c.in-Some.words) held.flagged
-    (share_is _ _ held.rows word entered held.sheet c.in-Some.ensures.found)
+    subst (λ (by : Option Text). IsShare word true by c.in-Some.words) held.alone
+    (subst (λ (flag : Bool). IsShare word flag (first_of (codes "by") held.rows) c.in-Some.words) held.flagged
+    (share_is _ _ held.rows word entered held.sheet c.in-Some.ensures.found))
 
 pub returns-clause-check : goal.returns-clause-check
 returns-clause-check c = λ first second plain also are.
     let held = sheets_checks first second plain also in
     let simple : is_simple (app_of c.in-Ok.command) ≡ true = ap is_simple c.in-Ok.ensures.sheets ∙ sheets_is_simple in
     let entered = c.in-Ok-parsed.ensures.found simple ∙ ap₂ subcommand_of c.in-Ok.ensures.sheets are ∙ held.entered in
-    check_is _ _ held.rows first second entered held.sheet held.grants c.in-Some.ensures.found
+    subst (λ (by : Option Text). IsCheck first second by c.in-Some.words) held.alone
+    (check_is _ _ held.rows first second entered held.sheet held.grants c.in-Some.ensures.found)
 
 pub returns-clause-found : goal.returns-clause-found
 returns-clause-found c =

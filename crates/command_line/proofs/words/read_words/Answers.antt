@@ -1,7 +1,7 @@
 use Rattle.std.proofs.Common.{None, Some, Bool, codes, false, inl, inr, refl, sym, [], ◌≡◌, ◌∙◌, ap, ap₂, subst, map, ℕ, List, Option, true}
 use Rattle.std.specs.Borrow.{Bor}
 use Rattle.command_line.specs.Commands.{ftpd}
-use Rattle.command_line.specs.Given.{IsCheckConfig, IsFound, IsLoggedBy, IsOfSheets, IsPlanWords, IsRefusal, IsServe, IsShare, IsStatusBy, IsTop, is_flagged}
+use Rattle.command_line.specs.Given.{IsCheck, IsCheckConfig, IsFound, IsLoggedBy, IsOfSheets, IsPlanWords, IsRefusal, IsServe, IsShare, IsStatusBy, IsTop, is_flagged}
 use Rattle.command_line.specs.Stated.{IsStatedBy, IsUnnumbered}
 use Rattle.command_line.specs.Timed.{usual_patience}
 use Rattle.command_line.specs.declared.numbers.NumberForm.TheVariants.{Lines, Port, Seconds}
@@ -9,7 +9,7 @@ use Rattle.command_line.specs.declared.numbers.TheConstants.{ROWS}
 use Rattle.clap.specs.Words.{App, Row, Text, app_of, fault_of, is_simple, is_simple_and_free, first_of, subcommand_of, takes}
 use Rattle.command_line.proofs.AgainstWords.{checks_against, checks_against_json}
 use Rattle.command_line.proofs.Taken.{refused_by_none, ftpd_is_free, ftpd_is_simple, ftpd_checks, ftpd_pictures, ftpd_shares, checks_config, checks_running, migrates, plans, plans_json, reports_json, scripts}
-use Rattle.command_line.proofs.StatedNumbers.{no_port, number_plain, patient, refused_other, refused_stated, serve_stated, some_lines, some_port, top_stated, usual, usual_lines}
+use Rattle.command_line.proofs.StatedNumbers.{no_port, number_plain, patient, plan_stated, refused_other, refused_stated, serve_stated, some_lines, some_port, top_stated, usual, usual_lines}
 use Rattle.command_line.proofs.ServeWords.{serves, serves_logged, serves_ready, serves_status, serves_timed, serves_until}
 use Rattle.command_line.proofs.TopWords.{tops, tops_once}
 use Rattle.command_line.proofs.GivenCommand.{check_config_is, check_of_sheets, ftpd_found, logged_is, migrate_is, plan_is, script_is, serve_is, share_of_sheets, status_is, top_is}
@@ -105,13 +105,13 @@ returns-in-Err-clause-refused c =
 pub returns-in_default-clause-taken : goal.returns-in_default-clause-taken
 returns-in_default-clause-taken c = λ is.
     let texts = map (λ (s : Bor (List ℕ)). s.now) c.args.words.now in
-    let found = ftpd_found c.args.words texts is.1.0 is.1.1 is.1.2 is.0 is.1.3 in
+    let found = ftpd_found c.args.words texts is.1.0 is.1.1 is.1.2 is.1.3 is.0 is.1.4 in
     (found.0, found.1, refl)
 
 pub returns-in-Err-clause-taken : goal.returns-in-Err-clause-taken
 returns-in-Err-clause-taken c = λ is.
     let texts = map (λ (s : Bor (List ℕ)). s.now) c.args.words.now in
-    let found = ftpd_found c.args.words texts is.1.0 is.1.1 is.1.2 is.0 is.1.3 in
+    let found = ftpd_found c.args.words texts is.1.0 is.1.1 is.1.2 is.1.3 is.0 is.1.4 in
     let refused = c.in-Err.ensures.refused (ap is_simple_and_free c.in-Ok.ensures.ftpd ∙ ftpd_is_free) in
     let by_parser = subst (λ (a : App). IsRefusal (fault_of a texts) c.in-Err.fault) c.in-Ok.ensures.ftpd refused in
     (found.0, found.1, refused_by_none (fault_of ftpd texts) c.in-Err.fault is.0 by_parser)
@@ -123,98 +123,98 @@ returns-in-Err-stated_numbers-clause-share c = λ word plain are.
     let held = ftpd_shares word plain in
     let simple : is_simple (app_of c.in-Ok.command) ≡ true = ap is_simple c.in-Ok.ensures.ftpd ∙ ftpd_is_simple in
     let entered = c.in-Ok-parsed_or_hinted.ensures.found simple ∙ ap₂ subcommand_of c.in-Ok.ensures.ftpd are ∙ held.entered in
-    refused_other _ (codes "share") held.rows _ refl refl entered c.in-Err-stated_numbers.ensures.refused
+    refused_other _ (codes "share") held.rows _ refl refl refl entered c.in-Err-stated_numbers.ensures.refused
 
 pub returns-in-Err-stated_numbers-clause-share_svg : goal.returns-in-Err-stated_numbers-clause-share_svg
 returns-in-Err-stated_numbers-clause-share_svg c = λ word plain are.
     let held = ftpd_pictures word plain in
     let simple : is_simple (app_of c.in-Ok.command) ≡ true = ap is_simple c.in-Ok.ensures.ftpd ∙ ftpd_is_simple in
     let entered = c.in-Ok-parsed_or_hinted.ensures.found simple ∙ ap₂ subcommand_of c.in-Ok.ensures.ftpd are ∙ held.entered in
-    refused_other _ (codes "share") held.rows _ refl refl entered c.in-Err-stated_numbers.ensures.refused
+    refused_other _ (codes "share") held.rows _ refl refl refl entered c.in-Err-stated_numbers.ensures.refused
 
 pub returns-in-Err-stated_numbers-clause-check : goal.returns-in-Err-stated_numbers-clause-check
 returns-in-Err-stated_numbers-clause-check c = λ first second plain also are.
     let held = ftpd_checks first second plain also in
     let simple : is_simple (app_of c.in-Ok.command) ≡ true = ap is_simple c.in-Ok.ensures.ftpd ∙ ftpd_is_simple in
     let entered = c.in-Ok-parsed_or_hinted.ensures.found simple ∙ ap₂ subcommand_of c.in-Ok.ensures.ftpd are ∙ held.entered in
-    refused_other _ (codes "check") held.rows _ refl refl entered c.in-Err-stated_numbers.ensures.refused
+    refused_other _ (codes "check") held.rows _ refl refl refl entered c.in-Err-stated_numbers.ensures.refused
 
 pub returns-in-Err-stated_numbers-clause-check_config : goal.returns-in-Err-stated_numbers-clause-check_config
 returns-in-Err-stated_numbers-clause-check_config c = λ word plain are.
     let held = checks_config word plain in
     let simple : is_simple (app_of c.in-Ok.command) ≡ true = ap is_simple c.in-Ok.ensures.ftpd ∙ ftpd_is_simple in
     let entered = c.in-Ok-parsed_or_hinted.ensures.found simple ∙ ap₂ subcommand_of c.in-Ok.ensures.ftpd are ∙ held.entered in
-    refused_other _ (codes "check-config") held.rows _ refl refl entered c.in-Err-stated_numbers.ensures.refused
+    refused_other _ (codes "check-config") held.rows _ refl refl refl entered c.in-Err-stated_numbers.ensures.refused
 
 pub returns-in-Err-stated_numbers-clause-check_config_json : goal.returns-in-Err-stated_numbers-clause-check_config_json
 returns-in-Err-stated_numbers-clause-check_config_json c = λ word plain are.
     let held = reports_json word plain in
     let simple : is_simple (app_of c.in-Ok.command) ≡ true = ap is_simple c.in-Ok.ensures.ftpd ∙ ftpd_is_simple in
     let entered = c.in-Ok-parsed_or_hinted.ensures.found simple ∙ ap₂ subcommand_of c.in-Ok.ensures.ftpd are ∙ held.entered in
-    refused_other _ (codes "check-config") held.rows _ refl refl entered c.in-Err-stated_numbers.ensures.refused
+    refused_other _ (codes "check-config") held.rows _ refl refl refl entered c.in-Err-stated_numbers.ensures.refused
 
 pub returns-in-Err-stated_numbers-clause-check_against : goal.returns-in-Err-stated_numbers-clause-check_against
 returns-in-Err-stated_numbers-clause-check_against c = λ word other plain also are.
     let held = checks_against word other plain also in
     let simple : is_simple (app_of c.in-Ok.command) ≡ true = ap is_simple c.in-Ok.ensures.ftpd ∙ ftpd_is_simple in
     let entered = c.in-Ok-parsed_or_hinted.ensures.found simple ∙ ap₂ subcommand_of c.in-Ok.ensures.ftpd are ∙ held.entered in
-    refused_other _ (codes "check-config") held.rows _ refl refl entered c.in-Err-stated_numbers.ensures.refused
+    refused_other _ (codes "check-config") held.rows _ refl refl refl entered c.in-Err-stated_numbers.ensures.refused
 
 pub returns-in-Err-stated_numbers-clause-check_against_json : goal.returns-in-Err-stated_numbers-clause-check_against_json
 returns-in-Err-stated_numbers-clause-check_against_json c = λ word other plain also are.
     let held = checks_against_json word other plain also in
     let simple : is_simple (app_of c.in-Ok.command) ≡ true = ap is_simple c.in-Ok.ensures.ftpd ∙ ftpd_is_simple in
     let entered = c.in-Ok-parsed_or_hinted.ensures.found simple ∙ ap₂ subcommand_of c.in-Ok.ensures.ftpd are ∙ held.entered in
-    refused_other _ (codes "check-config") held.rows _ refl refl entered c.in-Err-stated_numbers.ensures.refused
+    refused_other _ (codes "check-config") held.rows _ refl refl refl entered c.in-Err-stated_numbers.ensures.refused
 
 pub returns-in-Err-stated_numbers-clause-check_running : goal.returns-in-Err-stated_numbers-clause-check_running
 returns-in-Err-stated_numbers-clause-check_running c = λ word plain are.
     let held = checks_running word plain in
     let simple : is_simple (app_of c.in-Ok.command) ≡ true = ap is_simple c.in-Ok.ensures.ftpd ∙ ftpd_is_simple in
     let entered = c.in-Ok-parsed_or_hinted.ensures.found simple ∙ ap₂ subcommand_of c.in-Ok.ensures.ftpd are ∙ held.entered in
-    refused_other _ (codes "check-config") held.rows _ refl refl entered c.in-Err-stated_numbers.ensures.refused
+    refused_other _ (codes "check-config") held.rows _ refl refl refl entered c.in-Err-stated_numbers.ensures.refused
 
 pub returns-in-Err-stated_numbers-clause-migrate : goal.returns-in-Err-stated_numbers-clause-migrate
 returns-in-Err-stated_numbers-clause-migrate c = λ word plain are.
     let held = migrates word plain in
     let simple : is_simple (app_of c.in-Ok.command) ≡ true = ap is_simple c.in-Ok.ensures.ftpd ∙ ftpd_is_simple in
     let entered = c.in-Ok-parsed_or_hinted.ensures.found simple ∙ ap₂ subcommand_of c.in-Ok.ensures.ftpd are ∙ held.entered in
-    refused_other _ (codes "migrate") held.rows _ refl refl entered c.in-Err-stated_numbers.ensures.refused
+    refused_other _ (codes "migrate") held.rows _ refl refl refl entered c.in-Err-stated_numbers.ensures.refused
 
 pub returns-in-Err-stated_numbers-clause-script : goal.returns-in-Err-stated_numbers-clause-script
 returns-in-Err-stated_numbers-clause-script c = λ word plain are.
     let held = scripts word plain in
     let simple : is_simple (app_of c.in-Ok.command) ≡ true = ap is_simple c.in-Ok.ensures.ftpd ∙ ftpd_is_simple in
     let entered = c.in-Ok-parsed_or_hinted.ensures.found simple ∙ ap₂ subcommand_of c.in-Ok.ensures.ftpd are ∙ held.entered in
-    refused_other _ (codes "script") held.rows _ refl refl entered c.in-Err-stated_numbers.ensures.refused
+    refused_other _ (codes "script") held.rows _ refl refl refl entered c.in-Err-stated_numbers.ensures.refused
 
 pub returns-in-Err-stated_numbers-clause-serve : goal.returns-in-Err-stated_numbers-clause-serve
 returns-in-Err-stated_numbers-clause-serve c = λ word plain are.
     let held = serves word plain in
     let simple : is_simple (app_of c.in-Ok.command) ≡ true = ap is_simple c.in-Ok.ensures.ftpd ∙ ftpd_is_simple in
     let entered = c.in-Ok-parsed_or_hinted.ensures.found simple ∙ ap₂ subcommand_of c.in-Ok.ensures.ftpd are ∙ held.entered in
-    refused_stated _ _ _ _ _ (serve_stated _ _ None held.rows entered (usual held.rows held.usual) (no_port held.rows held.portless)) c.in-Err-stated_numbers.ensures.refused
+    refused_stated _ _ _ _ _ _ (serve_stated _ _ None held.rows entered (usual held.rows held.usual) (no_port held.rows held.portless) held.usual.4) c.in-Err-stated_numbers.ensures.refused
 
 pub returns-in-Err-stated_numbers-clause-serve_until : goal.returns-in-Err-stated_numbers-clause-serve_until
 returns-in-Err-stated_numbers-clause-serve_until c = λ word path plain also are.
     let held = serves_until word path plain also in
     let simple : is_simple (app_of c.in-Ok.command) ≡ true = ap is_simple c.in-Ok.ensures.ftpd ∙ ftpd_is_simple in
     let entered = c.in-Ok-parsed_or_hinted.ensures.found simple ∙ ap₂ subcommand_of c.in-Ok.ensures.ftpd are ∙ held.entered in
-    refused_stated _ _ _ _ _ (serve_stated _ _ None held.rows entered (usual held.rows held.usual) (no_port held.rows held.portless)) c.in-Err-stated_numbers.ensures.refused
+    refused_stated _ _ _ _ _ _ (serve_stated _ _ None held.rows entered (usual held.rows held.usual) (no_port held.rows held.portless) held.usual.4) c.in-Err-stated_numbers.ensures.refused
 
 pub returns-in-Err-stated_numbers-clause-serve_ready : goal.returns-in-Err-stated_numbers-clause-serve_ready
 returns-in-Err-stated_numbers-clause-serve_ready c = λ word path ready plain also third are.
     let held = serves_ready word path ready plain also third in
     let simple : is_simple (app_of c.in-Ok.command) ≡ true = ap is_simple c.in-Ok.ensures.ftpd ∙ ftpd_is_simple in
     let entered = c.in-Ok-parsed_or_hinted.ensures.found simple ∙ ap₂ subcommand_of c.in-Ok.ensures.ftpd are ∙ held.entered in
-    refused_stated _ _ _ _ _ (serve_stated _ _ None held.rows entered (usual held.rows held.usual) (no_port held.rows held.portless)) c.in-Err-stated_numbers.ensures.refused
+    refused_stated _ _ _ _ _ _ (serve_stated _ _ None held.rows entered (usual held.rows held.usual) (no_port held.rows held.portless) held.usual.4) c.in-Err-stated_numbers.ensures.refused
 
 pub returns-in-Err-stated_numbers-clause-serve_logged : goal.returns-in-Err-stated_numbers-clause-serve_logged
 returns-in-Err-stated_numbers-clause-serve_logged c = λ word path form plain also third are.
     let held = serves_logged word path form plain also third in
     let simple : is_simple (app_of c.in-Ok.command) ≡ true = ap is_simple c.in-Ok.ensures.ftpd ∙ ftpd_is_simple in
     let entered = c.in-Ok-parsed_or_hinted.ensures.found simple ∙ ap₂ subcommand_of c.in-Ok.ensures.ftpd are ∙ held.entered in
-    refused_stated _ _ _ _ _ (serve_stated _ _ None held.rows entered (usual held.rows held.usual) (no_port held.rows held.portless)) c.in-Err-stated_numbers.ensures.refused
+    refused_stated _ _ _ _ _ _ (serve_stated _ _ None held.rows entered (usual held.rows held.usual) (no_port held.rows held.portless) held.usual.4) c.in-Err-stated_numbers.ensures.refused
 
 pub returns-in-Err-stated_numbers-clause-serve_status : goal.returns-in-Err-stated_numbers-clause-serve_status
 returns-in-Err-stated_numbers-clause-serve_status c = λ word path port n plain also number are.
@@ -222,7 +222,7 @@ returns-in-Err-stated_numbers-clause-serve_status c = λ word path port n plain 
     let simple : is_simple (app_of c.in-Ok.command) ≡ true = ap is_simple c.in-Ok.ensures.ftpd ∙ ftpd_is_simple in
     let entered = c.in-Ok-parsed_or_hinted.ensures.found simple ∙ ap₂ subcommand_of c.in-Ok.ensures.ftpd are ∙ held.entered in
     let stated = some_port held.rows port n held.status_port number in
-    refused_stated _ _ _ _ _ (serve_stated _ _ (Some n) held.rows entered (usual held.rows held.usual) stated) c.in-Err-stated_numbers.ensures.refused
+    refused_stated _ _ _ _ _ _ (serve_stated _ _ (Some n) held.rows entered (usual held.rows held.usual) stated held.usual.4) c.in-Err-stated_numbers.ensures.refused
 
 pub returns-in-Err-stated_numbers-clause-serve_timed : goal.returns-in-Err-stated_numbers-clause-serve_timed
 returns-in-Err-stated_numbers-clause-serve_timed c = λ word first second third fourth p plain one two three four are.
@@ -230,35 +230,35 @@ returns-in-Err-stated_numbers-clause-serve_timed c = λ word first second third 
     let simple : is_simple (app_of c.in-Ok.command) ≡ true = ap is_simple c.in-Ok.ensures.ftpd ∙ ftpd_is_simple in
     let entered = c.in-Ok-parsed_or_hinted.ensures.found simple ∙ ap₂ subcommand_of c.in-Ok.ensures.ftpd are ∙ held.entered in
     let states = patient held.rows p first second third fourth held.first held.second held.third held.fourth one two three four in
-    refused_stated _ p _ _ _ (serve_stated _ p None held.rows entered states (no_port held.rows held.portless)) c.in-Err-stated_numbers.ensures.refused
+    refused_stated _ p _ _ _ _ (serve_stated _ p None held.rows entered states (no_port held.rows held.portless) held.unshared) c.in-Err-stated_numbers.ensures.refused
 
 pub returns-in-Err-stated_numbers-clause-plan : goal.returns-in-Err-stated_numbers-clause-plan
 returns-in-Err-stated_numbers-clause-plan c = λ word stated plain also are.
     let held = plans word stated plain also in
     let simple : is_simple (app_of c.in-Ok.command) ≡ true = ap is_simple c.in-Ok.ensures.ftpd ∙ ftpd_is_simple in
     let entered = c.in-Ok-parsed_or_hinted.ensures.found simple ∙ ap₂ subcommand_of c.in-Ok.ensures.ftpd are ∙ held.entered in
-    refused_other _ (codes "plan") held.rows _ refl refl entered c.in-Err-stated_numbers.ensures.refused
+    refused_stated _ _ _ _ _ _ (plan_stated _ held.rows entered held.unshared) c.in-Err-stated_numbers.ensures.refused
 
 pub returns-in-Err-stated_numbers-clause-plan_json : goal.returns-in-Err-stated_numbers-clause-plan_json
 returns-in-Err-stated_numbers-clause-plan_json c = λ word stated plain also are.
     let held = plans_json word stated plain also in
     let simple : is_simple (app_of c.in-Ok.command) ≡ true = ap is_simple c.in-Ok.ensures.ftpd ∙ ftpd_is_simple in
     let entered = c.in-Ok-parsed_or_hinted.ensures.found simple ∙ ap₂ subcommand_of c.in-Ok.ensures.ftpd are ∙ held.entered in
-    refused_other _ (codes "plan") held.rows _ refl refl entered c.in-Err-stated_numbers.ensures.refused
+    refused_stated _ _ _ _ _ _ (plan_stated _ held.rows entered held.unshared) c.in-Err-stated_numbers.ensures.refused
 
 pub returns-in-Err-stated_numbers-clause-top : goal.returns-in-Err-stated_numbers-clause-top
 returns-in-Err-stated_numbers-clause-top c = λ word plain are.
     let held = tops word plain in
     let simple : is_simple (app_of c.in-Ok.command) ≡ true = ap is_simple c.in-Ok.ensures.ftpd ∙ ftpd_is_simple in
     let entered = c.in-Ok-parsed_or_hinted.ensures.found simple ∙ ap₂ subcommand_of c.in-Ok.ensures.ftpd are ∙ held.entered in
-    refused_stated _ _ _ _ _ (top_stated _ ROWS held.rows entered (usual_lines held.rows held.lineless)) c.in-Err-stated_numbers.ensures.refused
+    refused_stated _ _ _ _ _ _ (top_stated _ ROWS held.rows entered (usual_lines held.rows held.lineless)) c.in-Err-stated_numbers.ensures.refused
 
 pub returns-in-Err-stated_numbers-clause-top_once : goal.returns-in-Err-stated_numbers-clause-top_once
 returns-in-Err-stated_numbers-clause-top_once c = λ word lines n plain number are.
     let held = tops_once word lines plain (number_plain Lines lines n number) in
     let simple : is_simple (app_of c.in-Ok.command) ≡ true = ap is_simple c.in-Ok.ensures.ftpd ∙ ftpd_is_simple in
     let entered = c.in-Ok-parsed_or_hinted.ensures.found simple ∙ ap₂ subcommand_of c.in-Ok.ensures.ftpd are ∙ held.entered in
-    refused_stated _ _ _ _ _ (top_stated _ n held.rows entered (some_lines held.rows lines n held.lines_stated number)) c.in-Err-stated_numbers.ensures.refused
+    refused_stated _ _ _ _ _ _ (top_stated _ n held.rows entered (some_lines held.rows lines n held.lines_stated number)) c.in-Err-stated_numbers.ensures.refused
 
 pub returns-in-Err-stated_numbers-clause-refused : goal.returns-in-Err-stated_numbers-clause-refused
 returns-in-Err-stated_numbers-clause-refused c =
@@ -272,9 +272,9 @@ returns-in-Err-stated_numbers-clause-taken c = λ is.
     let texts = map (λ (s : Bor (List ℕ)). s.now) c.args.words.now in
     let simple : is_simple (app_of c.in-Ok.command) ≡ true = ap is_simple c.in-Ok.ensures.ftpd ∙ ftpd_is_simple in
     let entered = c.in-Ok-parsed_or_hinted.ensures.found simple ∙ ap (λ (a : App). subcommand_of a texts) c.in-Ok.ensures.ftpd in
-    let found = ftpd_found c.args.words texts is.1.0 is.1.1 is.1.2 is.0 is.1.3 in
+    let found = ftpd_found c.args.words texts is.1.0 is.1.1 is.1.2 is.1.3 is.0 is.1.4 in
     let refused = subst (λ (found : Option (Text × List Row)). IsUnnumbered found c.in-Err-stated_numbers.fault) entered c.in-Err-stated_numbers.ensures.refused in
-    (found.0, found.1, refused_stated _ is.1.0 is.1.1 is.1.2 _ is.1.3 refused)
+    (found.0, found.1, refused_stated _ is.1.0 is.1.1 is.1.2 is.1.3 _ is.1.4 refused)
 
 -- ---- where there is a command
 
@@ -286,8 +286,8 @@ unreachable-requires c =
     let none : fault_of ftpd texts ≡ [] = subst (λ (a : App). fault_of a texts ≡ []) c.in-Ok.ensures.ftpd (c.in-Ok-parsed_or_hinted.ensures.given free) in
     let entered = c.in-Ok-parsed_or_hinted.ensures.found simple ∙ ap (λ (a : App). subcommand_of a texts) c.in-Ok.ensures.ftpd in
     let numbers = c.in-Ok-stated_numbers.numbers in
-    let stated = subst (λ (o : Option (Text × List Row)). IsStatedBy o numbers.patience numbers.status_port numbers.rows) entered c.in-Ok-stated_numbers.ensures.stated in
-    let found = ftpd_found c.args.words texts numbers.patience numbers.status_port numbers.rows none stated in
+    let stated = subst (λ (o : Option (Text × List Row)). IsStatedBy o numbers.patience numbers.status_port numbers.rows numbers.share_by) entered c.in-Ok-stated_numbers.ensures.stated in
+    let found = ftpd_found c.args.words texts numbers.patience numbers.status_port numbers.rows numbers.share_by none stated in
     let held = subst (λ (o : Option (Text × List Row)). IsFound o found.0) (sym entered) found.1 in
     c.in-None.ensures.none refl found.0 held
 
@@ -296,23 +296,26 @@ returns-clause-share c = λ word plain are.
     let held = ftpd_shares word plain in
     let simple : is_simple (app_of c.in-Ok.command) ≡ true = ap is_simple c.in-Ok.ensures.ftpd ∙ ftpd_is_simple in
     let entered = c.in-Ok-parsed_or_hinted.ensures.found simple ∙ ap₂ subcommand_of c.in-Ok.ensures.ftpd are ∙ held.entered in
-    subst (λ (flag : Bool). IsOfSheets (IsShare word flag) c.in-Some.words) held.unflagged
-    (share_of_sheets _ _ held.rows word entered held.sheet c.in-Some.ensures.found)
+    subst (λ (by : Option Text). IsOfSheets (IsShare word false by) c.in-Some.words) held.alone
+    (subst (λ (flag : Bool). IsOfSheets (IsShare word flag (first_of (codes "by") held.rows)) c.in-Some.words) held.unflagged
+    (share_of_sheets _ _ held.rows word entered held.sheet c.in-Some.ensures.found))
 
 pub returns-clause-share_svg : goal.returns-clause-share_svg
 returns-clause-share_svg c = λ word plain are.
     let held = ftpd_pictures word plain in
     let simple : is_simple (app_of c.in-Ok.command) ≡ true = ap is_simple c.in-Ok.ensures.ftpd ∙ ftpd_is_simple in
     let entered = c.in-Ok-parsed_or_hinted.ensures.found simple ∙ ap₂ subcommand_of c.in-Ok.ensures.ftpd are ∙ held.entered in
-    subst (λ (flag : Bool). IsOfSheets (IsShare word flag) c.in-Some.words) held.flagged
-    (share_of_sheets _ _ held.rows word entered held.sheet c.in-Some.ensures.found)
+    subst (λ (by : Option Text). IsOfSheets (IsShare word true by) c.in-Some.words) held.alone
+    (subst (λ (flag : Bool). IsOfSheets (IsShare word flag (first_of (codes "by") held.rows)) c.in-Some.words) held.flagged
+    (share_of_sheets _ _ held.rows word entered held.sheet c.in-Some.ensures.found))
 
 pub returns-clause-check : goal.returns-clause-check
 returns-clause-check c = λ first second plain also are.
     let held = ftpd_checks first second plain also in
     let simple : is_simple (app_of c.in-Ok.command) ≡ true = ap is_simple c.in-Ok.ensures.ftpd ∙ ftpd_is_simple in
     let entered = c.in-Ok-parsed_or_hinted.ensures.found simple ∙ ap₂ subcommand_of c.in-Ok.ensures.ftpd are ∙ held.entered in
-    check_of_sheets _ _ held.rows first second entered held.sheet held.grants c.in-Some.ensures.found
+    subst (λ (by : Option Text). IsOfSheets (IsCheck first second by) c.in-Some.words) held.alone
+    (check_of_sheets _ _ held.rows first second entered held.sheet held.grants c.in-Some.ensures.found)
 
 pub returns-clause-check_config : goal.returns-clause-check_config
 returns-clause-check_config c = λ word plain are.
@@ -438,7 +441,7 @@ returns-clause-plan c = λ word stated plain also are.
     let simple : is_simple (app_of c.in-Ok.command) ≡ true = ap is_simple c.in-Ok.ensures.ftpd ∙ ftpd_is_simple in
     let entered = c.in-Ok-parsed_or_hinted.ensures.found simple ∙ ap₂ subcommand_of c.in-Ok.ensures.ftpd are ∙ held.entered in
     subst (λ (flag : Bool). IsPlanWords word stated flag c.in-Some.words) held.unflagged
-    (plan_is _ _ held.rows word stated entered held.config held.transfers c.in-Some.ensures.found)
+    (plan_is _ _ held.rows word stated entered held.config held.transfers held.unshared c.in-Some.ensures.found)
 
 pub returns-clause-plan_json : goal.returns-clause-plan_json
 returns-clause-plan_json c = λ word stated plain also are.
@@ -446,7 +449,7 @@ returns-clause-plan_json c = λ word stated plain also are.
     let simple : is_simple (app_of c.in-Ok.command) ≡ true = ap is_simple c.in-Ok.ensures.ftpd ∙ ftpd_is_simple in
     let entered = c.in-Ok-parsed_or_hinted.ensures.found simple ∙ ap₂ subcommand_of c.in-Ok.ensures.ftpd are ∙ held.entered in
     subst (λ (flag : Bool). IsPlanWords word stated flag c.in-Some.words) held.flagged
-    (plan_is _ _ held.rows word stated entered held.config held.transfers c.in-Some.ensures.found)
+    (plan_is _ _ held.rows word stated entered held.config held.transfers held.unshared c.in-Some.ensures.found)
 
 pub returns-clause-top : goal.returns-clause-top
 returns-clause-top c = λ word plain are.
@@ -472,8 +475,8 @@ returns-clause-given c =
     let none : fault_of ftpd texts ≡ [] = subst (λ (a : App). fault_of a texts ≡ []) c.in-Ok.ensures.ftpd (c.in-Ok-parsed_or_hinted.ensures.given free) in
     let entered = c.in-Ok-parsed_or_hinted.ensures.found simple ∙ ap (λ (a : App). subcommand_of a texts) c.in-Ok.ensures.ftpd in
     let numbers = c.in-Ok-stated_numbers.numbers in
-    let stated = subst (λ (o : Option (Text × List Row)). IsStatedBy o numbers.patience numbers.status_port numbers.rows) entered c.in-Ok-stated_numbers.ensures.stated in
-    (none, (numbers.patience, numbers.status_port, numbers.rows, stated))
+    let stated = subst (λ (o : Option (Text × List Row)). IsStatedBy o numbers.patience numbers.status_port numbers.rows numbers.share_by) entered c.in-Ok-stated_numbers.ensures.stated in
+    (none, (numbers.patience, numbers.status_port, numbers.rows, numbers.share_by, stated))
 
 pub returns-clause-found : goal.returns-clause-found
 returns-clause-found c =

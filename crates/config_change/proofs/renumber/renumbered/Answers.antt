@@ -1,6 +1,7 @@
 use Rattle.std.proofs.Common.{◌≡◌, ◌∙◌, map, string_bytes, refl, sym, ap}
 use Rattle.std.specs.FinMap as finite
 use Rattle.authorizer.specs.Renumbered.{regrouped}
+use Rattle.line_rates.specs.Rates.{shared_by}
 use Rattle.line_rates.specs.Stated.{stated, limits_fault}
 use Rattle.config_change.specs.Named.{merged, places_in, group_rows, rates_named, user_rows}
 use Rattle.config_change.specs.Renumbered.{group_places}
@@ -33,8 +34,8 @@ returns-in-Ok-clause-renumbered c =
       keeps = c.in_ok-users.ensures.users.1;
       users = users_are;
       limits = c.in-Ok.ensures.limits config.users rates_are
-          ∙ ap (λ ps. stated config.limits.server config.limits.down config.limits.up (group_rows config.limits 0 ps) (user_rows config.users c.in_ok-users.users config.limits ps (map string_bytes c.deref-7.result.now))) places_there
-          ∙ ap (λ ns. stated config.limits.server config.limits.down config.limits.up (group_rows config.limits 0 (group_places old config)) (user_rows config.users c.in_ok-users.users config.limits (group_places old config) ns)) names_are;
+          ∙ ap (λ ps. shared_by config.limits.share_by (stated config.limits.server config.limits.down config.limits.up (group_rows config.limits 0 ps) (user_rows config.users c.in_ok-users.users config.limits ps (map string_bytes c.deref-7.result.now)))) places_there
+          ∙ ap (λ ns. shared_by config.limits.share_by (stated config.limits.server config.limits.down config.limits.up (group_rows config.limits 0 (group_places old config)) (user_rows config.users c.in_ok-users.users config.limits (group_places old config) ns))) names_are;
     }
 
 pub returns-in-Err-clause-refused : goal.returns-in-Err-clause-refused

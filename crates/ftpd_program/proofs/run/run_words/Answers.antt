@@ -1,5 +1,6 @@
 use Rattle.std.proofs.Common.{false, true}
 use Rattle.command_line.specs.declared.numbers.TheConstants.{ROWS}
+use Rattle.line_rates.specs.declared.share_by.ShareBy.TheVariants as share
 use Rattle.ftpd_program.specs.declared.against.TheConstants.{RUNNING_FILE}
 use Rattle.ftpd_program.proofs.Ends.{against_end, check_end, migrate_end, plan_end, report_end, running_end, script_end, serve_end, share_end, top_end}
 use Rattle.ftpd_program.proofs.NoWords.{no_against, no_print, no_serve, no_top, second_of_three, second_word, third_of_four, third_word}
@@ -147,12 +148,12 @@ returns-in-Err-clause-serve_timed g c = λ config first second third fourth p pl
 pub returns-in-Err-clause-plan : goal.returns-in-Err-clause-plan
 returns-in-Err-clause-plan g c = λ config transfers plain also are.
     let word = third_word c.args.words.now _ _ _ are in
-    (word.0, word.1, no_print (Plan word.0) (g.O.Lookout.Shows c.args.files.now) _ _ _ _ _ _ (c.in-Err.ensures.plan config transfers plain also are) c.report.ensures.reported)
+    (word.0, word.1, no_print (Plan word.0 share.Sessions) (g.O.Lookout.Shows c.args.files.now) _ _ _ _ _ _ (c.in-Err.ensures.plan config transfers plain also are) c.report.ensures.reported)
 
 pub returns-in-Err-clause-plan_json : goal.returns-in-Err-clause-plan_json
 returns-in-Err-clause-plan_json g c = λ config transfers plain also are.
     let word = third_of_four c.args.words.now _ _ _ _ are in
-    (word.0, word.1, no_print (PlanJson word.0) (g.O.Lookout.Shows c.args.files.now) _ _ _ _ _ _ (c.in-Err.ensures.plan_json config transfers plain also are) c.report.ensures.reported)
+    (word.0, word.1, no_print (PlanJson word.0 share.Sessions) (g.O.Lookout.Shows c.args.files.now) _ _ _ _ _ _ (c.in-Err.ensures.plan_json config transfers plain also are) c.report.ensures.reported)
 
 pub returns-in-Err-clause-top : goal.returns-in-Err-clause-top
 returns-in-Err-clause-top g c = λ status plain are.

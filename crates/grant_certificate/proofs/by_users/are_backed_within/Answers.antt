@@ -1,4 +1,4 @@
-use Rattle.std.proofs.Common.{arith, ◌≡◌, ◌∙◌, ◌<◌, ◌^◌, ℕ, List, sum, ap}
+use Rattle.std.proofs.Common.{arith, ◌≡◌, ◌∙◌, ℕ, List, sum, ap}
 use Rattle.limit_tree.specs.Outline.{limits}
 use Rattle.grant_certificate.proofs.FitsTree.{within-fits, floors-fit}
 use Rattle.grant_certificate.proofs.UserChecks.{backed-exact}

@@ -1,4 +1,4 @@
-use Rattle.std.proofs.Common.{◌≡◌, ◌∙◌, ℕ, List, Option, sym, subst}
+use Rattle.std.proofs.Common.{◌∙◌, ℕ, List, Option, sym, subst}
 use Rattle.std.proofs.lemmas.Bool.{false≢true}
 use Rattle.limit_tree.specs.Outline.{limits}
 use Rattle.grant_certificate.specs.Users.{IsBackedByUsers}

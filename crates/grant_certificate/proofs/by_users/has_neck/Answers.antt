@@ -1,6 +1,5 @@
-use Rattle.std.proofs.Common.{arith, ◌≡◌, ◌+◌, ◌≤◌, ◌∙◌, ℕ, length, sym, ap, subst, Option, Some, ◌⊎◌}
-use Rattle.std.specs.Prelude.{IsTrue, slice_get}
-use Rattle.limit_tree.specs.Outline.{limits}
+use Rattle.std.proofs.Common.{arith, ◌≡◌, ◌∙◌, ℕ, sym, ap, subst, ◌⊎◌}
+use Rattle.std.specs.Prelude.{slice_get}
 use Rattle.limit_tree.specs.declared.place.Place.{Place}
 use Rattle.limit_tree.proofs.Hops.{same-node}
 use Rattle.grant_certificate.specs.UserRanges.{IsInnerRange, IsOuterRange}

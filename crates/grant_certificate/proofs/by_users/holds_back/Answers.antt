@@ -1,4 +1,3 @@
-use Rattle.std.proofs.Common.{arith}
 use Rattle.std.proofs.lemmas.Bool.{MatchBool-at_true, MatchBool-at_false}
 use Rattle.grant_certificate.proofs.UserChecks.{inner-exact, outer-exact}
 use Rattle.grant_certificate.proofs.by_users.holds_back.Goals as goal

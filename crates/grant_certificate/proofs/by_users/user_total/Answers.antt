@@ -1,4 +1,4 @@
-use Rattle.std.proofs.Common.{arith, ◌≡◌, ◌<◌, length}
+use Rattle.std.proofs.Common.{arith}
 use Rattle.grant_certificate.specs.Users.{leaves_of}
 use Rattle.grant_certificate.proofs.UserRanges.{in_fits}
 use Rattle.grant_certificate.proofs.by_users.user_total.Goals as goal

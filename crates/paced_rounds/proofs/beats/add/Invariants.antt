@@ -5,4 +5,4 @@ use Rattle.paced_rounds.proofs.beats.add.Given as goal
 
 abbrev pub invariant-loop-i : goal.invariant-loop-i
 invariant-loop-i g l =
-    add_all l.pace (leaves (drop l.i l.asks) (drop l.i l.grants)) l.cadence ≡ add_all l.pace (leaves l.asks l.grants) l.initial.cadence
+    add_all l.pace l.asks (leaves (drop l.i l.asks) (drop l.i l.grants)) l.cadence ≡ add_all l.pace l.asks (leaves l.asks l.grants) l.initial.cadence

@@ -2,12 +2,24 @@ use Rattle.std.proofs.Common.{◌≡◌, ◌≢◌, ◌<◌, ◌∙◌, ℕ, inl
 use Rattle.std.proofs.lemmas.Bool.{cases_lt}
 use Rattle.std.proofs.lemmas.List.{get_or-set_other, length-set}
 use Rattle.std.proofs.lemmas.Grind.{get_or-set_at}
+use Rattle.fair_terms.specs.Fair.{IsBackedFair}
 use Rattle.limit_tree.specs.Outline.{limits}
 use Rattle.held_names.specs.Held.{IsHeldBy}
 use Rattle.paced_rounds.proofs.held.name_leaves.Goals as goal
 
 other : (i k : ℕ) → i < k → i ≢ k
 other i k less same = omega (arith, less, same)
+
+pub held_by-requires-clause-backed : goal.held_by-requires-clause-backed
+held_by-requires-clause-backed g c =
+    let by = c.args.limits.now.share_by in
+    let asks = c.args.asks.now in
+    let s = c.args.sealed.now in
+    let fair = c.sealed_is_fair.ensures.fair c.args.limits.now c.args.tick by asks (limits s.tree) s.owners s.grants c.requires.tree c.requires.owners c.certificate.ensures.best in
+    subst (λ t. IsBackedFair by asks (limits t) c.grants-grants.result.now c.entries-entries.result.now) (sym c.tree-tree.ensures.tree)
+    (subst (λ gs. IsBackedFair by asks (limits s.tree) gs c.entries-entries.result.now) (sym c.grants-grants.ensures.grants)
+    (subst (λ es. IsBackedFair by asks (limits s.tree) s.grants es) (sym (c.entries-entries.ensures.entries ∙ c.certificate.ensures.certificate))
+    (fair.1 s.certificate c.certificate.ensures.backed)))
 
 pub loop-leaf-preserved : goal.loop-leaf-preserved
 loop-leaf-preserved g c =

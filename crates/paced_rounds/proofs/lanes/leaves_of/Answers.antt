@@ -1,4 +1,4 @@
-use Rattle.std.proofs.Common.{arith, ◌<◌, length, get_or}
+use Rattle.std.proofs.Common.{arith, ◌<◌, length}
 use Rattle.paced_rounds.specs.LaneTurns.{lane_of, ask_of, grant_of}
 use Rattle.paced_rounds.proofs.LaneLemmas.{entry_more, at_any}
 use Rattle.paced_rounds.proofs.lanes.leaves_of.Goals as goal

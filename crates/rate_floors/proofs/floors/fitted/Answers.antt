@@ -9,7 +9,8 @@ use Rattle.rate_floors.proofs.floors.fitted.Goals as goal
 
 pub invariant_of-result : goal.invariant_of-result
 invariant_of-result g c =
-    let ready : IsReady c.args.limits.now c.rate-server.result c.rate-down.result c.rate-up.result c.in-Some.promised_down c.in-Some.promised_up c.groups.result.now c.in_ok-groups.groups.items c.args.users.items = record {
+    let ready : IsReady c.args.limits.now c.share_by-share_by.result c.rate-server.result c.rate-down.result c.rate-up.result c.in-Some.promised_down c.in-Some.promised_up c.groups.result.now c.in_ok-groups.groups.items c.args.users.items = record {
+      share_is = c.share_by-share_by.ensures.share_by;
       server_is = c.rate-server.ensures.rate;
       down_is = c.rate-down.ensures.rate;
       up_is = c.rate-up.ensures.rate;
@@ -30,11 +31,12 @@ invariant_of-result g c =
     let code = c.or-fault.ensures
     ∙ ap (λ o. option_or o c.broken_line.result) (c.or.ensures ∙ ap (λ o. option_or o c.first_broken_group.result) users_found ∙ ap (option_or (first_broken broken_user c.args.users.items)) groups_found)
     ∙ ap (option_or (option_or (first_broken broken_user c.args.users.items) (first_broken broken_sums c.in_ok-groups.groups.items))) c.broken_line.ensures.broken in
-    ready_kept c.args.limits.now c.rate-server.result c.rate-down.result c.rate-up.result c.in-Some.promised_down c.in-Some.promised_up c.groups.result.now c.in_ok-groups.groups.items c.args.users.items ready (sym code ∙ c.in-None.is)
+    ready_kept c.args.limits.now c.share_by-share_by.result c.rate-server.result c.rate-down.result c.rate-up.result c.in-Some.promised_down c.in-Some.promised_up c.groups.result.now c.in_ok-groups.groups.items c.args.users.items ready (sym code ∙ c.in-None.is)
 
 pub returns-in-Some-fault : goal.returns-in-Some-fault
 returns-in-Some-fault g c =
-    let ready : IsReady c.args.limits.now c.rate-server.result c.rate-down.result c.rate-up.result c.in-Some.promised_down c.in-Some.promised_up c.groups.result.now c.in_ok-groups.groups.items c.args.users.items = record {
+    let ready : IsReady c.args.limits.now c.share_by-share_by.result c.rate-server.result c.rate-down.result c.rate-up.result c.in-Some.promised_down c.in-Some.promised_up c.groups.result.now c.in_ok-groups.groups.items c.args.users.items = record {
+      share_is = c.share_by-share_by.ensures.share_by;
       server_is = c.rate-server.ensures.rate;
       down_is = c.rate-down.ensures.rate;
       up_is = c.rate-up.ensures.rate;
@@ -55,11 +57,12 @@ returns-in-Some-fault g c =
     let code = c.or-fault.ensures
     ∙ ap (λ o. option_or o c.broken_line.result) (c.or.ensures ∙ ap (λ o. option_or o c.first_broken_group.result) users_found ∙ ap (option_or (first_broken broken_user c.args.users.items)) groups_found)
     ∙ ap (option_or (option_or (first_broken broken_user c.args.users.items) (first_broken broken_sums c.in_ok-groups.groups.items))) c.broken_line.ensures.broken in
-    record { floors = λ _. ap (λ o. unless_broken o (record { rates = c.args.limits.now; users = c.args.users.items })) (fault_found c.args.limits.now c.rate-server.result c.rate-down.result c.rate-up.result c.in-Some.promised_down c.in-Some.promised_up c.groups.result.now c.in_ok-groups.groups.items c.args.users.items ready ∙ sym code ∙ c.in-Some-fault.is) }
+    record { floors = λ _. ap (λ o. unless_broken o (record { rates = c.args.limits.now; users = c.args.users.items })) (fault_found c.args.limits.now c.share_by-share_by.result c.rate-server.result c.rate-down.result c.rate-up.result c.in-Some.promised_down c.in-Some.promised_up c.groups.result.now c.in_ok-groups.groups.items c.args.users.items ready ∙ sym code ∙ c.in-Some-fault.is) }
 
 pub returns-in-None : goal.returns-in-None
 returns-in-None g c =
-    let ready : IsReady c.args.limits.now c.rate-server.result c.rate-down.result c.rate-up.result c.in-Some.promised_down c.in-Some.promised_up c.groups.result.now c.in_ok-groups.groups.items c.args.users.items = record {
+    let ready : IsReady c.args.limits.now c.share_by-share_by.result c.rate-server.result c.rate-down.result c.rate-up.result c.in-Some.promised_down c.in-Some.promised_up c.groups.result.now c.in_ok-groups.groups.items c.args.users.items = record {
+      share_is = c.share_by-share_by.ensures.share_by;
       server_is = c.rate-server.ensures.rate;
       down_is = c.rate-down.ensures.rate;
       up_is = c.rate-up.ensures.rate;
@@ -81,6 +84,6 @@ returns-in-None g c =
     ∙ ap (λ o. option_or o c.broken_line.result) (c.or.ensures ∙ ap (λ o. option_or o c.first_broken_group.result) users_found ∙ ap (option_or (first_broken broken_user c.args.users.items)) groups_found)
     ∙ ap (option_or (option_or (first_broken broken_user c.args.users.items) (first_broken broken_sums c.in_ok-groups.groups.items))) c.broken_line.ensures.broken in
     record {
-      floors = ap (λ o. unless_broken o (record { rates = c.args.limits.now; users = c.args.users.items })) (fault_found c.args.limits.now c.rate-server.result c.rate-down.result c.rate-up.result c.in-Some.promised_down c.in-Some.promised_up c.groups.result.now c.in_ok-groups.groups.items c.args.users.items ready ∙ sym code ∙ c.in-None.is)
-          ∙ ap (λ (p : Promises). unless_broken None p) (sym (ready_seen c.args.limits.now c.rate-server.result c.rate-down.result c.rate-up.result c.in-Some.promised_down c.in-Some.promised_up c.groups.result.now c.in_ok-groups.groups.items c.args.users.items ready));
+      floors = ap (λ o. unless_broken o (record { rates = c.args.limits.now; users = c.args.users.items })) (fault_found c.args.limits.now c.share_by-share_by.result c.rate-server.result c.rate-down.result c.rate-up.result c.in-Some.promised_down c.in-Some.promised_up c.groups.result.now c.in_ok-groups.groups.items c.args.users.items ready ∙ sym code ∙ c.in-None.is)
+          ∙ ap (λ (p : Promises). unless_broken None p) (sym (ready_seen c.args.limits.now c.share_by-share_by.result c.rate-server.result c.rate-down.result c.rate-up.result c.in-Some.promised_down c.in-Some.promised_up c.groups.result.now c.in_ok-groups.groups.items c.args.users.items ready));
     }

@@ -1,4 +1,4 @@
-use Rattle.std.proofs.Common.{◌≡◌, ◌+◌, ◌∙◌, ℕ, refl, sym, ap, arith}
+use Rattle.std.proofs.Common.{◌+◌, ◌∙◌, refl}
 use Rattle.rate_plan.proofs.AdmitLemmas.{admitted_next, after_next}
 use Rattle.rate_plan.proofs.admission.refused_at.Goals as goal
 

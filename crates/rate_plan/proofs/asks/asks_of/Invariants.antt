@@ -7,5 +7,5 @@ use Rattle.rate_plan.proofs.asks.asks_of.Given as goal
 abbrev pub invariant-loop-place : goal.invariant-loop-place
 invariant-loop-place g l = record {
   count : length l.asks.items ≡ l.place;
-  each : (i : ℕ) (a : Asker) → slice_get l.asks.items i ≡ Some a → IsAskOf l.transfers i a;
+  each : (i : ℕ) (a : Asker) → slice_get l.asks.items i ≡ Some a → IsAskOf l.share_by l.transfers i a;
 }

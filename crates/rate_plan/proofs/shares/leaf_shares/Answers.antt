@@ -1,4 +1,4 @@
-use Rattle.std.proofs.Common.{◌≡◌, ◌+◌, ◌++◌, ◌∷◌, [], ℕ, List, length, sym, subst, arith, Some}
+use Rattle.std.proofs.Common.{◌≡◌, ℕ, List, sym, subst, arith, Some}
 use Rattle.std.specs.Prelude.{slice_get}
 use Rattle.limit_tree.specs.Outline.{limits}
 use Rattle.rate_plan.specs.declared.shares.TransferShare.{TransferShare}

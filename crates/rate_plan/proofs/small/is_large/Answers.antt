@@ -1,7 +1,5 @@
-use Rattle.std.proofs.Common.{◌≡◌, ◌<◌, arith, true}
+use Rattle.std.proofs.Common.{arith}
 use Rattle.std.proofs.lemmas.Bool.{ltb-true}
-use Rattle.line_rates.specs.Rates.{rate_of}
-use Rattle.rate_plan.specs.declared.tens.TheConstants.{MAX_PLANNED}
 use Rattle.rate_plan.proofs.small.is_large.Goals as goal
 
 pub returns-clause-large : goal.returns-clause-large

@@ -14,8 +14,8 @@ returns g c =
     record {
       ordered = record {
         same = subst (λ (xs : List Column). IsPermutation xs sorted) same c.sort_by_key.ensures.permutation;
-        ascending = IsNonDecreasingBy-from_sort_by_key (λ (x : Column). rank x.holder) _ c.in_ok-sort_by_key.ensures.sorted (λ a r q k. search rules);
-        stable = subst (λ (xs : List Column). IsStableByKey (λ (x : Column). rank x.holder) nat_cmp xs sorted) same
-            (c.sort_by_key.ensures.stable (λ (x : Column). rank x.holder) (answers_always _ _ _ (λ f a r q k. search rules)));
+        ascending = IsNonDecreasingBy-from_sort_by_key (λ (x : Column). rank x) _ c.in_ok-sort_by_key.ensures.sorted (λ a r q k. search rules);
+        stable = subst (λ (xs : List Column). IsStableByKey (λ (x : Column). rank x) nat_cmp xs sorted) same
+            (c.sort_by_key.ensures.stable (λ (x : Column). rank x) (answers_always _ _ _ (λ f a r q k. search rules)));
       };
     }

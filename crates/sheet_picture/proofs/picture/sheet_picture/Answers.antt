@@ -1,4 +1,4 @@
-use Rattle.std.proofs.Common.{◌≡◌, ◌∙◌, length, List, ℕ, Option, map, string_bytes, sym, ap, subst}
+use Rattle.std.proofs.Common.{◌≡◌, ◌∙◌, length, List, [], ℕ, Option, map, string_bytes, sym, ap, subst}
 use Rattle.limit_tree.specs.declared.place.Place.{Place}
 use Rattle.limit_tree.specs.Sharing.{IsWithin, IsBackedBy, IsBest}
 use Rattle.limit_tree.specs.Outline.{limits}
@@ -46,8 +46,8 @@ returns g c =
         backed = subst (λ (o : List Place). IsBackedBy (limits o) grants entries) same c.in_ok-grants.ensures.backed;
         best = subst (λ (o : List Place). IsBest (limits o) grants) same c.in_ok-grants.ensures.best;
         has = c.in_ok-columns.ensures.columns
-            ∙ ap (λ (gs : List ℕ). map (column_at sheet gs c.entries-entries.result.now) sheet.wants) c.deref.ensures.value
-            ∙ ap (λ (es : List (Option ℕ)). map (column_at sheet grants es) sheet.wants) c.entries-entries.ensures.entries;
+            ∙ ap (λ (gs : List ℕ). map (column_at sheet [] gs c.entries-entries.result.now) sheet.wants) c.deref.ensures.value
+            ∙ ap (λ (es : List (Option ℕ)). map (column_at sheet [] grants es) sheet.wants) c.entries-entries.ensures.entries;
         drawn = drawn;
       };
     }

@@ -14,5 +14,5 @@ returns-clause-set c =
       row = row_for c.args.self.now.user_rates.items c.push.new.self.items c.args.rates found.0 set;
       others = others_for c.args.self.now.user_rates.items c.push.new.self.items c.args.rates found.0.number set;
       groups = refl;
-      same = record { users = refl; rate = refl; down_rate = refl; up_rate = refl; numbers = refl; settings = refl; patience = refl; user_sessions = refl; syncs = refl };
+      same = record { users = refl; rate = refl; down_rate = refl; up_rate = refl; numbers = refl; settings = refl; patience = refl; user_sessions = refl; share_by = refl; syncs = refl };
     }

@@ -1,8 +1,7 @@
 use Rattle.std.proofs.Common.{subst}
-use Rattle.limit_tree.specs.Sharing.{IsBest}
 use Rattle.limit_tree.specs.Outline.{limits}
-use Rattle.grant_certificate.specs.Sealing.{Sealing}
+use Rattle.grant_certificate.specs.Sealing.{Sealing, IsBestFor}
 use Rattle.grant_certificate.proofs.sealed.Sealed.certificate.Goals as goal
 
 pub returns-clause-best : goal.returns-clause-best
-returns-clause-best g c = subst (λ (s : Sealing). IsBest (limits s.tree) s.grants) c.self.view_is c.self.invariant.best
+returns-clause-best g c = subst (λ (s : Sealing). IsBestFor s.owners (limits s.tree) s.grants) c.self.view_is c.self.invariant.best

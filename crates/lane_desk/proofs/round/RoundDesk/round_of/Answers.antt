@@ -1,7 +1,7 @@
 use Rattle.std.proofs.Common.{◌≡◌, ◌/◌, sum, ℕ, Bool, List, map, ap, ◌∙◌, sym, subst, arith}
 use Rattle.limit_tree.specs.Outline.{limits as seen}
 use Rattle.line_rates.specs.TickTree.{Asker, lane_in}
-use Rattle.lane_desk.specs.Asked.{AreApart, IsAskedPlan}
+use Rattle.fair_shares.specs.Asked.{AreApart, IsAskedPlan}
 use Rattle.lane_desk.specs.Refusals.{IsRefused}
 use Rattle.lane_desk.specs.Traces.{traces}
 use Rattle.lane_desk.specs.Posted.{AreDue, posted_all, nothing_for}

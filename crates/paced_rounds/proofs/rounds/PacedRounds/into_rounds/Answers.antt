@@ -1,4 +1,4 @@
-use Rattle.std.proofs.Common.{◌≡◌, ◌+◌, ℕ, List, sum_by, ap, ◌∙◌, subst, sym}
+use Rattle.std.proofs.Common.{◌≡◌, ◌+◌, List, sum_by, ap, ◌∙◌, subst, sym}
 use Rattle.std.proofs.Math.Logic.{∥∥₁_map}
 use Rattle.round_pace.specs.Stretches.{Stretch, StretchesKeep}
 use Rattle.paced_rounds.specs.History.{ended_in, octets_in, stretches}

@@ -26,7 +26,7 @@ invariant_of-self g c =
     record {
       reported = reported_after c.self.inside.users.items c.args.user c.in-Some.place c.index-entry.result.now at c.index-entry.ensures c.self.inside.promised_down c.self.inside.promised_up c.self.inside.groups.items c.add.new.groups.items c.self.invariant.reported c.args.self.now (ap (λ (p : Promises). p.users) c.self.view_is) admitted c.add.ensures.added;
       fit = subst PromisesFit
-          (sym (changed_value c.self.inside.users.items c.args.user c.in-Some.place c.index-entry.result.now at c.index-entry.ensures c.self.inside.server c.self.inside.down c.self.inside.up c.self.inside.groups.items c.add.new.groups.items one_more added c.args.self.now c.self.invariant.reported.users_rise c.self.view_is c.add.ensures.added))
+          (sym (changed_value c.self.inside.users.items c.args.user c.in-Some.place c.index-entry.result.now at c.index-entry.ensures c.self.inside.share_by c.self.inside.server c.self.inside.down c.self.inside.up c.self.inside.groups.items c.add.new.groups.items one_more added c.args.self.now c.self.invariant.reported.users_rise c.self.view_is c.add.ensures.added))
           (fit_more c.args.self.now c.args.user (subst PromisesFit c.self.view_is c.self.invariant.fit) (sym (ap (admits c.args.self.now) key) ∙ admitted));
     }
 
@@ -34,4 +34,4 @@ pub returns-clause-counted : goal.returns-clause-counted
 returns-clause-counted g c =
     let at : IsAt user_key c.self.inside.users.items c.args.user c.in-Some.place = subst (λ (us : List UserSessions). IsAt user_key us c.args.user c.in-Some.place) c.deref.ensures.value c.in-Some.ensures.place in
     cond_true (admits c.args.self.now c.args.user) c.args.self.now (changed one_more c.args.self.now c.args.user) _ (sym (c.if-not-fits.ensures.fits ∙ ap (admits c.args.self.now) (entry_key c.self.inside.users.items c.args.user c.in-Some.place c.index-entry.result.now at c.index-entry.ensures)))
-    (changed_value c.self.inside.users.items c.args.user c.in-Some.place c.index-entry.result.now at c.index-entry.ensures c.self.inside.server c.self.inside.down c.self.inside.up c.self.inside.groups.items c.add.new.groups.items one_more added c.args.self.now c.self.invariant.reported.users_rise c.self.view_is c.add.ensures.added)
+    (changed_value c.self.inside.users.items c.args.user c.in-Some.place c.index-entry.result.now at c.index-entry.ensures c.self.inside.share_by c.self.inside.server c.self.inside.down c.self.inside.up c.self.inside.groups.items c.add.new.groups.items one_more added c.args.self.now c.self.invariant.reported.users_rise c.self.view_is c.add.ensures.added)

@@ -10,14 +10,14 @@ use Rattle.share_world.proofs.world.World.decide.Goals as goal
 pub deal-requires-clause-due : goal.deal-requires-clause-due
 deal-requires-clause-due g c =
     let d : IsDeal c.args.self.now.rates (c.args.moment / 100) c.args.self.now.world.lanes (limits c.in_ok-numbers.sealed.tree) c.in_ok-numbers.numbers.items c.in_ok-numbers.sealed.grants =
-    record { posted = c.in_ok-check_ready.ensures.ready.posted; asked = c.in_ok-numbers.ensures.asked; plan = c.in_ok-numbers.ensures.plan; best = c.in_ok-numbers.ensures.best } in
+    record { posted = c.in_ok-check_ready.ensures.ready.posted; asked = c.in_ok-numbers.ensures.asked; fair = c.in_ok-numbers.ensures.fair } in
     let open_lanes = deal_due c.args.self.now.rates (c.args.moment / 100) c.args.self.now.world.lanes _ c.in_ok-numbers.numbers.items c.in_ok-numbers.sealed.grants d in
     subst (AreOpen c.deref.result.now) (sym (ap (λ s. s.world.lanes) c.self.view_is)) (subst (λ (is : List ℕ). AreOpen is c.args.self.now.world.lanes) (sym c.deref.ensures.value) open_lanes)
 
 pub returns-then-self-total-clause-step : goal.returns-then-self-total-clause-step
 returns-then-self-total-clause-step g c =
     let d : IsDeal c.args.self.now.rates (c.args.moment / 100) c.args.self.now.world.lanes (limits c.in_ok-numbers.sealed.tree) c.in_ok-numbers.numbers.items c.in_ok-numbers.sealed.grants =
-    record { posted = c.in_ok-check_ready.ensures.ready.posted; asked = c.in_ok-numbers.ensures.asked; plan = c.in_ok-numbers.ensures.plan; best = c.in_ok-numbers.ensures.best } in
+    record { posted = c.in_ok-check_ready.ensures.ready.posted; asked = c.in_ok-numbers.ensures.asked; fair = c.in_ok-numbers.ensures.fair } in
     let same : c.self.inside.issued ≡ c.args.self.now.world.issued = ap (λ s. s.world.issued) c.self.view_is in
     let past : MAX_ISSUED < c.self.inside.issued + c.total-total.result = omega arith in
     let above : MAX_ISSUED < c.args.self.now.world.issued + c.total-total.result = subst (λ (n : ℕ). MAX_ISSUED < n + c.total-total.result) same past in
@@ -26,7 +26,7 @@ returns-then-self-total-clause-step g c =
 pub invariant_of-self : goal.invariant_of-self
 invariant_of-self g c =
     let d : IsDeal c.args.self.now.rates (c.args.moment / 100) c.args.self.now.world.lanes (limits c.in_ok-numbers.sealed.tree) c.in_ok-numbers.numbers.items c.in_ok-numbers.sealed.grants =
-    record { posted = c.in_ok-check_ready.ensures.ready.posted; asked = c.in_ok-numbers.ensures.asked; plan = c.in_ok-numbers.ensures.plan; best = c.in_ok-numbers.ensures.best } in
+    record { posted = c.in_ok-check_ready.ensures.ready.posted; asked = c.in_ok-numbers.ensures.asked; fair = c.in_ok-numbers.ensures.fair } in
     let here : IsDeal c.args.self.now.rates (c.args.moment / 100) c.self.inside.lanes.items (limits c.in_ok-numbers.sealed.tree) c.in_ok-numbers.numbers.items c.in_ok-numbers.sealed.grants =
     subst (λ (ls : List Lane). IsDeal c.args.self.now.rates (c.args.moment / 100) ls (limits c.in_ok-numbers.sealed.tree) c.in_ok-numbers.numbers.items c.in_ok-numbers.sealed.grants) (sym (ap (λ s. s.world.lanes) c.self.view_is)) d in
     let most : c.self.inside.issued ≤ MAX_ISSUED = c.self.invariant.booked.most in
@@ -38,7 +38,7 @@ invariant_of-self g c =
 pub returns-clause-step : goal.returns-clause-step
 returns-clause-step g c =
     let d : IsDeal c.args.self.now.rates (c.args.moment / 100) c.args.self.now.world.lanes (limits c.in_ok-numbers.sealed.tree) c.in_ok-numbers.numbers.items c.in_ok-numbers.sealed.grants =
-    record { posted = c.in_ok-check_ready.ensures.ready.posted; asked = c.in_ok-numbers.ensures.asked; plan = c.in_ok-numbers.ensures.plan; best = c.in_ok-numbers.ensures.best } in
+    record { posted = c.in_ok-check_ready.ensures.ready.posted; asked = c.in_ok-numbers.ensures.asked; fair = c.in_ok-numbers.ensures.fair } in
     let most : c.self.inside.issued ≤ MAX_ISSUED = c.self.invariant.booked.most in
     let lanes : c.self.inside.lanes.items ≡ c.args.self.now.world.lanes = ap (λ s. s.world.lanes) c.self.view_is in
     let at : c.deal.new.lanes.items ≡ dealt c.in_ok-numbers.numbers.items c.in_ok-numbers.sealed.grants c.args.self.now.world.lanes =

@@ -1,0 +1,31 @@
+-- When asks are not shared.
+use Rattle.std.specs.Prelude.{◌≡◌, ℕ, List, ⊤}
+use Rattle.fair_shares.specs.declared.fault.FairFault.{FairFault}
+use Rattle.fair_shares.specs.declared.fault.FairFault.TheVariants as fair
+use Rattle.limit_tree.specs.declared.fault.TreeFault.TheVariants.{FloorsOverLimit}
+use Rattle.line_rates.specs.Rates.{Rates}
+use Rattle.line_rates.specs.declared.ask.Ask.{Ask}
+use Rattle.line_rates.specs.declared.share_by.ShareBy.{ShareBy}
+use Rattle.line_rates.specs.declared.share_by.ShareBy.TheVariants as share
+use Rattle.ask_shares.specs.Shares.{HasTreeFault}
+use Rattle.ask_shares.specs.declared.fault.NotShared.{NotShared}
+use Rattle.ask_shares.specs.declared.fault.NotShared.TheVariants.{Tree, Unshared, Memory}
+
+abbrev pub unshared_fault : FairFault → NotShared
+unshared_fault fair.Memory = Memory
+unshared_fault fair.Unshared = Unshared
+
+-- memory runs out in any case; among sessions there are always shares
+abbrev pub IsUnshared : ShareBy → NotShared → Type 0
+IsUnshared by (Tree fault) = ⊥
+IsUnshared by Unshared = by ≡ share.Users
+IsUnshared by Memory = ⊤
+
+abbrev pub IsAskFault : (A : Type 0) → Rates → ℕ → List Ask → NotShared → Type 0
+IsAskFault A rates tick asks (Tree fault) = HasTreeFault A rates tick asks fault
+IsAskFault A rates tick asks fault = IsUnshared rates.share_by fault
+
+-- the fault is not that of guarantees above a limit
+abbrev pub IsNotOfGuarantees : NotShared → Type 0
+IsNotOfGuarantees (Tree (FloorsOverLimit branch)) = ⊥
+IsNotOfGuarantees fault = ⊤

@@ -1,0 +1,11 @@
+use Rattle.std.proofs.Common.{ap, rules, ◌∙◌}
+use Rattle.std.specs.Prelude.{string_bytes}
+use Rattle.machine_parts.specs.Answers.{group_mode}
+use Rattle.machine_parts.proofs.Files.{file-if}
+use Rattle.machine_parts.proofs.starting.status_at.Goals as goal
+
+pub returns-in-Ok : goal.returns-in-Ok
+returns-in-Ok c = record {
+  file = file-if group_mode c.args.paths c.in-Some.path c.in-Some.beside c.new-file.result (first_of (cc, search rules))
+      (ap string_bytes (c.new-file.ensures.path ∙ c.in_ok-path.ensures.path)) (ap string_bytes c.new-file.ensures.beside) c.new-file.ensures.mode;
+}

@@ -97,8 +97,8 @@ pub fn share_tree<A: Allocator + Clone>(
 /// The fair grants of a plan for asks in a tick, each with its lane, with the ask of each leaf: best grants of the tree
 /// if the line is shared among sessions, and if it is shared among users grants that are best by users.
 ///
-/// Returns `Memory` if memory runs out; among users `Unshared` if no such grants are found: a user wants more than
-/// `MAX_WANT` octets together.
+/// Returns `Memory` if memory runs out; among users `Unshared` if no such grants are found, which tests have met only
+/// where a user wants more than `MAX_WANT` octets together.
 pub fn share_plan<L: Allocator, A: Allocator + Clone>(
     alloc: A,
     limits: &Limits<L>,

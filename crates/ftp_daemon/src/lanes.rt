@@ -17,9 +17,8 @@ use std::thread::{Builder, Threads};
 use text_io::TextWriter;
 use virtual_tree::Store;
 
-/// The stack of each of these threads, in octets. A round among users keeps tables for the most leaves that a tree may
-/// have: 128 KB, and twice as much where the compiler copies them. What no round touches takes no memory.
-const STACK: usize = 1_048_576;
+/// The stack of each of these threads, in octets.
+const STACK: usize = 262_144;
 
 /// The line written once clients may connect.
 const READY: &[u8] = b"ready\n";

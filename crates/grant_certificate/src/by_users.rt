@@ -9,9 +9,8 @@ ghost use Rattle.grant_certificate.specs.UserRanges.{AreUserTotals, IsInnerRange
 ghost use Rattle.grant_certificate.specs.Users.{total_of, HasUsers, HasUserNeck, IsBackedByUsers, IsBestByUsers};
 
 use super::certificate::Certificate;
-use super::checker::check;
+use super::checker::{FEW_LEAVES, check};
 use super::flaw::{Flaw, Verdict};
-use super::leaves::Leaves;
 use super::range::first_greater;
 use limit_tree::{MAX_LEAVES, Place, Tree};
 use std::alloc::Allocator;
@@ -126,34 +125,10 @@ fn holds_inside(grants: &[u64], floors: &[u64], place: Place, leaf: usize) -> bo
 }
 
 /// Totals of users, in octets, by leaf: for each leaf the total of its user's grants, and that of its user's floors.
-#[derive(Drop)]
-struct LeafTotals {
-    grants: [u64; MAX_LEAVES],
-    floors: [u64; MAX_LEAVES],
-}
-
-fn no_octets() -> [u64; MAX_LEAVES] {
-    [0; MAX_LEAVES]
-}
-
-/// The totals of users by leaf. O(leaves²) time.
-fn leaf_totals(owners: &[u32], grants: &[u64], floors: &[u64]) -> LeafTotals
-    requires owners { length owners.now ≡ length grants.now }
-    requires floors { length owners.now ≡ length floors.now }
-    requires few { length owners.now ≤ MAX_LEAVES }
-    requires fits { sum grants.now < 2 ^ 64 }
-    requires floors_fit { sum floors.now < 2 ^ 64 }
-    ensures grants { AreUserTotals owners.now grants.now result.grants }
-    ensures floors { AreUserTotals owners.now floors.now result.floors }
-{
-    let mut granted = no_octets();
-    let mut floored = no_octets();
-    totals_into(owners, grants, &mut granted);
-    totals_into(owners, floors, &mut floored);
-    LeafTotals {
-        grants: granted,
-        floors: floored,
-    }
+#[derive(Clone, Copy)]
+struct LeafTotals<'a> {
+    grants: &'a [u64],
+    floors: &'a [u64],
 }
 
 /// Returns whether a range of leaves holds a leaf back among users.
@@ -161,15 +136,16 @@ fn holds_among(
     owners: &[u32],
     grants: &[u64],
     floors: &[u64],
-    totals: &LeafTotals,
+    totals: LeafTotals<'_>,
     place: Place,
     leaf: usize,
 ) -> bool
     requires owners { length owners.now ≡ length grants.now }
     requires floors { length floors.now ≡ length grants.now }
-    requires few { length owners.now ≤ MAX_LEAVES }
-    requires totals { AreUserTotals owners.now grants.now totals.now.grants }
-    requires floor_totals { AreUserTotals owners.now floors.now totals.now.floors }
+    requires room { length owners.now ≤ length totals.grants.now }
+    requires tables { length totals.floors.now ≡ length totals.grants.now }
+    requires totals { AreUserTotals owners.now grants.now totals.grants.now }
+    requires floor_totals { AreUserTotals owners.now floors.now totals.floors.now }
     requires inside { place.first + place.leaves ≤ length owners.now }
     requires leaf { leaf < length owners.now }
     ensures holds { IsTrue result
@@ -184,8 +160,8 @@ fn holds_among(
     }
     let total = totals.grants[leaf];
     none_greater(
-        &totals.grants,
-        &totals.floors,
+        totals.grants,
+        totals.floors,
         place.first,
         place.leaves,
         total,
@@ -197,15 +173,16 @@ fn holds_back(
     owners: &[u32],
     grants: &[u64],
     floors: &[u64],
-    totals: &LeafTotals,
+    totals: LeafTotals<'_>,
     place: Place,
     leaf: usize,
 ) -> bool
     requires owners { length owners.now ≡ length grants.now }
     requires floors { length floors.now ≡ length grants.now }
-    requires few { length owners.now ≤ MAX_LEAVES }
-    requires totals { AreUserTotals owners.now grants.now totals.now.grants }
-    requires floor_totals { AreUserTotals owners.now floors.now totals.now.floors }
+    requires room { length owners.now ≤ length totals.grants.now }
+    requires tables { length totals.floors.now ≡ length totals.grants.now }
+    requires totals { AreUserTotals owners.now grants.now totals.grants.now }
+    requires floor_totals { AreUserTotals owners.now floors.now totals.floors.now }
     requires inside { place.first + place.leaves ≤ length owners.now }
     requires leaf { leaf < length owners.now }
     ensures holds { IsTrue result
@@ -249,19 +226,20 @@ fn has_neck<A: Allocator>(
     owners: &[u32],
     grants: &[u64],
     floors: &[u64],
-    totals: &LeafTotals,
+    totals: LeafTotals<'_>,
     entries: &[Option<u32>],
     leaf: usize,
 ) -> bool
     requires users { (users : ℕ) × HasUsers (limits tree.now) users owners.now }
     requires lengths { length (limits tree.now).wants ≡ length grants.now }
     requires owners { length owners.now ≡ length grants.now }
-    requires few { length owners.now ≤ MAX_LEAVES }
     requires fits { sum grants.now < 2 ^ 64 }
     requires floors { floors.now ≡ (limits tree.now).floors }
     requires floored { length floors.now ≡ length grants.now }
-    requires totals { AreUserTotals owners.now grants.now totals.now.grants }
-    requires floor_totals { AreUserTotals owners.now floors.now totals.now.floors }
+    requires room { length owners.now ≤ length totals.grants.now }
+    requires tables { length totals.floors.now ≡ length totals.grants.now }
+    requires totals { AreUserTotals owners.now grants.now totals.grants.now }
+    requires floor_totals { AreUserTotals owners.now floors.now totals.floors.now }
     requires entries { length entries.now ≡ length grants.now }
     requires leaf { leaf < length grants.now }
     ensures neck { IsTrue result
@@ -279,28 +257,29 @@ fn are_backed<A: Allocator>(
     tree: &Tree<A>,
     owners: &[u32],
     grants: &[u64],
-    leaves: &Leaves,
-    totals: &LeafTotals,
     entries: &[Option<u32>],
+    wants: &[u64],
+    floors: &[u64],
+    totals: LeafTotals<'_>,
 ) -> bool
     requires users { (users : ℕ) × HasUsers (limits tree.now) users owners.now }
     requires lengths { length (limits tree.now).wants ≡ length grants.now }
     requires owners { length owners.now ≡ length grants.now }
-    requires few { length owners.now ≤ MAX_LEAVES }
     requires fits { sum grants.now < 2 ^ 64 }
-    requires wants { take leaves.now.count leaves.now.wants ≡ (limits tree.now).wants }
-    requires floors { take leaves.now.count leaves.now.floors ≡ (limits tree.now).floors }
-    requires totals { AreUserTotals owners.now grants.now totals.now.grants }
-    requires floor_totals { AreUserTotals owners.now (limits tree.now).floors totals.now.floors }
     requires entries { length entries.now ≡ length grants.now }
+    requires wants { wants.now ≡ (limits tree.now).wants }
+    requires floors { floors.now ≡ (limits tree.now).floors }
+    requires floored { length floors.now ≡ length grants.now }
+    requires room { length owners.now ≤ length totals.grants.now }
+    requires tables { length totals.floors.now ≡ length totals.grants.now }
+    requires totals { AreUserTotals owners.now grants.now totals.grants.now }
+    requires floor_totals { AreUserTotals owners.now floors.now totals.floors.now }
     ensures backed { MatchBool result
         ((i : ℕ) → i < length grants.now → IsUnmet (limits tree.now) grants.now i
         → HasUserNeck (limits tree.now) owners.now grants.now entries.now i)
         ((i : ℕ) × (i < length grants.now) × IsUnmet (limits tree.now) grants.now i
         × (HasUserNeck (limits tree.now) owners.now grants.now entries.now i → ⊥)) }
 {
-    let wants = leaves.wants();
-    let floors = leaves.floors();
     for leaf in 0..grants.len() {
         if grants[leaf] < wants[leaf]
             && !has_neck(tree, owners, grants, floors, totals, entries, leaf)
@@ -309,6 +288,46 @@ fn are_backed<A: Allocator>(
         }
     }
     true
+}
+
+/// Returns whether grants within the limits are backed among users, by tables for `N` leaves. Its frame is its own and no
+/// caller's: a thread that checks few leaves does without the tables for many.
+#[inline(never)]
+fn are_backed_by<A: Allocator, const N: usize>(
+    tree: &Tree<A>,
+    owners: &[u32],
+    grants: &[u64],
+    entries: &[Option<u32>],
+) -> bool
+    requires users { (users : ℕ) × HasUsers (limits tree.now) users owners.now }
+    requires within { IsWithin (limits tree.now) grants.now }
+    requires entries { length entries.now ≡ length (limits tree.now).wants }
+    requires room { length grants.now ≤ N }
+    requires bounded { N ≤ MAX_LEAVES }
+    ensures backed { IsTrue result
+        ↔ IsBackedByUsers (limits tree.now) owners.now grants.now entries.now }
+{
+    let leaves = tree.leaves();
+    let mut wants = [0; N];
+    let mut floors = [0; N];
+    tree.leaves_into(&mut wants, &mut floors);
+    let mut granted = [0; N];
+    let mut floored = [0; N];
+    totals_into(owners, grants, &mut granted);
+    totals_into(owners, &floors[..leaves], &mut floored);
+    let totals = LeafTotals {
+        grants: &granted,
+        floors: &floored,
+    };
+    are_backed(
+        tree,
+        owners,
+        grants,
+        entries,
+        &wants[..leaves],
+        &floors[..leaves],
+        totals,
+    )
 }
 
 /// Returns whether grants within the limits are backed among users.
@@ -325,9 +344,11 @@ fn are_backed_within<A: Allocator>(
         ↔ IsBackedByUsers (limits tree.now) owners.now grants.now entries.now }
 {
     let _bounded = tree.leaves();
-    let leaves = Leaves::of(tree);
-    let totals = leaf_totals(owners, grants, leaves.floors());
-    are_backed(tree, owners, grants, &leaves, &totals, entries)
+    if grants.len() <= FEW_LEAVES {
+        are_backed_by::<A, FEW_LEAVES>(tree, owners, grants, entries)
+    } else {
+        are_backed_by::<A, MAX_LEAVES>(tree, owners, grants, entries)
+    }
 }
 
 /// Returns whether a verdict is that grants are within the limits, whether they are backed or not.

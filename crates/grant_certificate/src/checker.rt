@@ -17,7 +17,7 @@ use limit_tree::{MAX_LEAVES, NodeKind, Tree};
 use std::alloc::Allocator;
 
 /// Number of leaves up to which small tables are used: the lanes of a server, and more.
-const FEW_LEAVES: usize = 128;
+pub(crate) const FEW_LEAVES: usize = 128;
 
 /// The flaw of an unmet leaf whose entry is not the number of a bottleneck. One walk.
 fn entry_flaw<A: Allocator>(

@@ -27,9 +27,9 @@ returns-then-not-are_near c =
 pub returns : goal.returns
 returns c =
     let p = c.args.place in
-    let totals = c.args.totals.now in
-    let exact = exact-none c.none_greater.result p.first p.leaves totals.grants totals.floors (slice_index totals.grants c.args.leaf) c.none_greater.ensures.none in
-    let rich = rich-exact c.args.owners.now c.args.grants.now c.args.floors.now totals.grants totals.floors p.first p.leaves c.args.leaf c.requires.leaf c.requires.inside c.requires.totals c.requires.floor_totals in
+    let totals = c.args.totals in
+    let exact = exact-none c.none_greater.result p.first p.leaves totals.grants.now totals.floors.now (slice_index totals.grants.now c.args.leaf) c.none_greater.ensures.none in
+    let rich = rich-exact c.args.owners.now c.args.grants.now c.args.floors.now totals.grants.now totals.floors.now p.first p.leaves c.args.leaf c.requires.leaf c.requires.inside c.requires.totals c.requires.floor_totals in
     record {
       holds = (
         λ told. record {

@@ -1,6 +1,6 @@
 //! New users, rates and limits of a running server.
 
-ghost use Rattle.std.specs.Prelude.{◌≡◌, true, Ok, OnErr, OnOk};
+ghost use Rattle.std.specs.Prelude.{◌≡◌, true, IfOk, Ok, OnErr, OnOk};
 ghost use Rattle.rate_floors.specs.Carried.{carried};
 ghost use Rattle.round_pace.specs.Changed.{IsChangedTo};
 
@@ -10,7 +10,7 @@ use lent_parts::{LentRounds, PartsName};
 use line_rates::Limits;
 use passive_ports::{Admissions, ConnectionLimits};
 use rate_floors::{CarryFault, Floors};
-use server_house::{House, ServerHooks, Terms};
+use server_house::{DueTerms, House, ServerHooks, Terms};
 use std::alloc::{AllocError, Global};
 use std::sync::{Arc, Wait};
 use thiserror::Error;
@@ -53,7 +53,7 @@ pub enum ReloadFault {
     Memory,
 }
 
-// Puts limits in force, in all parts or in none.
+// Puts limits in force, in all parts or in none. In all parts, the terms beside them are due.
 fn put_in_force<B: PartsName, N>(
     alloc: Global,
     registry: &mut Admissions,
@@ -61,8 +61,10 @@ fn put_in_force<B: PartsName, N>(
     rounds: &mut LentRounds<B, N>,
     counts: ConnectionLimits,
     limits: Limits,
-) -> Result<(), ReloadFault>
+    terms: Arc<Terms>,
+) -> Result<DueTerms, ReloadFault>
     requires allowed { B.rates limits ≡ true }
+    ensures due { IfOk result (λ due. due.terms ≡ terms) }
     ensures registry { OnOk result (registry.new.limits ≡ counts) }
     ensures same_connections { registry.new.registry ≡ registry.old.registry }
     ensures floors { OnOk result (carried floors.old limits ≡ Ok floors.new) }
@@ -85,7 +87,7 @@ fn put_in_force<B: PartsName, N>(
         Ok(()) => {
             registry.limits = counts;
             *floors = carried;
-            Ok(())
+            Ok(DueTerms::of(terms))
         }
         Err(AllocError) => Err(ReloadFault::Memory),
     }
@@ -120,14 +122,15 @@ where
     let mut registry = house.registry.lock(rt);
     let mut floors = house.floors.lock(rt);
     let mut rounds = engine.rounds.lock(rt);
-    put_in_force(
+    let due = put_in_force(
         alloc,
         &mut *registry,
         &mut *floors,
         &mut *rounds,
         counts,
         limits,
+        terms,
     )?;
-    house.terms.exchange(rt, terms);
+    house.terms.exchange(rt, due);
     Ok(())
 }

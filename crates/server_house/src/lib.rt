@@ -54,7 +54,7 @@ pub use server_hooks::{
     TransferKind, TransferRecord, UnguaranteedLogin,
 };
 pub use session_sign::SessionSign;
-pub use terms::{HeldTerms, SharedTerms, Terms};
+pub use terms::{DueTerms, HeldTerms, SharedTerms, Terms};
 pub use ticket::{LaneEnds, SessionEnd, SessionJob, SessionTicket};
 pub use transfer_end::TransferEnd;
 pub use transfer_name::TransferName;

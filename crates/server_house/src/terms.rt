@@ -16,6 +16,21 @@ pub struct Terms {
     pub settings: Settings,
 }
 
+/// The terms of a reload whose limits are in force. They must come into force too, and only [`SharedTerms::exchange`] takes
+/// them: a value of this type is not dropped.
+pub struct DueTerms {
+    terms: Arc<Terms>,
+}
+
+impl DueTerms {
+    /// The terms of a reload, once all else of it is in force.
+    pub fn of(terms: Arc<Terms>) -> DueTerms
+        ensures terms { result.terms ≡ terms }
+    {
+        DueTerms { terms }
+    }
+}
+
 /// The terms that a session holds.
 #[derive(Drop)]
 pub struct HeldTerms {
@@ -71,10 +86,18 @@ impl SharedTerms {
         })
     }
 
-    /// Puts other terms in force.
-    pub fn exchange<R: Wait>(&self, rt: &R, terms: Arc<Terms>) {
+    /// Puts the terms of a reload in force.
+    pub fn exchange<R: Wait>(&self, rt: &R, due: DueTerms) {
         let mut newest = self.newest.lock(rt);
-        *newest = terms;
+        put(&mut *newest, due);
         self.exchanges.fetch_add(1, Ordering::SeqCst);
     }
+}
+
+// Puts due terms in the place of those in force.
+fn put(newest: &mut Arc<Terms>, due: DueTerms)
+    ensures put { newest.new ≡ due.terms }
+{
+    let DueTerms { terms } = due;
+    *newest = terms;
 }

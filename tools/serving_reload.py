@@ -64,6 +64,13 @@ def closed(pairs):
         client.close()
 
 
+def rate_over(pairs, seconds):
+    """The octets a second that come on data connections, over the time that reading them took: a busy machine may hold the reader up."""
+    begun_at = time.monotonic()
+    had = moved_in(pairs, seconds)
+    return had / (time.monotonic() - begun_at)
+
+
 def changes_noted(server):
     """What the reloads so far have changed, as it was noted."""
     return [line.split("configuration: ")[1] for line in server.all_noted().splitlines() if "[INFO ]" in line and "configuration: " in line]
@@ -85,7 +92,8 @@ def a_rate_is_halved_and_a_user_added():
         server.reloaded(text)
         same(changes_noted(server), changed, "the lines of changes")
         moved_in(pairs, 1)
-        near(moved_in(pairs, 3), 3 * rate // 2, 0.03 * 3 * rate / 2 + 65_536, f"octets in three seconds under {rate // 2}")
+        # (of each download one grant may be on its way as the reading begins)
+        near(rate_over(pairs, 3), rate // 2, 0.03 * rate / 2 + len(pairs) * 65_536 / 3, f"octets a second under {rate // 2}")
         carol = Client(server, "carol")
         carol.quit()
         closed(pairs)

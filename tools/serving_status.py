@@ -88,7 +88,7 @@ def reader(data, seconds):
 
 def a_status_file():
     """Each second a whole text replaces the one before: what is connected, who transfers what, and what has ended."""
-    rates = "down_rate = 2_600_000\nsession_down_rate = 2_500_000\nsession_down_floor = 100_000\nup_rate = 2_400_000\nsession_up_rate = 2_300_000\n"
+    rates = "down_rate = 2_600_000\nsession_down_rate = 2_500_000\nsession_down_floor = 100_000\nup_rate = 2_400_000\nsession_up_rate = 2_300_000\nsession_up_floor = 90_000\n"
     with watched(f"{LINE}\ndown_rate = 2_900_000\nup_rate = 2_800_000", rates=rates) as server:
         status = next_status(server)
         same((status["version"], status["unit"], status["sessions"], status["transfers"]), (1, "octets", 0, []), "the first status")
@@ -116,6 +116,14 @@ def a_status_file():
         same((account["user"], account["group"], account["granted_up"], len(status["accounts"])), ("ann", None, 0, 1), "the account")
         want(row["granted"] <= account["granted_down"] <= status["issued"], f"{account} of {status['issued']}, and {row['granted']} before")
         is_balanced(status)
+        data = client.passive()
+        client.says("STOR g", "150 Opening data connection")
+        data.socket.sendall(b"a")
+        row = row_of(next_status(server), "ann")
+        same((row["path"], row["direction"]), ("/g", "up"), "the row of an upload")
+        same((row["guaranteed"], row["session_rate"], row["user_rate"]), (90_000, 2_300_000, 2_400_000), "its guarantee and rates")
+        data.close()
+        client.says(None, "226 Transfer complete")
         client.says("USER bob", "331 Password required")
         client.says("PASS wrong", "530 ...")
         same(next_status(server)["failed_logins"], 1, "wrong passwords")

@@ -3,7 +3,8 @@
     python3 rounds.py FOLDER BENCH_WORK ROUNDS [RUNS]
 
 It prints a table of microseconds for one round: the median of so many runs (21) of many rounds each, less that of the
-same program without a round. A part is what its step adds to the steps before it.
+same program without a round. A part is what its step adds to the steps before it. A second table has whole rounds as the
+server holds them, among sessions and among users.
 """
 
 import sys
@@ -13,6 +14,7 @@ from clock import median, tell
 TIMES = 1_000
 WORKS = ["plan", "allot", "check", "seal"]
 PARTS = ["`tree_of`", "`allot`", "`check`", "`seal`"]
+WAYS = ["sessions", "users"]
 HEAD = ["part", "here (us)", "plain (us)", "here / plain"]
 
 
@@ -22,6 +24,12 @@ def times_of(program, folder, runs):
     found = [(median([*program, work, str(TIMES)], f"{folder}/round", runs) - none) * 1_000 / TIMES for work in WORKS]
     with open(f"{folder}/round", encoding="utf-8") as told:
         return found, told.read()
+
+
+def rounds_by(way, program, folder, runs):
+    """Microseconds for a whole round as the server holds one, of a line that is shared among sessions or users."""
+    none = median([*program, way, "0"], f"{folder}/round", runs)
+    return (median([*program, way, str(TIMES)], f"{folder}/round", runs) - none) * 1_000 / TIMES
 
 
 def main(folder, bench_work, rounds, runs="21"):
@@ -35,6 +43,9 @@ def main(folder, bench_work, rounds, runs="21"):
         for it, name in enumerate(PARTS)
     ]
     tell(HEAD, [*parts, row("a round", here[-1], plain[-1])])
+    ways = [rounds_by(way, [bench_work, "round"], folder, int(runs)) for way in WAYS]
+    print()
+    tell(["of a line that is shared among", "a round (us)", "of one among sessions"], [[way, f"{ours:.1f}", f"{ours / ways[0]:.2f}"] for way, ours in zip(WAYS, ways)])
 
 
 main(*sys.argv[1:])

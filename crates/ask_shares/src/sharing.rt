@@ -93,7 +93,7 @@ fn shares_in<L: Allocator, A: Allocator + Clone>(
 ///
 /// Returns `Tree` if an ask wants more than `MAX_WANT`, or if the guarantees of the asks under one name are above its
 /// limit in the tick; `Memory` if memory runs out; among users `Unshared` if no such shares are found, which tests have met
-/// only where a user wants more than `MAX_WANT` together.
+/// only if some user wants more than `MAX_WANT` together.
 pub fn share_asks<L: Allocator, A: Allocator + Clone>(
     alloc: A,
     limits: &Limits<L>,

@@ -10,7 +10,7 @@ pub enum FairFault {
     /// Memory ran out.
     #[error("out of memory")]
     Memory,
-    /// The line is shared among users, and no grants were found that are best by users. Tests have met this only where a
+    /// The line is shared among users, and no grants were found that are best by users. Tests have met this only if some
     /// user wants more than a tree may want, `MAX_WANT`.
     #[error("no division among the users was found")]
     Unshared,

@@ -98,7 +98,7 @@ pub fn share_tree<A: Allocator + Clone>(
 /// if the line is shared among sessions, and if it is shared among users grants that are best by users.
 ///
 /// Returns `Memory` if memory runs out; among users `Unshared` if no such grants are found, which tests have met only
-/// where a user wants more than `MAX_WANT` octets together.
+/// if some user wants more than `MAX_WANT` octets together.
 pub fn share_plan<L: Allocator, A: Allocator + Clone>(
     alloc: A,
     limits: &Limits<L>,

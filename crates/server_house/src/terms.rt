@@ -23,7 +23,7 @@ pub struct DueTerms {
 }
 
 impl DueTerms {
-    /// The terms of a reload, once all else of it is in force.
+    /// The terms of a reload, once the rest of it is in force.
     pub fn of(terms: Arc<Terms>) -> DueTerms
         ensures terms { result.terms ≡ terms }
     {

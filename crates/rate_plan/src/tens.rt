@@ -71,8 +71,8 @@ fn ten_users<A: Allocator>(alloc: A, rows: &[UserRate]) -> Result<Vec<UserRate, 
     Ok(tens)
 }
 
-/// The limits of ten times the rates and guarantees, of a line that is shared among the same. A rate above `MAX_PLANNED` becomes none, a guarantee above it
-/// becomes that of `MAX_PLANNED`.
+/// The limits of ten times the rates and guarantees, of a line that is shared among the same. A rate above
+/// `MAX_PLANNED` becomes none, a guarantee above it becomes that of `MAX_PLANNED`.
 pub(crate) fn tenfold<L: Allocator, A: Allocator + Clone>(
     alloc: A,
     limits: &Limits<L>,

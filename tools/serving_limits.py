@@ -3,6 +3,7 @@ import contextlib
 import os
 import re
 import resource
+import select
 import shutil
 import signal
 import socket
@@ -362,12 +363,14 @@ def a_guaranteed_transfer_goes_first():
         for client in others:
             stalled.append(client.passive(room=4096))
             client.says("RETR big", "150 Opening data connection")
-        want(stalled[0].read(), "octets of whoever has the lane")
+        # (the first to ask need not be the first to be taken)
+        taken, _, _ = select.select([it.socket for it in stalled], [], [], SECONDS)
+        want(taken, "octets of whoever has the lane")
         ann = Client(server)
         data = ann.passive()
         ann.says("LIST", "150 Opening data connection")
         # (those before her would hold the lane for as long as nobody reads)
-        stalled[0].close()
+        taken[0].close()
         want(b"big" in data.whole(), "her listing")
         ann.says(None, "226 Transfer complete")
         ann.quit()

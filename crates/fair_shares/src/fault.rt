@@ -31,7 +31,7 @@ impl From<UserShareFault> for FairFault {
     fn from(fault: UserShareFault) -> FairFault {
         match fault {
             UserShareFault::Memory => FairFault::Memory,
-            UserShareFault::WantTooLarge { .. } | UserShareFault::Tree(_) => FairFault::Unshared,
+            UserShareFault::WantTooLarge { .. } => FairFault::Unshared,
         }
     }
 }

@@ -1,4 +1,7 @@
 pub mod Reshaping
+pub mod Faultless
+pub mod WholeUsers
+pub mod SoundKinds
 pub mod Kinded
 pub mod Sets
 pub mod InnerStage

@@ -1,10 +1,12 @@
 //! Grants that are best by users.
 
-ghost use Rattle.std.specs.Prelude.{length, IfOk};
+ghost use Rattle.std.specs.Prelude.{length, IfErr, IfOk};
 ghost use Rattle.limit_tree.specs.Outline.{limits};
 ghost use Rattle.limit_tree.specs.Sharing.{IsWithin};
 ghost use Rattle.grant_certificate.specs.Users.{IsBackedByUsers, IsBestByUsers};
+ghost use Rattle.user_shares.specs.Faults.{IsUserFault};
 ghost use Rattle.user_shares.specs.Nodes.{AreUsers};
+ghost use Rattle.user_shares.specs.Rebuilt.{IsSoundOutline};
 ghost use Rattle.user_shares.specs.Stages.{AreMost, AreOuterTotals, IsShared};
 
 use crate::fault::UserShareFault;
@@ -12,7 +14,7 @@ use crate::stages::{grants_within, most_of, totals_of};
 use grant_certificate::Certificate;
 use limit_tree::{Flat, Tree};
 use round_allocator::deepest_entries;
-use std::alloc::Allocator;
+use std::alloc::{AllocError, Allocator};
 
 /// The grants within the users' totals, with their certificate.
 fn share_totals<A: Allocator, B: Allocator + Clone>(
@@ -21,7 +23,8 @@ fn share_totals<A: Allocator, B: Allocator + Clone>(
     users: &[u32],
     owners: &[u32],
     totals: &[u64],
-) -> Result<(Vec<u64, B>, Certificate<B>), UserShareFault>
+) -> Result<(Vec<u64, B>, Certificate<B>), AllocError>
+    requires sound { IsSoundOutline flat.now }
     requires users { AreUsers flat.now users.now owners.now }
     requires totals { AreOuterTotals (limits flat.now) (length users.now) owners.now totals.now }
     ensures shared { IfOk result (λ r. IsShared (limits flat.now) (length users.now) owners.now
@@ -41,10 +44,13 @@ fn share_most<A: Allocator, B: Allocator + Clone>(
     owners: &[u32],
     most: &[u64],
 ) -> Result<(Vec<u64, B>, Certificate<B>), UserShareFault>
+    requires sound { IsSoundOutline flat.now }
     requires users { AreUsers flat.now users.now owners.now }
     requires most { AreMost (limits flat.now) (length users.now) owners.now most.now }
     ensures shared { IfOk result (λ r. IsShared (limits flat.now) (length users.now) owners.now
         r.0.items r.1) }
+    ensures fault { IfErr result
+        (IsUserFault (limits flat.now) (length users.now) owners.now) }
 {
     let totals = totals_of(&alloc, flat, users, owners, most)?;
     let shared = share_totals(alloc, flat, users, owners, &totals)?;
@@ -58,9 +64,12 @@ fn share_flat<A: Allocator, B: Allocator + Clone>(
     users: &[u32],
     owners: &[u32],
 ) -> Result<(Vec<u64, B>, Certificate<B>), UserShareFault>
+    requires sound { IsSoundOutline flat.now }
     requires users { AreUsers flat.now users.now owners.now }
     ensures shared { IfOk result (λ r. IsShared (limits flat.now) (length users.now) owners.now
         r.0.items r.1) }
+    ensures fault { IfErr result
+        (IsUserFault (limits flat.now) (length users.now) owners.now) }
 {
     let most = most_of(&alloc, flat, users, owners)?;
     let shared = share_most(alloc, flat, users, owners, &most)?;
@@ -71,8 +80,8 @@ fn share_flat<A: Allocator, B: Allocator + Clone>(
 /// of each user, with their certificate. `users` has for each user the number of the branch whose leaves are the user's,
 /// and `owners` for each leaf the number of its user. The entry of each leaf that has less than it wants is the deepest
 /// full branch above it; all other entries are none. Three allotments, of trees as large as this one, and otherwise
-/// O(nodes + leaves * depth) time. Returns an error if memory runs out; if a user can have more than `MAX_WANT` octets;
-/// or if one of these trees has a fault.
+/// O(nodes + leaves * depth) time. Returns an error only if memory runs out, or if a user can have more than `MAX_WANT`
+/// octets.
 pub fn allot_by_users<A: Allocator, B: Allocator + Clone>(
     alloc: B,
     tree: &Tree<A>,
@@ -84,7 +93,10 @@ pub fn allot_by_users<A: Allocator, B: Allocator + Clone>(
     ensures backed { IfOk result (λ r. IsBackedByUsers (limits tree.now) owners.now r.0.items r.1) }
     ensures best { IfOk result (λ r. IsBestByUsers (limits tree.now) (length users.now) owners.now
         r.0.items) }
+    ensures fault { IfErr result
+        (IsUserFault (limits tree.now) (length users.now) owners.now) }
 {
+    tree.nodes_are_a_tree();
     let flat = Flat::of(alloc.clone()?, tree)?;
     let shared = share_flat(alloc, &flat, users, owners)?;
     Ok(shared)

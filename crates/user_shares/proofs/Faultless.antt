@@ -1,4 +1,5 @@
--- A tree of the same shape as one without a fault has none, if its kinds have none and its floors are within its limits.
+-- A tree of the shape of one without a fault has none, if its kinds have none and its floors are
+-- within its limits.
 use Rattle.std.proofs.Common.{◌≡◌, ℕ, zero, suc, ◌+◌, ◌≤◌, Bool, true, false, cond, List, [], ◌∷◌, length, refl, sym, ap, ◌∙◌, subst, arith, Option, Some, None}
 use Rattle.std.specs.Prelude.{◌&&◌, ◌||◌, if◌then◌else◌, nat_le, nat_lt, slice_get}
 use Rattle.std.specs.Option.{option_map}

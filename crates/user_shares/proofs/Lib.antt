@@ -2,6 +2,7 @@ pub mod Reshaping
 pub mod Faultless
 pub mod WholeUsers
 pub mod SoundKinds
+pub mod SmallUsers
 pub mod Kinded
 pub mod Sets
 pub mod InnerStage

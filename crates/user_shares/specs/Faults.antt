@@ -1,5 +1,5 @@
 -- When nothing is shared among users.
-use Rattle.std.specs.Prelude.{ℕ, ◌<◌, List, ⊤}
+use Rattle.std.specs.Prelude.{ℕ, ◌<◌, ◌≤◌, List, ⊤}
 use Rattle.limit_tree.specs.Sharing.{LimitTree}
 use Rattle.limit_tree.specs.declared.bounds.TheConstants.{MAX_WANT}
 use Rattle.grant_certificate.specs.TwoStages.{IsMost}
@@ -17,3 +17,8 @@ pub record IsTooLarge (t : LimitTree) (users : ℕ) (owners : List ℕ) (user : 
 abbrev pub IsUserFault : LimitTree → ℕ → List ℕ → UserShareFault → Type 0
 IsUserFault t users owners Memory = ⊤
 IsUserFault t users owners (WantTooLarge user) = IsTooLarge t users owners user
+
+-- no user can have more than the largest want of a tree
+abbrev pub AreSmall : LimitTree → ℕ → List ℕ → Type 0
+AreSmall t users owners =
+    (user most : ℕ) → user < users → IsMost t owners user most → most ≤ MAX_WANT

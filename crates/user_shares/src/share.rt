@@ -1,10 +1,11 @@
 //! Grants that are best by users.
 
-ghost use Rattle.std.specs.Prelude.{length, IfErr, IfOk};
+ghost use Rattle.std.specs.Prelude.{◌<◌, ◌≤◌, ℕ, length, slice_index, IfErr, IfOk};
 ghost use Rattle.limit_tree.specs.Outline.{limits};
+ghost use Rattle.limit_tree.specs.declared.bounds.TheConstants.{MAX_WANT};
 ghost use Rattle.limit_tree.specs.Sharing.{IsWithin};
 ghost use Rattle.grant_certificate.specs.Users.{IsBackedByUsers, IsBestByUsers};
-ghost use Rattle.user_shares.specs.Faults.{IsUserFault};
+ghost use Rattle.user_shares.specs.Faults.{AreSmall, IsUserFault};
 ghost use Rattle.user_shares.specs.Nodes.{AreUsers};
 ghost use Rattle.user_shares.specs.Rebuilt.{IsSoundOutline};
 ghost use Rattle.user_shares.specs.Stages.{AreMost, AreOuterTotals, IsShared};
@@ -49,6 +50,8 @@ fn share_most<A: Allocator, B: Allocator + Clone>(
     requires most { AreMost (limits flat.now) (length users.now) owners.now most.now }
     ensures shared { IfOk result (λ r. IsShared (limits flat.now) (length users.now) owners.now
         r.0.items r.1) }
+    ensures small { IfOk result
+        (λ _. (u : ℕ) → u < length most.now → slice_index most.now u ≤ MAX_WANT) }
     ensures fault { IfErr result
         (IsUserFault (limits flat.now) (length users.now) owners.now) }
 {
@@ -68,6 +71,8 @@ fn share_flat<A: Allocator, B: Allocator + Clone>(
     requires users { AreUsers flat.now users.now owners.now }
     ensures shared { IfOk result (λ r. IsShared (limits flat.now) (length users.now) owners.now
         r.0.items r.1) }
+    ensures small { IfOk result
+        (λ _. AreSmall (limits flat.now) (length users.now) owners.now) }
     ensures fault { IfErr result
         (IsUserFault (limits flat.now) (length users.now) owners.now) }
 {
@@ -93,6 +98,8 @@ pub fn allot_by_users<A: Allocator, B: Allocator + Clone>(
     ensures backed { IfOk result (λ r. IsBackedByUsers (limits tree.now) owners.now r.0.items r.1) }
     ensures best { IfOk result (λ r. IsBestByUsers (limits tree.now) (length users.now) owners.now
         r.0.items) }
+    ensures small { IfOk result
+        (λ _. AreSmall (limits tree.now) (length users.now) owners.now) }
     ensures fault { IfErr result
         (IsUserFault (limits tree.now) (length users.now) owners.now) }
 {

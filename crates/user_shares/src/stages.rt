@@ -240,6 +240,8 @@ pub(crate) fn totals_of<A: Allocator, B: Allocator + Clone>(
     requires most { AreMost (limits flat.now) (length users.now) owners.now most.now }
     ensures totals { IfOk result
         (λ totals. AreOuterTotals (limits flat.now) (length users.now) owners.now totals.items) }
+    ensures small { IfOk result
+        (λ _. (u : ℕ) → u < length most.now → slice_index most.now u ≤ MAX_WANT) }
     ensures fault { IfErr result
         (IsUserFault (limits flat.now) (length users.now) owners.now) }
 {

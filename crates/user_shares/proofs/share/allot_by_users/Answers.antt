@@ -3,7 +3,7 @@ use Rattle.limit_tree.specs.Sharing.{IsWithin}
 use Rattle.limit_tree.specs.Outline.{limits}
 use Rattle.limit_tree.specs.declared.place.Place.{Place}
 use Rattle.grant_certificate.specs.Users.{IsBackedByUsers, IsBestByUsers}
-use Rattle.user_shares.specs.Faults.{IsUserFault}
+use Rattle.user_shares.specs.Faults.{AreSmall, IsUserFault}
 use Rattle.user_shares.specs.Nodes.{AreUsers}
 use Rattle.user_shares.specs.Rebuilt.{IsSoundOutline}
 use Rattle.user_shares.proofs.share.allot_by_users.Goals as goal
@@ -22,6 +22,9 @@ returns-clause-backed g c = subst (λ (ps : List Place). IsBackedByUsers (limits
 
 pub returns-clause-best : goal.returns-clause-best
 returns-clause-best g c = subst (λ (ps : List Place). IsBestByUsers (limits ps) (length c.args.users.now) c.args.owners.now c.in_ok-shared.shared.0.items) c.in_ok-flat.ensures.of c.in_ok-shared.ensures.shared.best
+
+pub returns-clause-small : goal.returns-clause-small
+returns-clause-small g c = subst (λ (ps : List Place). AreSmall (limits ps) (length c.args.users.now) c.args.owners.now) c.in_ok-flat.ensures.of c.in_ok-shared.ensures.small
 
 pub returns-in_err-shared-clause-fault : goal.returns-in_err-shared-clause-fault
 returns-in_err-shared-clause-fault g c =

@@ -11,6 +11,7 @@ ghost use Rattle.ask_shares.specs.Leaves.{AreBestLeaves, AreLeafShares, IsLeafSh
 use crate::fault::NotShared;
 use crate::share::AskShare;
 use fair_shares::share_tree;
+use grant_certificate::Sealed;
 use held_names::held_by;
 use limit_tree::Tree;
 use line_rates::{Ask, Limits};
@@ -22,21 +23,22 @@ fn leaf_share<L: Allocator, P: Allocator>(
     tick: u64,
     asks: &[Ask],
     lanes: &[u8],
-    tree: &Tree<P>,
-    grants: &[u64],
-    entries: &[Option<u32>],
+    sealed: &Sealed<P>,
     leaf: usize,
 ) -> AskShare
-    requires tree { IsTickTree limits.now tick asks.now (seen tree.now) }
+    requires tree { IsTickTree limits.now tick asks.now (seen sealed.now.tree) }
     requires lanes { length lanes.now ≡ length asks.now }
-    requires grants { IsWanted (seen tree.now) grants.now }
-    requires backed { IsBackedFair limits.now.share_by asks.now (seen tree.now) grants.now
-        entries.now }
+    requires grants { IsWanted (seen sealed.now.tree) sealed.now.grants }
+    requires backed { IsBackedFair limits.now.share_by asks.now (seen sealed.now.tree)
+        sealed.now.grants sealed.now.certificate }
     requires leaf { leaf < length asks.now }
     ensures share { IsLeafShare limits.now tick asks.now lanes.now
-        (seen tree.now) grants.now leaf result }
+        (seen sealed.now.tree) sealed.now.grants leaf result }
 {
     let ask = asks[leaf];
+    let tree = sealed.tree();
+    let grants = sealed.grants();
+    let entries = sealed.certificate().entries();
     AskShare {
         place: lanes[leaf],
         ask,
@@ -53,21 +55,19 @@ fn leaf_shares<L: Allocator, P: Allocator, A: Allocator>(
     tick: u64,
     asks: &[Ask],
     lanes: &[u8],
-    tree: &Tree<P>,
-    grants: &[u64],
-    entries: &[Option<u32>],
+    sealed: &Sealed<P>,
 ) -> Result<Vec<AskShare, A>, AllocError>
-    requires tree { IsTickTree limits.now tick asks.now (seen tree.now) }
+    requires tree { IsTickTree limits.now tick asks.now (seen sealed.now.tree) }
     requires lanes { length lanes.now ≡ length asks.now }
-    requires grants { IsWanted (seen tree.now) grants.now }
-    requires backed { IsBackedFair limits.now.share_by asks.now (seen tree.now) grants.now
-        entries.now }
+    requires grants { IsWanted (seen sealed.now.tree) sealed.now.grants }
+    requires backed { IsBackedFair limits.now.share_by asks.now (seen sealed.now.tree)
+        sealed.now.grants sealed.now.certificate }
     ensures shares { IfOk result (λ shares. AreLeafShares limits.now tick asks.now
-        lanes.now (seen tree.now) grants.now shares.items) }
+        lanes.now (seen sealed.now.tree) sealed.now.grants shares.items) }
 {
     let mut shares = Vec::with_capacity(alloc, asks.len())?;
     for leaf in 0..asks.len() {
-        shares.push(leaf_share(limits, tick, asks, lanes, tree, grants, entries, leaf))?;
+        shares.push(leaf_share(limits, tick, asks, lanes, sealed, leaf))?;
     }
     Ok(shares)
 }
@@ -88,15 +88,6 @@ pub(crate) fn fair_leaves<L: Allocator, A: Allocator + Clone>(
     ensures fault { IfErr result (IsUnshared limits.now.share_by) }
 {
     let sealed = share_tree(alloc.clone()?, limits.share_by(), asks, tree)?;
-    let shares = leaf_shares(
-        alloc,
-        limits,
-        tick,
-        asks,
-        lanes,
-        sealed.tree(),
-        sealed.grants(),
-        sealed.certificate().entries(),
-    )?;
+    let shares = leaf_shares(alloc, limits, tick, asks, lanes, &sealed)?;
     Ok(shares)
 }

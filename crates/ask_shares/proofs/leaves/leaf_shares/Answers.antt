@@ -8,7 +8,7 @@ use Rattle.ask_shares.proofs.leaves.leaf_shares.Goals as goal
 
 pub loop-leaf-preserved : goal.loop-leaf-preserved
 loop-leaf-preserved g c =
-    let P : ℕ → AskShare → Type 0 = λ i s. IsLeafShare c.args.limits.now c.args.tick c.args.asks.now c.args.lanes.now (limits c.args.tree.now) c.args.grants.now i s in
+    let P : ℕ → AskShare → Type 0 = λ i s. IsLeafShare c.args.limits.now c.args.tick c.args.asks.now c.args.lanes.now (limits c.args.sealed.now.tree) c.args.sealed.now.grants i s in
     record {
       count = omega (arith, c.loop-leaf.invariant.count, c.in_ok-push.ensures.len);
       each = subst (λ (xs : List AskShare). (i : ℕ) (s : AskShare) → slice_get xs i ≡ Some s → P i s) (sym c.in_ok-push.ensures.items)

@@ -8,5 +8,5 @@ use Rattle.ask_shares.proofs.leaves.leaf_shares.Given as goal
 abbrev pub invariant-loop-leaf : goal.invariant-loop-leaf
 invariant-loop-leaf g l = record {
   count : length l.shares.items ≡ l.leaf;
-  each : (i : ℕ) (s : AskShare) → slice_get l.shares.items i ≡ Some s → IsLeafShare l.limits l.tick l.asks l.lanes (limits l.tree) l.grants i s;
+  each : (i : ℕ) (s : AskShare) → slice_get l.shares.items i ≡ Some s → IsLeafShare l.limits l.tick l.asks l.lanes (limits l.sealed.tree) l.sealed.grants i s;
 }

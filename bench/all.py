@@ -4,7 +4,8 @@
 
 RUN is `bench/run`. FOLDER gets DATE-COMMIT.md, with the commit, the machine, how each part ended and its tables; beside it are the picture of
 the part `grows` (.svg) and what parts say besides (.log). A part has its share of the hour: then it begins no further row (`in_time` of
-`clock.py`), and what it left out is in the file. GRACE seconds later it is stopped. With QUICK each part has a sixth of its share.
+`clock.py`), and what it left out is in the file. GRACE seconds later it is stopped. With QUICK each part has a sixth of its share, and with
+MINUTES=N all of them together that many minutes.
 """
 
 import contextlib
@@ -31,7 +32,7 @@ PARTS = {
     "serve": (360, ["FTPD"]),
     "shown": (240, ["FTPD"]),
     "waits": (180, ["FTPD"]),
-    "pace": (360, ["FTPD"]),
+    "pace": (450, ["FTPD"]),
     "office": (120, ["FTPD"]),
     "peers": (540, ["FTPD"]),
     "grows": (480, ["FTPD"]),
@@ -62,16 +63,19 @@ def program_of(path):
         return "not there"
     with open(path, "rb") as it:
         total = hashlib.sha256(it.read()).hexdigest()
-    made = datetime.datetime.fromtimestamp(os.path.getmtime(path), datetime.timezone.utc)
-    return f"`{path}`, made {made:%Y-%m-%d %H:%M} UTC, SHA-256 {total[:16]}.."
+    made, of = datetime.datetime.fromtimestamp(os.path.getmtime(path), datetime.timezone.utc), ""
+    with contextlib.suppress(OSError), open(f"{path}.txt", encoding="utf-8") as it:
+        of = f", {it.read().strip()}"
+    return f"`{path}`, made {made:%Y-%m-%d %H:%M} UTC, SHA-256 {total[:16]}..{of}"
 
 
 def machine():
     """What was measured, and on which machine."""
     changed = " and changes that are not committed" if said("git", "status", "--porcelain") else ""
     yield "commit", said("git", "rev-parse", "HEAD") + changed
-    for name in ("FTPD", "SHEETS", "BENCH_WORK", "BENCH_DESK"):
-        yield name, program_of(os.environ.get(name, ""))
+    for name in ("FTPD", "SHEETS", "BENCH_WORK", "BENCH_DESK", "BEFORE", "SHEETS_BEFORE"):
+        if name in os.environ or "BEFORE" not in name:
+            yield name, program_of(os.environ.get(name, ""))
     yield "processors", f"{os.cpu_count()}, {first_of('/proc/cpuinfo', r'model name[^:]*: (.*)')}"
     yield "memory", f"{int(first_of('/proc/meminfo', r'MemTotal: *([0-9]+)')) / 1_048_576:.0f} GB"
     yield "system", f"{platform.platform()}, {platform.freedesktop_os_release().get('PRETTY_NAME', '')}"
@@ -111,7 +115,11 @@ class Report:
 
 def share_of(part):
     """How many seconds a part has."""
-    return PARTS[part][0] / (6 if QUICK else 1)
+    share = PARTS[part][0] / (6 if QUICK else 1)
+    if "MINUTES" not in os.environ:
+        return share
+    whole = sum(seconds for seconds, _ in PARTS.values())
+    return PARTS[part][0] / whole * (float(os.environ["MINUTES"]) * 60 - GRACE * len(PARTS))
 
 
 def stop(process):

@@ -59,6 +59,13 @@ def among(folder, program, load, number):
     return (used / octets * ROUND,)
 
 
+def among_guaranteed(folder, program, load, number):
+    """The same beside users whose sessions have a guarantee."""
+    users = [("ann", ""), *((f"user{it}", "session_down_floor = 1000") for it in range(number))]
+    octets, used = clients_of(folder, program, load, ["down", "1", "1", LONE], users)
+    return (used / octets * ROUND,)
+
+
 def listing(folder, program, load, number):
     """Microseconds for a listing of so many entries."""
     times, used = clients_of(folder, program, load, ["list", "1", str(min(MOST, ENTRIES // number)), f"entries{number}"])
@@ -77,6 +84,7 @@ GROWTHS = {
     "idle sessions": ([1, 8] if QUICK else [1, 8, 64, 510], idle, [("memory", "MB"), ("processor time a minute", "ms")]),
     "downloads at once": ([1, 4] if QUICK else [1, 4, 16, 64], together, [("processor time per 64 KiB", "us")]),
     "users with rates": ([1, 10] if QUICK else [1, 10, 100, 1_000], among, [("a lone download's processor time per 64 KiB", "us")]),
+    "users with guarantees": ([1, 10] if QUICK else [1, 10, 100, 1_000], among_guaranteed, [("a lone download's processor time per 64 KiB", "us")]),
     "entries of a folder": ([10, 20] if QUICK else [10, 100, 1_000, 10_000], listing, [("a listing's processor time", "us")]),
     "KiB of a file": ([1, 256, 1_024] if QUICK else [1, 16, 256, 4_096, 65_536, 262_144], download, [("a download's processor time", "us")]),
 }

@@ -1,11 +1,12 @@
 """An office of forty at one line: what each transfer gets of its plan, and how long somebody else waits for a listing.
 
-    python3 office.py FOLDER FTPD
+    python3 office.py FOLDER NAME=FTPD [NAME=FTPD ..]
 
 Forty users in three groups share 6,250,000 octets a second down and 1,250,000 up (50 and 10 Mbit/s), over as many lanes as there may be, 64.
 One of them, ann, is guaranteed 1,000,000 down. In each row she downloads beside so many downloads and uploads of others, each as fast as
 it goes, for COUNTED seconds after WARM in which buffers fill. A share is over what `ftpd plan` says of just these transfers by the same
-configuration. Meanwhile one who has no transfer lists the folder again and again: the longest of these waits is told.
+configuration. Meanwhile one who has no transfer lists the folder again and again: the longest of these waits is told. Each row is made with
+one server after the other.
 """
 
 import ftplib
@@ -90,23 +91,25 @@ def of(shares, due):
     return f"{min(shares) / due:.3f} to {max(shares) / due:.3f}" if shares else "-"
 
 
-def rows(folder, program):
+def rows(folder, servers):
     rates = f"down_rate = {DOWN_RATE}\nup_rate = {UP_RATE}"
     for name in in_time(CASES):
         downs, ups = CASES[name]
-        with Running(folder, program, False, rates, users(), tables()) as server:
-            ann, other, upload = planned(server, downs, ups)
-            shares, wait, used = measured(server, downs, ups)
-        down, up = shares[: downs + 1], shares[downs + 1 :]
-        line = f"{sum(down) / DOWN_RATE:.3f}" + (f", {sum(up) / UP_RATE:.3f}" if up else "")
-        yield [name, f"{down[0] / ann:.3f}", of(down[1:], other), of(up, upload), line, f"{wait * 1e3:.0f} ms", f"{used * 100:.1f} %"]
+        for called, program in servers:
+            with Running(folder, program, False, rates, users(), tables()) as server:
+                ann, other, upload = planned(server, downs, ups)
+                shares, wait, used = measured(server, downs, ups)
+            down, up = shares[: downs + 1], shares[downs + 1 :]
+            line = f"{sum(down) / DOWN_RATE:.3f}" + (f", {sum(up) / UP_RATE:.3f}" if up else "")
+            yield [name, called, f"{down[0] / ann:.3f}", of(down[1:], other), of(up, upload), line, f"{wait * 1e3:.0f} ms", f"{used * 100:.1f} %"]
 
 
-def main(folder, program):
+def main(folder, *servers):
     os.makedirs(f"{folder}/files")
     with open(f"{folder}/files/big", "wb") as it:
         it.truncate(1 << 40)
-    tell(["downloads and uploads of others", "the guaranteed one, of 1,000,000", "other downloads", "uploads", "of the line", "a listing, at most", "processor"], rows(folder, program))
+    head = ["downloads and uploads of others", "server", "the guaranteed one, of 1,000,000", "other downloads", "uploads", "of the line", "a listing, at most", "processor"]
+    tell(head, rows(folder, [it.split("=", 1) for it in servers]))
 
 
 if __name__ == "__main__":

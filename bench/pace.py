@@ -4,7 +4,10 @@
 
 FOLDER lies in a file system in memory. Each case is made with one server after the other, so that servers are compared in one run. The
 segments are the kernel's count of the server's data connections (`ss -ti`); an Ethernet carries 90 octets beside each (66 of heads, 24
-of preamble, sum and gap). Shares are over what each transfer ought to have; Jain's index of them is 1 if they are equal.
+of preamble, sum and gap). Shares are over what each transfer ought to have; Jain's index of them is 1 if they are equal. Where one session
+has a guarantee, its own share is told by itself. A second table has what a lone download without a limit costs beside users who do nothing.
+
+`CASES=TEXT` makes only the cases whose names have that text.
 """
 
 import os
@@ -19,6 +22,7 @@ from clock import in_time, tell
 from serve import MEGABYTE, Running
 
 WARM, COUNTED = 2.5, 6
+LONE_WARM, LONE_COUNTED = 1, 2
 BESIDE = 90
 BLOCK = bytes(65_536)
 DOWN, UP = "RETR big", "STOR upload"
@@ -145,11 +149,18 @@ def unlimited_beside(users):
     return "", (("ann", ""), *rated), [("user0", DOWN), ("ann", DOWN)], [1_000_000, None]
 
 
-def guaranteed(rate, number, floor):
-    """So many downloads under the rate of downloads, of which one is of a session with a guarantee; the others share the rest."""
+def guaranteed(rate, number, floor, words=(), key="down_rate"):
+    """So many downloads under one rate, of which one is of a session with a guarantee; the others share the rest."""
     rest = min((rate - floor) / (number - 1), rate / number)
     users = (("ann", f"session_down_floor = {floor}"), ("bob", ""))
-    return f"down_rate = {rate}", users, [("ann", DOWN)] + [("bob", DOWN)] * (number - 1), [rate - rest * (number - 1)] + [rest] * (number - 1)
+    return f"{key} = {rate}", users, [("ann", DOWN)] + [("bob", DOWN)] * (number - 1), [rate - rest * (number - 1)] + [rest] * (number - 1), words
+
+
+def office(downs, ups):
+    """A line of 50 Mbit/s down and 10 up: a guarantee of 1,000,000 beside so many downloads and uploads of others."""
+    due = [1_000_000] + [5_250_000 / downs] * downs + [1_250_000 / ups] * ups
+    users = (("ann", "session_down_floor = 1000000"), ("bob", ""))
+    return "down_rate = 6250000\nup_rate = 1250000", users, [("ann", DOWN)] + [("bob", DOWN)] * downs + [("bob", UP)] * ups, due
 
 
 LINE = 4 * MEGABYTE
@@ -177,18 +188,26 @@ CASES = {
     "64 sessions' rates of 31,250": ("", (("ann", "session_down_rate = 31250"),), [("ann", DOWN)] * 64, [31_250] * 64),
     "four sessions' rates of 2 MB": ("", (("ann", "session_down_rate = 2000000"),), [("ann", DOWN)] * 4, [2_000_000] * 4),
     "a guarantee of 1 MiB in 4 MiB, under 12 others": (f"rate = {LINE}", (("ann", f"session_down_floor = {MEGABYTE}"), ("bob", "")), [("ann", DOWN)] + [("bob", DOWN)] * 12, [MEGABYTE] + [MEGABYTE / 4] * 12),
+    "20, 20 and 60 of a group with 100": (
+        'rate = 1000\n[[group]]\nname = "all"\ndown_rate = 100',
+        (("ann", 'group = "all"\ndown_rate = 40'), ("bob", 'group = "all"')),
+        [("ann", DOWN), ("ann", DOWN), ("bob", DOWN)],
+        [20, 20, 60],
+    ),
     "1,000: 16, one guaranteed 1": guaranteed(1_000, 16, 1),
-    "1,000: 16, one guaranteed 499": guaranteed(1_000, 16, 499),
+    "1,000: 16, one guaranteed 500": guaranteed(1_000, 16, 500),
+    "8,000: 16, one guaranteed 499": guaranteed(8_000, 16, 499),
+    "8,000: 16, one guaranteed 999": guaranteed(8_000, 16, 999),
     "8,000: 16, one guaranteed 1,499": guaranteed(8_000, 16, 1_499),
     "5,000: 24, one guaranteed 10": guaranteed(5_000, 24, 10),
+    "200,000: 64, one guaranteed 5,000": guaranteed(200_000, 64, 5_000),
     "2,000,000: 64, one guaranteed 50,000": guaranteed(2_000_000, 64, 50_000),
     "2,000,000: 64, each guaranteed 31,250": ("down_rate = 2000000", (("ann", "session_down_floor = 31250"),), [("ann", DOWN)] * 64, [31_250] * 64),
-    "6,250,000 down, 1,250,000 up: 38 and 4, one guaranteed 1,000,000": (
-        "down_rate = 6250000\nup_rate = 1250000",
-        (("ann", "session_down_floor = 1000000"), ("bob", "")),
-        [("ann", DOWN)] + [("bob", DOWN)] * 37 + [("bob", UP)] * 4,
-        [1_000_000] + [5_250_000 / 37] * 37 + [312_500] * 4,
-    ),
+    "1,000,000: 4, one guaranteed 249,999": guaranteed(1_000_000, 4, 249_999),
+    "6,250,000 down, 1,250,000 up: 38 and 4 beside one guaranteed 1,000,000": office(38, 4),
+    "10,000,000: 32, one guaranteed 5,000,000": guaranteed(10_000_000, 32, 5_000_000),
+    "4,000,000: 16, one guaranteed 3,000,000": guaranteed(4_000_000, 16, 3_000_000, key="rate"),
+    "4,000,000 among users: 16, one guaranteed 3,000,000": guaranteed(4_000_000, 16, 3_000_000, AMONG_USERS, key="rate"),
     "4,000,000: four sessions' rates of 300,000 beside four others": (
         "down_rate = 4000000",
         (("ann", "session_down_rate = 300000"), ("bob", "")),
@@ -211,6 +230,19 @@ CASES = {
         [3 * MEGABYTE] + [MEGABYTE / 8] * 8,
         AMONG_USERS,
     ),
+    "4 MiB: a guarantee of 3 MiB, and 60 others": (
+        f"rate = {LINE}",
+        (("ann", f"session_down_floor = {3 * MEGABYTE}"), ("bob", "")),
+        [("ann", DOWN)] + [("bob", DOWN)] * 60,
+        [3 * MEGABYTE] + [MEGABYTE / 60] * 60,
+    ),
+    "4 MiB among users: one download, 20 of another, and one of a user with 10,000": (
+        f"rate = {LINE}",
+        (("ann", ""), ("bob", ""), ("cem", "down_rate = 10000")),
+        [("ann", DOWN)] + [("bob", DOWN)] * 20 + [("cem", DOWN)],
+        [(LINE - 10_000) / 2] + [(LINE - 10_000) / 40] * 20 + [10_000],
+        AMONG_USERS,
+    ),
     "1 MB: a download beside five uploads that dribble": ("rate = 1000000", (("ann", ""), ("bob", "")), [("bob", DOWN), *DRIBBLES], [500_000] + [100_000] * 5),
     "a user without a limit, and 1 user with a rate": unlimited_beside(1),
     "a user without a limit, and 400 users with rates": unlimited_beside(400),
@@ -218,8 +250,12 @@ CASES = {
 }
 
 
+def is_wanted(name):
+    return os.environ.get("CASES", "") in name
+
+
 def rows(folder, servers):
-    for name in in_time(CASES):
+    for name in in_time(filter(is_wanted, CASES)):
         case = CASES[name]
         for server, program in servers:
             shares, count, octets, used = measured(folder, program, case)
@@ -230,7 +266,46 @@ def rows(folder, servers):
             total = f"{sum(had for had, it in zip(shares, case[3]) if it) / due:.3f}"
             free = [f", {had / 1e6:.0f} MB/s" for had, it in zip(shares, case[3]) if not it]
             each = f"{octets / count:.0f}" if count else "-"
-            yield [name, server, f"{count:,.0f} of {each}", wire, f"{jain:.4f}", f"{min(parts):.3f} to {max(parts):.3f}", total + "".join(free), f"{used * 100:.1f} %"]
+            first = f"{parts[0]:.3f}" if "one guaranteed" in name or "a guarantee of" in name else "-"
+            yield [name, server, f"{count:,.0f} of {each}", wire, f"{jain:.4f}", f"{min(parts):.3f} to {max(parts):.3f}", first, total + "".join(free), f"{used * 100:.1f} %"]
+
+
+# What a lone download costs: beside so many users, each with these lines.
+LONE = {
+    "nobody": (0, ""),
+    "1,000 users with a rate each": (1_000, "down_rate = 1000000"),
+    "1,000 users with a guarantee each": (1_000, "session_down_floor = 1000"),
+    "1,000 users with both": (1_000, "down_rate = 1000000\nsession_down_floor = 1000"),
+}
+
+
+def lone_cost(folder, program, number, lines):
+    """Microseconds of the processor for each 64 KiB of a download without a limit, beside users who do nothing."""
+    users = [("ann", ""), *((f"user{it}", lines) for it in range(number))]
+    with Running(folder, program, False, "", users) as server:
+        one = Transfer(server, "ann", DOWN)
+        thread = threading.Thread(target=one.run)
+        thread.start()
+        time.sleep(LONE_WARM)
+        before, had = server.seconds(), one.moved()
+        time.sleep(LONE_COUNTED)
+        used, moved = server.seconds() - before, one.moved() - had
+        one.close()
+        thread.join()
+    return used * 1e6 / moved * 65_536
+
+
+def lone_rows(folder, servers, runs):
+    """The least of so many runs, in turn, and over that beside nobody."""
+    least = {}
+    for _ in range(runs):
+        for name, (number, lines) in LONE.items():
+            for server, program in servers:
+                cost = lone_cost(folder, program, number, lines)
+                least[name, server] = min(least.get((name, server), cost), cost)
+    for name in in_time(LONE, "a lone download beside "):
+        for server, _ in servers:
+            yield [name, server, f"{least[name, server]:.1f}", f"{least[name, server] / least['nobody', server]:.2f}"]
 
 
 def main(folder, *servers):
@@ -238,7 +313,9 @@ def main(folder, *servers):
     with open(f"{folder}/files/big", "wb") as it:
         it.truncate(1 << 40)
     named = [it.split("=", 1) for it in servers]
-    tell(["case", "server", "segments a second, of octets", "on an Ethernet", "Jain's index", "shares", "of the rates", "processor"], rows(folder, named))
+    if not os.environ.get("CASES"):
+        tell(["a lone download beside", "server", "processor us for 64 KiB", "over nobody"], lone_rows(folder, named, int(os.environ.get("RUNS") or 3)))
+    tell(["case", "server", "segments a second, of octets", "on an Ethernet", "Jain's index", "shares", "the guaranteed one", "of the rates", "processor"], rows(folder, named))
 
 
 if __name__ == "__main__":

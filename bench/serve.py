@@ -1,8 +1,8 @@
 """Measures the running server beside a plain server that reads and writes with the same threads and buffers.
 
-    python3 serve.py FOLDER FTPD YARDSTICK LOAD [RUNS]
+    python3 serve.py FOLDER YARDSTICK LOAD RUNS NAME=FTPD [NAME=FTPD ..]
 
-FOLDER lies in a file system in memory. Each row is made with the one server and then the other, so many times (3), and tells the best:
+FOLDER lies in a file system in memory. Each row is made with one server after the other, the plain one last, so many times, and tells the best:
 octets or files a second, and seconds of the processor of the server alone, its own and the system's for it. Then come the idle server,
 its memory, the division of rates, and how long others wait for the listing of a large directory. Only ratios of one run say anything.
 """
@@ -124,24 +124,28 @@ def loaded(load, server, words):
     return int(octets), float(took), server.seconds() - before
 
 
+PLAIN = "plain"
+
+
 def throughput(folder, servers, load, runs):
-    for name in in_time(ROWS):
-        words, unit, what = ROWS[name]
+    for row in in_time(ROWS):
+        words, unit, what = ROWS[row]
         best, least = {}, {}
         for _ in range(runs):
-            for is_plain, program in servers:
-                with Running(folder, program, is_plain) as server:
+            for name, program in servers:
+                with Running(folder, program, name == PLAIN) as server:
                     octets, took, used = loaded(load, server, words)
-                best[is_plain] = max(best.get(is_plain, 0), octets / unit / took)
-                least[is_plain] = min(least.get(is_plain, used), used)
-        ratio, price = best[False] / best[True], least[False] / max(least[True], 0.01)
-        yield [name, *(f"{best[it]:,.0f} {what}" for it in (False, True)), f"{ratio:.2f}", *(f"{least[it]:.2f}" for it in (False, True)), f"{price:.2f}"]
+                best[name] = max(best.get(name, 0), octets / unit / took)
+                least[name] = min(least.get(name, used), used)
+        names = [name for name, _ in servers]
+        over = lambda found: [f"{found[name] / max(found[PLAIN], 0.01):.2f}" for name in names if name != PLAIN]
+        yield [row, *(f"{best[it]:,.0f} {what}" for it in names), *over(best), *(f"{least[it]:.2f}" for it in names), *over(least)]
 
 
 def idle(folder, servers, load):
-    for name in in_time(("ftpd", "plain"), "idle "):
-        is_plain, program = servers[name == "plain"]
-        with Running(folder, program, is_plain) as server:
+    programs = dict(servers)
+    for name in in_time(programs, "idle "):
+        with Running(folder, programs[name], name == PLAIN) as server:
             row = [name]
             for sessions in (0, SESSIONS):
                 with contextlib.ExitStack() as held:
@@ -228,10 +232,13 @@ def listing(folder, program):
         return [f"STAT of {ENTRIES} entries", f"{min(took) * 1_000:.0f}", f"{max(waits) * 1_000:.1f}"]
 
 
-def main(folder, ftpd, plain, load, runs="3"):
+def main(folder, plain, load, runs, *words):
     make_files(folder)
-    servers = [(False, ftpd), (True, plain)]
-    tell(["what", "ftpd", "plain", "ftpd / plain", "ftpd: processor s", "plain", "ftpd / plain"], throughput(folder, servers, load, int(runs)))
+    named = [it.split("=", 1) for it in words]
+    servers, ftpd = [*named, (PLAIN, plain)], named[0][1]
+    names = [name for name, _ in servers]
+    over = [f"{name} / {PLAIN}" for name in names if name != PLAIN]
+    tell(["what", *names, *over, *(f"{name}: processor s" for name in names), *over], throughput(folder, servers, load, int(runs)))
     tell(["idle", "no session", "MB", f"{SESSIONS} sessions", "MB"], idle(folder, servers, load))
     tell(["division of 4 MiB/s", "MiB/s each", "of what each ought to have", "of the rate", "processor"], divisions(folder, ftpd, load))
     tell(["a long listing", "it takes (ms)", "others wait at most (ms)"], (listing(folder, ftpd) for _ in in_time(["a long listing"])))

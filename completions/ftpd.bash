@@ -18,7 +18,7 @@ _ftpd_words() {
     [[ ${COMP_WORDS[1]} == top ]] && options="$4 $options"
     [[ ${COMP_WORDS[1]} == usage ]] && options="$5 $options"
     [[ ${COMP_WORDS[1]} == plan || ${COMP_WORDS[1]} == check-config ]] && options="$3 $options"
-    [[ ${COMP_WORDS[1]} == plan ]] && options="--share-by $options"
+    [[ ${COMP_WORDS[1]} == plan || ${COMP_WORDS[1]} == check-config ]] && options="--share-by $options"
     [[ ${COMP_WORDS[1]} == check-config ]] && options="--against --against-running $options"
     if [[ ${COMP_WORDS[1]} == help ]]; then
         [[ $COMP_CWORD -gt 2 ]] || mapfile -t COMPREPLY < <(compgen -W "$1" -- "$word")

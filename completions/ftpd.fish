@@ -35,6 +35,7 @@ complete -c ftpd -n '__fish_seen_subcommand_from serve' -l share-by -x -a 'sessi
 complete -c ftpd -n '__fish_seen_subcommand_from check-config' -l json -d 'Print the report as JSON'
 complete -c ftpd -n '__fish_seen_subcommand_from check-config' -l against -r -F -d 'Print what a server with that configuration would change'
 complete -c ftpd -n '__fish_seen_subcommand_from check-config' -l against-running -d 'Print what a server that runs would change'
+complete -c ftpd -n '__fish_seen_subcommand_from check-config' -l share-by -x -a 'sessions users' -d 'Among whom the line is to be shared'
 complete -c ftpd -n '__fish_seen_subcommand_from plan' -l json -d 'Print the plan as JSON'
 complete -c ftpd -n '__fish_seen_subcommand_from plan' -l share-by -x -a 'sessions users' -d 'Among whom the line is shared'
 complete -c ftpd -n '__fish_seen_subcommand_from top' -l once -d 'Show what the file says once'

@@ -1,7 +1,8 @@
 """A second reading of the report on a configuration: docs/configuration.md, octet by octet.
 
 `lines` and `as_json` answer what `ftpd check-config` is wanted to print for a configuration that is accepted, given as its
-TOML table and as what is there on the machine. Nothing here knows how the program goes about it.
+TOML table, as what is there on the machine, and as the way in which the line is to be shared. Nothing here knows how the
+program goes about it.
 """
 import json
 from collections import namedtuple
@@ -124,7 +125,7 @@ def warnings_of_server(stated, machine):
         yield "everybody on this machine may read the passwords of this file; make it readable by its owner and group alone"
 
 
-def warnings_of_user(stated, machine, user):
+def warnings_of_user(stated, machine, user, share_by):
     name = user["name"]
     if not name:
         yield "the name of a user is empty, so nobody can log in by it"
@@ -143,13 +144,15 @@ def warnings_of_user(stated, machine, user):
     is_unlisted = not stated.in_memory and machine.root != LISTED
     if not is_unlisted and names(user["home"]) and names(user["home"]) not in there:
         yield f"{user['home']}, the home of user {name}, is no directory"
+    if (share_by, name) == ("users", "anonymous"):
+        yield f"user {name}: all its sessions are one user, and share one part in each direction"
 
 
-def warnings(stated, machine):
+def warnings(stated, machine, share_by):
     yield from warnings_of_root(stated, machine)
     yield from warnings_of_server(stated, machine)
     for user in stated.users:
-        yield from warnings_of_user(stated, machine, user)
+        yield from warnings_of_user(stated, machine, user, share_by)
 
 
 # ---- lines
@@ -217,9 +220,10 @@ def of_users(stated):
                 yield f"  at {head}: {user[key]}"
 
 
-def lines(table, machine):
+def lines(table, machine, share_by):
     stated = Stated(table)
-    found = [*of_server(stated), "", *of_rates(stated), "", *of_users(stated), *(f"warning: {it}" for it in warnings(stated, machine))]
+    warned = [f"warning: {it}" for it in warnings(stated, machine, share_by)]
+    found = [*of_server(stated), "", *of_rates(stated), "", *of_users(stated), *warned]
     return "".join(f"{line}\n" for line in found)
 
 
@@ -241,7 +245,7 @@ def of_server_in_json(stated):
     }
 
 
-def as_json(table, machine):
+def as_json(table, machine, share_by):
     """The report as one line of JSON, with members in the order of their names."""
     stated = Stated(table)
     found = {
@@ -251,6 +255,6 @@ def as_json(table, machine):
         "unit": "octets a second",
         "users": [of_user(user) for user in stated.users],
         "version": 1,
-        "warnings": list(warnings(stated, machine)),
+        "warnings": list(warnings(stated, machine, share_by)),
     }
     return json.dumps(found, sort_keys=True, separators=(",", ":"), ensure_ascii=False) + "\n"

@@ -19,6 +19,8 @@ OTHER = "127.0.0.2"
 PIDFD_OPEN, PIDFD_GETFD = 434, 438
 # More than the sockets of a connection hold, both sides together.
 MUCH = 24_000_000
+# The time in which an ABOR is answered, in seconds, of half of some tries.
+AT_ONCE = 0.03
 # How far two clocks of one machine may be apart in seconds: that of the store counts whole ones.
 APART = 2
 
@@ -418,6 +420,112 @@ def who_waits_for_a_lane_sleeps():
             it.close()
 
 
+def stalled(server, count):
+    """Clients with a download each that nobody reads, and their data connections."""
+    clients = [Client(server) for _ in range(count)]
+    datas = [client.passive(room=65_536) for client in clients]
+    for client in clients:
+        client.says("RETR big", "150 Opening data connection")
+    return clients, datas
+
+
+def a_transfer_that_moves(server, client):
+    """A download that nobody reads: its lane waits for its data connection."""
+    data = client.passive(room=65_536)
+    client.says("RETR big", "150 Opening data connection")
+    return data
+
+
+def an_upload_that_moves(server, client):
+    """An upload of which nothing comes: its lane waits for its data connection."""
+    data = client.passive()
+    client.says("STOR up", "150 Opening data connection")
+    return data
+
+
+def a_transfer_without_a_client(server, client):
+    """A transfer that waits for its client at a passive port."""
+    client.passive_port()
+    client.says("RETR big", "150 Opening data connection")
+
+
+def a_transfer_without_an_answer(server, client):
+    """A transfer that waits for the answer of its client's port: one whose queue is full, of which the machine drops what comes."""
+    listener = socket.socket()
+    listener.bind(("127.0.0.1", 0))
+    listener.listen(0)
+    waiting = [socket.socket() for _ in range(4)]
+    for it in waiting:
+        it.setblocking(False)
+        it.connect_ex(listener.getsockname())
+    port = listener.getsockname()[1]
+    client.says(f"PORT 127,0,0,1,{port // 256},{port % 256}", "200 OK")
+    client.says("RETR big", "150 Opening data connection")
+    return listener, waiting
+
+
+def an_abort_is_answered_at_once():
+    """ABOR is answered at once whatever its transfer waits for: a session waits for its client and for its transfer at the same time. The times are printed, with the load."""
+    states = (a_transfer_that_moves, an_upload_that_moves, a_transfer_without_a_client, a_transfer_without_an_answer)
+    tries, told, slow = 11, [], []
+    with Server(sessions=0, root="folder", files={"big": 100_000_000}, passive=40, server="max_cons = 8", stop=True) as server:
+        for state in states:
+            client, taken = Client(server), []
+            for number in range(tries):
+                kept = state(server, client)
+                # (by now the session waits: a look each 50 milliseconds, or more seldom, would answer late)
+                time.sleep(0.22 + number / 100)
+                begun = time.monotonic()
+                client.says("ABOR", "426 Transfer aborted", "226 Abort done")
+                taken.append(time.monotonic() - begun)
+                del kept
+            client.quit()
+            median = sorted(taken)[tries // 2]
+            told.append(f"{state.__name__} {1000 * median:.1f}")
+            slow += [told[-1]] if median > AT_ONCE * slack() else []
+        server.stop()
+        server.ended()
+    print(f"an_abort_is_answered_at_once: milliseconds, with a load of {os.getloadavg()[0]:.1f}: {', '.join(told)}", flush=True)
+    if slow:
+        raise Late(f"half of the replies to ABOR came later than after {1000 * AT_ONCE:.0f} milliseconds: {', '.join(slow)}")
+
+
+def a_session_with_a_transfer_rests():
+    """While a transfer moves its session sleeps, until its client or the end wakes it: a second has few of its own looks."""
+    with Server(sessions=0, root="folder", files={"big": 100_000_000}, server="max_cons = 9", passive=9, stop=True) as server:
+        clients, datas = stalled(server, 8)
+        time.sleep(1)
+        before, used = sleeps(server.process.pid), processor_seconds(server)
+        time.sleep(3)
+        after = sleeps(server.process.pid)
+        used = processor_seconds(server) - used
+        slept = sorted((after[it] - before.get(it, 0) for it in after), reverse=True)
+        # (a wait and a read each 200 milliseconds; besides the sessions the server has threads that look ten times a second)
+        want(sum(it > 50 for it in slept) <= 3, f"sleeps of the threads in three seconds: {slept}")
+        want(used < 0.5, f"{used:.2f} seconds of a processor in three")
+        same(server.bells(), 8, "a bell for each session with a transfer")
+        server.stop()
+        server.ended()
+        for it in (*clients, *datas):
+            it.close()
+
+
+def a_bell_for_a_place():
+    """The place of a connection keeps the bell that was made with the first transfer there that a lane ran: none is made before, and no further one after."""
+    with Server(sessions=0, root="folder", files={"big": 1_000_000}, server="max_cons = 1", passive=4, stop=True) as server:
+        for number in range(3):
+            threads, client = server.threads(), Client(server)
+            same(server.bells(), min(number, 1), "bells before a transfer")
+            for _ in range(3):
+                client.store("up", bytes(500_000))
+                same(len(client.retrieve("big")), 1_000_000, "the file")
+            same(server.bells(), 1, "bells after it")
+            client.quit()
+            until(lambda: server.threads() == threads, "the end of the session")
+        server.stop()
+        server.ended()
+
+
 def a_reply_comes_with_its_end():
     """The session is woken by the end of a transfer that a lane runs: half of the replies come sooner than by its own looks, 50 milliseconds apart."""
     taken = []
@@ -503,6 +611,9 @@ ROWS = [
     a_brief_download_wakes_no_lane,
     who_waits_for_a_lane_sleeps,
     a_reply_comes_with_its_end,
+    an_abort_is_answered_at_once,
+    a_session_with_a_transfer_rests,
+    a_bell_for_a_place,
     files_of_any_length,
     four_thousand_users_are_served,
     one_guarantee_comes_back_once,

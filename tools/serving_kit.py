@@ -170,7 +170,7 @@ class Server:
         signs = [*(["--stop-file", "stop"] if stop else []), *(["--drain-file", "drain"] if drain else []), *(["--reload-file", "reload"] if reload else [])]
         self.words = [*signs, *(["--login-delay", "0"] if words is None else words)]
         self.before, self.mode = before, mode
-        self.process, self.port = None, port
+        self.process, self.port, self.own_counters = None, port, 0
         if self.folder:
             os.mkdir(self.folder)
             for path, octets in (files or {}).items():
@@ -212,6 +212,7 @@ class Server:
         words += [SERVER, "serve", "ftpd.toml", *self.words]
         self.process = subprocess.Popen(words, cwd=self.place, stdin=subprocess.DEVNULL, stdout=self.output, stderr=self.notes, env={})
         until(lambda: self.told().startswith("ready\n") or os.path.exists(f"{self.place}/started") or self.process.poll() is not None, "ready")
+        self.own_counters = self.counters()
 
     def __enter__(self):
         for _ in range(5):
@@ -288,7 +289,21 @@ class Server:
         return len(os.listdir(f"/proc/{self.process.pid}/task"))
 
     def open_files(self):
-        return len(os.listdir(f"/proc/{self.process.pid}/fd"))
+        """Number of its open files, but for the bells of its sessions: the place of a connection keeps the one that it has."""
+        return len(os.listdir(f"/proc/{self.process.pid}/fd")) - self.bells()
+
+    def bells(self):
+        """Number of the bells that sessions have had made, one for a place at most."""
+        return self.counters() - self.own_counters
+
+    def counters(self):
+        """Number of its counters (eventfd(2)): its sessions' bells, and those that end its own waits."""
+        found, at = 0, f"/proc/{self.process.pid}/fd"
+        with contextlib.suppress(FileNotFoundError):
+            for number in os.listdir(at):
+                with contextlib.suppress(FileNotFoundError):
+                    found += os.readlink(f"{at}/{number}") == "anon_inode:[eventfd]"
+        return found
 
     def ways_open(self, path):
         """How the process has a file of its folder open, once for each time: for reading, for writing, or both."""

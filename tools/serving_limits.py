@@ -106,8 +106,8 @@ def few_files_are_noted():
     """Too few open files are warned of at the start, by the soft limit alone; connections that find none are noted once a second, and a port that finds none."""
     with Server(sessions=0, root="folder", files={"f": b"a\nb"}, server="max_cons = 100", passive=100, stop=True, before="ulimit -S -n 200") as server:
         hard = resource.prlimit(server.process.pid, resource.RLIMIT_NOFILE)[1]
-        want(hard >= 516, f"the hard limit: {hard}")
-        until(lambda: re.search(r"^\[WARN \] \S+Z too few open files are allowed: 200 of the 516 ", server.noted()), "a warning of the start")
+        want(hard >= 616, f"the hard limit: {hard}")
+        until(lambda: re.search(r"^\[WARN \] \S+Z too few open files are allowed: 200 of the 616 ", server.noted()), "a warning of the start")
         clients = [Client(server) for _ in range(3)]
         files = server.open_files()
         resource.prlimit(server.process.pid, resource.RLIMIT_NOFILE, (files, hard))

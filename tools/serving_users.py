@@ -1,10 +1,12 @@
 """What each user has of a line that users share: rows of `tools/serving`, each with a server of its own."""
-from serving_kit import Server, want
+from serving_kit import Late, Server, slack, want
 from serving_pace import read_until
 from serving_reload import begun, closed, text_of
 
 # (a sixteenth of it is twelve whole segments a second)
 LINE = 800_000
+# In 64 ms, the longest time between two rounds, it earns four times what a transfer asks for at most.
+LARGE_LINE = 4_000_000
 WORDS = ["--login-delay", "0", "--share-by", "users"]
 BIG = {"big": 400_000_000}
 
@@ -17,11 +19,11 @@ def served(users, rate=LINE, more="", words=WORDS):
     return server
 
 
-def shared(groups, seconds):
+def shared(groups, seconds, line=LINE):
     """The parts of what comes in so many seconds of the line that each group of downloads has, once they all run."""
     datas = [data for pairs in groups for _, data in pairs]
-    read_until(datas, LINE)
-    had = read_until(datas, seconds * LINE)
+    read_until(datas, line)
+    had = read_until(datas, seconds * line)
     parts, place = [], 0
     for pairs in groups:
         parts.append([it / sum(had) for it in had[place : place + len(pairs)]])
@@ -76,6 +78,19 @@ def a_guarantee_comes_before_the_share_of_a_user():
             closed(pairs)
 
 
+def a_large_guarantee_beside_many():
+    """The session of ann is guaranteed three quarters of a line, and has them beside bob's fifteen downloads, among users and among sessions: rounds are held as often as she has to ask."""
+    for words in (WORDS, WORDS[:2]):
+        with served({"ann": f"session_down_floor = {LARGE_LINE * 3 // 4}", "bob": ""}, rate=LARGE_LINE, words=words) as server:
+            groups = [begun(server, 1, "ann"), begun(server, 15, "bob")]
+            parts = shared(groups, 4, LARGE_LINE)
+            # (on a busy machine she asks too late for some rounds)
+            if parts[0][0] < 3 / 5 / slack():
+                raise Late(f"three quarters of the line are guaranteed: {parts}")
+            for pairs in groups:
+                closed(pairs)
+
+
 def users_share_across_a_reload():
     """The line is halved while nine downloads run: ann still has half of it, and each of bob's eight a sixteenth."""
     users = {"ann": "", "bob": ""}
@@ -94,5 +109,6 @@ ROWS = [
     users_within_a_group,
     what_a_session_rate_leaves_goes_to_the_others,
     a_guarantee_comes_before_the_share_of_a_user,
+    a_large_guarantee_beside_many,
     users_share_across_a_reload,
 ]

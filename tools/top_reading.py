@@ -1,12 +1,38 @@
 """A second reading of the table of `ftpd top`, from docs/top.md: lines of a status, given those of a second and ten seconds before."""
+import unicodedata
+
 MOST = 2**64 - 1
 KINDS = (("server", "server"), ("direction", "server {way}"), ("group", "group {group} {way}"), ("user", "user {user} {way}"),
          ("session", "session {way}"), ("nothing", "client"))
 
 
+def is_shown(c):
+    """Printable ASCII, and any letter, mark, number, sign of punctuation or symbol."""
+    return " " <= c <= "~" or unicodedata.category(c)[0] in "LMNPS"
+
+
 def shown(text):
-    """A name as a screen has it: other characters by their numbers."""
-    return "".join(c if " " <= c <= "~" and c != "\\" else f"\\u{{{ord(c):x}}}" for c in text)
+    """A name as a screen has it: other characters, and a backslash, by their numbers."""
+    return "".join(c if is_shown(c) and c != "\\" else f"\\u{{{ord(c):x}}}" for c in text)
+
+
+def columns(c):
+    """The columns of a character: none of a mark that lies over the one before, two of a wide one."""
+    return 0 if unicodedata.category(c) in ("Mn", "Me") else 2 if unicodedata.east_asian_width(c) in "FW" else 1
+
+
+def wide(text):
+    return sum(columns(c) for c in text)
+
+
+def front(space, text):
+    """The longest front that is at most so wide."""
+    return next(text[:end] for end in range(len(text), -1, -1) if wide(text[:end]) <= space)
+
+
+def ending(space, text):
+    """The longest end that is at most so wide and begins with no mark."""
+    return next((text[at:] for at in range(len(text)) if wide(text[at:]) <= space and columns(text[at])), "")
 
 
 def amount(n):
@@ -19,7 +45,8 @@ def limit(rate):
 
 
 def left(width, text):
-    return text[:width - 1].ljust(width)
+    text = front(width - 1, text)
+    return text + " " * (width - wide(text))
 
 
 def per_second(octets, micros):
@@ -116,7 +143,7 @@ def entry(earlier, past, now, it):
     rates = [rate for rate in (it["session_rate"], it["user_rate"]) if rate]
     done = f"{min(100, it['moved'] * 100 // it['size']) if it['size'] else 100}%" if it["size"] is not None else amount(it["moved"])
     path = "a listing" if it["path"] is None else shown(it["path"])
-    path = path if len(path) <= 28 else "..." + path[-25:]
+    path = path if wide(path) <= 28 else "..." + ending(25, path)
     return [left(7, f"#{it['session']}") + left(11, shown(it["user"])) + left(9, shown(it["group"]) if it["group"] is not None else "-")
             + left(16, it["peer"]) + left(5, it["direction"]) + amount(rate_of(past, now, it)).rjust(8)
             + amount(rate_of(earlier, now, it)).rjust(8) + limit(it["guaranteed"]).rjust(8) + limit(min(rates, default=0)).rjust(8),
@@ -176,4 +203,4 @@ def table(earlier, past, now, rows):
         body += [user_line(past, now, it) for it in users[:first]] + [group_line(past, now, it) for it in groups[:others]]
         if not fit:
             body.append(f"{len(users) - first} users and {len(groups) - others} groups are not shown")
-    return "".join(line[:80] + "\n" for line in (head + body)[:rows])
+    return "".join(front(80, line) + "\n" for line in (head + body)[:rows])

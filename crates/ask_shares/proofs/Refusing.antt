@@ -11,9 +11,16 @@ use Rattle.line_rates.specs.TickTree.{Asker, ask_in}
 use Rattle.line_rates.specs.declared.ask.Ask.{Ask}
 use Rattle.line_rates.specs.declared.fault.PlanFault.TheVariants.{Tree as Planned}
 use Rattle.ask_shares.specs.Leaves.{AreNumbered}
-use Rattle.ask_shares.specs.Faults.{IsNotOfGuarantees}
+use Rattle.fair_shares.specs.Faults.{IsFairFault}
+use Rattle.fair_shares.specs.declared.fault.FairFault.{FairFault}
+use Rattle.fair_shares.specs.declared.fault.FairFault.TheVariants as fair
+use Rattle.fair_shares.proofs.LargeUsers.{large_moved}
+use Rattle.fair_terms.specs.Wants.{HasLargeUser}
+use Rattle.line_rates.specs.declared.share_by.ShareBy.{ShareBy}
+use Rattle.ask_shares.specs.Faults.{IsNotOfGuarantees, IsUnshared, unshared_fault}
 use Rattle.ask_shares.specs.Shares.{HasTreeFault}
-use Rattle.ask_shares.specs.declared.fault.NotShared.TheVariants.{Tree}
+use Rattle.ask_shares.specs.declared.fault.NotShared.{NotShared}
+use Rattle.ask_shares.specs.declared.fault.NotShared.TheVariants.{Tree, Unshared, Memory}
 use Rattle.ask_shares.proofs.Shared.{mapped_is}
 
 pub numbered_asks : (asks : List Ask) (numbered : List Asker) → AreNumbered asks numbered → map ask_in numbered ≡ asks
@@ -36,3 +43,16 @@ of_floors WantTooLarge is = tt
 of_floors LimitTooLarge is = tt
 of_floors FloorTooLarge is = tt
 of_floors (FloorsOverLimit branch) is = is
+
+-- shares that are not found, by the fault of their grants
+pub unshared_is : (by : ShareBy) (asks : List Ask) (e : FairFault) → IsFairFault by asks e → IsUnshared by asks (unshared_fault e)
+unshared_is by asks fair.Memory h = tt
+unshared_is by asks fair.Unshared h = h
+
+-- the same for the asks in another order
+pub unshared_moved : (by : ShareBy) (asks made : List Ask) (numbered order : List Asker) (e : NotShared) → AreNumbered asks numbered → IsPermutation numbered order → made ≡ map ask_in order → IsUnshared by made e → IsUnshared by asks e
+unshared_moved by asks made numbered order (Tree fault) are p is h = h
+unshared_moved by asks made numbered order Memory are p is h = tt
+unshared_moved by asks made numbered order Unshared are p is h =
+    subst (λ (xs : List Ask). HasLargeUser by xs) (numbered_asks asks numbered are)
+    (large_moved by numbered order p (subst (λ (xs : List Ask). HasLargeUser by xs) is h))

@@ -11,8 +11,8 @@ pub enum NotShared {
     /// The tree of the tick is refused: an ask wants more than `MAX_WANT`, or guarantees are above a limit.
     #[error("{0}")]
     Tree(TreeFault),
-    /// The line is shared among users, and no shares were found that are best by users.
-    #[error("no division among the users was found")]
+    /// The line is shared among users, and the asks of one of them, in one way, want more than `MAX_WANT` together.
+    #[error("the asks of one user want too much")]
     Unshared,
     /// Memory ran out.
     #[error("out of memory")]

@@ -85,7 +85,7 @@ pub(crate) fn fair_leaves<L: Allocator, A: Allocator + Clone>(
     requires lanes { length lanes.now ≡ length asks.now }
     ensures shares { IfOk result
         (λ shares. AreBestLeaves limits.now tick asks.now lanes.now (seen tree) shares.items) }
-    ensures fault { IfErr result (IsUnshared limits.now.share_by) }
+    ensures fault { IfErr result (IsUnshared limits.now.share_by asks.now) }
 {
     let sealed = share_tree(alloc.clone()?, limits.share_by(), asks, tree)?;
     let shares = leaf_shares(alloc, limits, tick, asks, lanes, &sealed)?;

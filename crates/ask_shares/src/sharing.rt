@@ -72,7 +72,7 @@ fn shares_in<L: Allocator, A: Allocator + Clone>(
         × IsPlan limits.now tick numbered (seen plan.tree) plan.lanes.items }
     ensures shares { IfOk result (λ shares. AreAskShares limits.now tick asks.now shares.items) }
     ensures names { IfOk result (λ shares. KeepNames limits.now tick shares.items) }
-    ensures fault { IfErr result (IsUnshared limits.now.share_by) }
+    ensures fault { IfErr result (IsUnshared limits.now.share_by asks.now) }
 {
     grants_keep_names();
     let Plan { tree, lanes } = plan;
@@ -92,8 +92,8 @@ fn shares_in<L: Allocator, A: Allocator + Clone>(
 /// guarantee of its session for itself.
 ///
 /// Returns `Tree` if an ask wants more than `MAX_WANT`, or if the guarantees of the asks under one name are above its
-/// limit in the tick; `Memory` if memory runs out; among users `Unshared` if no such shares are found, which tests have met
-/// only if some user wants more than `MAX_WANT` together.
+/// limit in the tick; `Memory` if memory runs out; among users `Unshared` only if the asks of some user, in one way, want
+/// more than `MAX_WANT` together.
 pub fn share_asks<L: Allocator, A: Allocator + Clone>(
     alloc: A,
     limits: &Limits<L>,

@@ -6,9 +6,8 @@ ghost use Rattle.client_door.specs.declared.heard.Arrival.TheVariants.{Bell, Nob
 ghost use Rattle.client_door.specs.declared.heard.Heard.TheVariants.{Knock, Refusal, Ring, Silence};
 
 use crate::bell::DoorBell;
-use crate::heard::{Arrival, Heard, arrival_of, heard_by};
-use libc::net::POLLIN;
-use libc::types::pollfd;
+use crate::heard::{Arrival, Heard, arrival_of};
+use crate::pair::await_either;
 use std::io;
 use std::net::{Net, SocketAddr, TcpListener, TcpStream};
 use std::os::fd::{AsRawFd, RawFd};
@@ -38,20 +37,7 @@ impl ClientDoor {
 
     // Waits until somebody may be at the door or the bell was rung, at most this time, in milliseconds.
     fn wait(&self, bell: &DoorBell, millis: u16) -> Heard {
-        let mut asked = [
-            pollfd {
-                fd: self.listener.as_raw_fd(),
-                events: POLLIN,
-                revents: 0,
-            },
-            pollfd {
-                fd: bell.as_raw_fd(),
-                events: POLLIN,
-                revents: 0,
-            },
-        ];
-        let answer = libc::net::poll(&mut asked, i32::from(millis));
-        heard_by(answer, asked[0].revents, asked[1].revents)
+        await_either(&self.listener, bell, millis)
     }
 
     /// Lets a client in that is at the door; it waits for nobody.

@@ -1,5 +1,5 @@
 -- The words of `check-config` with another configuration are taken, and what the parser then holds of them.
-use Rattle.std.proofs.Common.{◌∙◌, ap, refl, codes, true, false, ◌≡◌, ◌==◌, ℕ, List, [], ◌∷◌, Some}
+use Rattle.std.proofs.Common.{◌∙◌, ap, refl, codes, true, false, ◌≡◌, ◌==◌, ℕ, List, [], ◌∷◌, None, Some}
 use Rattle.std.specs.Prelude.{unwrap_or}
 use Rattle.std.specs.List.{find, list_all}
 use Rattle.std.proofs.lemmas.Bool.{ne_eqb}
@@ -136,6 +136,10 @@ lines_still : (config other : Text) → is_flagged (codes "against-running") (li
 unfolding clap_on_literals
 lines_still config other = refl
 
+lines_unshared : (config other : Text) → first_of (codes "share-by") (lines_last config other) ≡ None
+unfolding clap_on_literals
+lines_unshared config other = refl
+
 -- what the parser makes of those words
 pub record ChecksAgainst (word other : List ℕ) : Type 0 where
   pub rows : List Row
@@ -145,6 +149,7 @@ pub record ChecksAgainst (word other : List ℕ) : Type 0 where
   pub flag : is_flagged (codes "json") rows ≡ false
   pub against : first_of (codes "against") rows ≡ Some other
   pub still : is_flagged (codes "against-running") rows ≡ false
+  pub unshared : first_of (codes "share-by") rows ≡ None
 
 pub checks_against : (config other : List ℕ) → IsPlainWord config → IsPlainWord other → ChecksAgainst config other
 checks_against config other plain also =
@@ -158,6 +163,7 @@ checks_against config other plain also =
       flag = lines_flag config other;
       against = lines_other config other;
       still = lines_still config other;
+      unshared = lines_unshared config other;
     }
 
 json_walks : (config other : Text) → IsPlainWord config → IsPlainWord other
@@ -217,6 +223,10 @@ json_still : (config other : Text) → is_flagged (codes "against-running") (jso
 unfolding clap_on_literals
 json_still config other = refl
 
+json_unshared : (config other : Text) → first_of (codes "share-by") (json_last config other) ≡ None
+unfolding clap_on_literals
+json_unshared config other = refl
+
 -- what the parser makes of those words
 pub record ChecksAgainstJson (word other : List ℕ) : Type 0 where
   pub rows : List Row
@@ -226,6 +236,7 @@ pub record ChecksAgainstJson (word other : List ℕ) : Type 0 where
   pub flag : is_flagged (codes "json") rows ≡ true
   pub against : first_of (codes "against") rows ≡ Some other
   pub still : is_flagged (codes "against-running") rows ≡ false
+  pub unshared : first_of (codes "share-by") rows ≡ None
 
 pub checks_against_json : (config other : List ℕ) → IsPlainWord config → IsPlainWord other → ChecksAgainstJson config other
 checks_against_json config other plain also =
@@ -239,4 +250,5 @@ checks_against_json config other plain also =
       flag = json_flag config other;
       against = json_other config other;
       still = json_still config other;
+      unshared = json_unshared config other;
     }

@@ -126,8 +126,8 @@ ftpd_found any words p port lines way none stated =
           λ _ is.
               let found = one_found _ _ e _ is (codes "CONFIG") refl refl in
               let other = first_of (codes "against") found.1 in (
-                CheckConfig (at_place any found.0) (is_flagged (codes "json") found.1) (option_map (at_place any) other) (is_flagged (codes "against-running") found.1),
-                (found.1, found.2, found.3, refl, if_any any other, refl),
+                CheckConfig (at_place any found.0) (is_flagged (codes "json") found.1) (option_map (at_place any) other) (is_flagged (codes "against-running") found.1) way,
+                (found.1, found.2, found.3, refl, if_any any other, refl, stated.3 found.1 found.2),
               ),
           (
             λ _ is.
@@ -211,7 +211,7 @@ sheet_named : (P : SheetWords → Type 0) (found : Option (Text × List Row)) (c
     → bytes_eq name (codes "top") ≡ false → bytes_eq name (codes "usage") ≡ false
     → ((words : SheetWords) → IsSheetFound found words → P words) → IsFound found command → IsOfSheets P command
 sheet_named P found (Sheet words) rows name named config migrate script serve plan top usage holds is = holds words is
-sheet_named P found (CheckConfig config json against running) rows name named config_apart migrate_apart script_apart serve_apart plan_apart top_apart usage_apart holds (other, same, given, flag, also, on) = absurd (different _ _ _ _ _ config_apart named same)
+sheet_named P found (CheckConfig config json against running share_by) rows name named config_apart migrate_apart script_apart serve_apart plan_apart top_apart usage_apart holds (other, same, given, flag, also, on, way) = absurd (different _ _ _ _ _ config_apart named same)
 sheet_named P found (Migrate config) rows name named config_apart migrate_apart script_apart serve_apart plan_apart top_apart usage_apart holds (other, same, given) = absurd (different _ _ _ _ _ migrate_apart named same)
 sheet_named P found (Script config) rows name named config_apart migrate_apart script_apart serve_apart plan_apart top_apart usage_apart holds (other, same, given) = absurd (different _ _ _ _ _ script_apart named same)
 sheet_named P found (Serve config files patience) rows name named config_apart migrate_apart script_apart serve_apart plan_apart top_apart usage_apart holds (other, same, given, path, ready, drain, again, runs, log, form, status, ender, most, syncs, way, port, also) = absurd (different _ _ _ _ _ serve_apart named same)
@@ -230,24 +230,25 @@ check_of_sheets found command rows word also named first second is =
     sheet_named (IsCheck word also (first_of (codes "by") rows)) found command rows (codes "check") named refl refl refl refl refl refl refl (λ words held. check_is found words rows word also named first second held) is
 
 pub check_config_is : (found : Option (Text × List Row)) (command : Words) (rows : List Row) (word : Text) → found ≡ Some (codes "check-config", rows) → first_of (codes "CONFIG") rows ≡ Some word
-    → IsFound found command → IsCheckConfig word (is_flagged (codes "json") rows) (first_of (codes "against") rows) (is_flagged (codes "against-running") rows) command
-check_config_is found (Sheet (Share sheet svg by)) rows word named first (other, same, given, flag, users) = absurd (different _ _ _ _ _ refl named same)
-check_config_is found (Sheet (Check sheet grants by)) rows word named first (other, same, given, also, users) = absurd (different _ _ _ _ _ refl named same)
-check_config_is found (CheckConfig config json against running) rows word named first (other, same, given, flag, also, on) =
+    → first_of (codes "share-by") rows ≡ None → IsFound found command → IsCheckConfig word (is_flagged (codes "json") rows) (first_of (codes "against") rows) (is_flagged (codes "against-running") rows) command
+check_config_is found (Sheet (Share sheet svg by)) rows word named first unshared (other, same, given, flag, users) = absurd (different _ _ _ _ _ refl named same)
+check_config_is found (Sheet (Check sheet grants by)) rows word named first unshared (other, same, given, also, users) = absurd (different _ _ _ _ _ refl named same)
+check_config_is found (CheckConfig config json against running share_by) rows word named first unshared (other, same, given, flag, also, on, way) =
     let are = same_rows _ _ _ _ _ named same in
-    (cc, flag ∙ sym (ap (is_flagged (codes "json")) are), cc, on ∙ sym (ap (is_flagged (codes "against-running")) are))
-check_config_is found (Migrate config) rows word named first (other, same, given) = absurd (different _ _ _ _ _ refl named same)
-check_config_is found (Script config) rows word named first (other, same, given) = absurd (different _ _ _ _ _ refl named same)
-check_config_is found (Serve config files patience) rows word named first (other, same, given, path, ready, drain, again, runs, log, form, status, ender, most, syncs, way, port, also) = absurd (different _ _ _ _ _ refl named same)
-check_config_is found (Plan config transfers json share_by) rows word named first (other, same, given, also, flag, way) = absurd (different _ _ _ _ _ refl named same)
-check_config_is found (Top status once lines) rows word named first (other, same, given, flag, count) = absurd (different _ _ _ _ _ refl named same)
-check_config_is found Usage rows word named first (other, same) = absurd (different _ _ _ _ _ refl named same)
+    let of = subst (λ (r : List Row). IsWayIn r share_by) (sym are) way in
+    (cc, flag ∙ sym (ap (is_flagged (codes "json")) are), cc, on ∙ sym (ap (is_flagged (codes "against-running")) are), subst (λ (o : Option Text). IsWayOf o share_by) unshared of)
+check_config_is found (Migrate config) rows word named first unshared (other, same, given) = absurd (different _ _ _ _ _ refl named same)
+check_config_is found (Script config) rows word named first unshared (other, same, given) = absurd (different _ _ _ _ _ refl named same)
+check_config_is found (Serve config files patience) rows word named first unshared (other, same, given, path, ready, drain, again, runs, log, form, status, ender, most, syncs, way, port, also) = absurd (different _ _ _ _ _ refl named same)
+check_config_is found (Plan config transfers json share_by) rows word named first unshared (other, same, given, also, flag, way) = absurd (different _ _ _ _ _ refl named same)
+check_config_is found (Top status once lines) rows word named first unshared (other, same, given, flag, count) = absurd (different _ _ _ _ _ refl named same)
+check_config_is found Usage rows word named first unshared (other, same) = absurd (different _ _ _ _ _ refl named same)
 
 pub migrate_is : (found : Option (Text × List Row)) (command : Words) (rows : List Row) (word : Text) → found ≡ Some (codes "migrate", rows) → first_of (codes "CONFIG") rows ≡ Some word
     → IsFound found command → IsMigrate word command
 migrate_is found (Sheet (Share sheet svg by)) rows word named first (other, same, given, flag, users) = absurd (different _ _ _ _ _ refl named same)
 migrate_is found (Sheet (Check sheet grants by)) rows word named first (other, same, given, also, users) = absurd (different _ _ _ _ _ refl named same)
-migrate_is found (CheckConfig config json against running) rows word named first (other, same, given, flag, also, on) = absurd (different _ _ _ _ _ refl named same)
+migrate_is found (CheckConfig config json against running share_by) rows word named first (other, same, given, flag, also, on, way) = absurd (different _ _ _ _ _ refl named same)
 migrate_is found (Migrate config) rows word named first (other, same, given) = let are = same_rows _ _ _ _ _ named same in cc
 migrate_is found (Script config) rows word named first (other, same, given) = absurd (different _ _ _ _ _ refl named same)
 migrate_is found (Serve config files patience) rows word named first (other, same, given, path, ready, drain, again, runs, log, form, status, ender, most, syncs, way, port, also) = absurd (different _ _ _ _ _ refl named same)
@@ -259,7 +260,7 @@ pub script_is : (found : Option (Text × List Row)) (command : Words) (rows : Li
     → IsFound found command → IsScript word command
 script_is found (Sheet (Share sheet svg by)) rows word named first (other, same, given, flag, users) = absurd (different _ _ _ _ _ refl named same)
 script_is found (Sheet (Check sheet grants by)) rows word named first (other, same, given, also, users) = absurd (different _ _ _ _ _ refl named same)
-script_is found (CheckConfig config json against running) rows word named first (other, same, given, flag, also, on) = absurd (different _ _ _ _ _ refl named same)
+script_is found (CheckConfig config json against running share_by) rows word named first (other, same, given, flag, also, on, way) = absurd (different _ _ _ _ _ refl named same)
 script_is found (Migrate config) rows word named first (other, same, given) = absurd (different _ _ _ _ _ refl named same)
 script_is found (Script config) rows word named first (other, same, given) = let are = same_rows _ _ _ _ _ named same in cc
 script_is found (Serve config files patience) rows word named first (other, same, given, path, ready, drain, again, runs, log, form, status, ender, most, syncs, way, port, also) = absurd (different _ _ _ _ _ refl named same)
@@ -271,7 +272,7 @@ pub serve_is : (found : Option (Text × List Row)) (command : Words) (rows : Lis
     → IsPatienceIn rows p → IsFound found command → IsServe word (first_of (codes "stop-file") rows) (first_of (codes "ready-file") rows) p command
 serve_is found (Sheet (Share sheet svg by)) rows word p named first states (other, same, given, flag, users) = absurd (different _ _ _ _ _ refl named same)
 serve_is found (Sheet (Check sheet grants by)) rows word p named first states (other, same, given, also, users) = absurd (different _ _ _ _ _ refl named same)
-serve_is found (CheckConfig config json against running) rows word p named first states (other, same, given, flag, also, on) = absurd (different _ _ _ _ _ refl named same)
+serve_is found (CheckConfig config json against running share_by) rows word p named first states (other, same, given, flag, also, on, way) = absurd (different _ _ _ _ _ refl named same)
 serve_is found (Migrate config) rows word p named first states (other, same, given) = absurd (different _ _ _ _ _ refl named same)
 serve_is found (Script config) rows word p named first states (other, same, given) = absurd (different _ _ _ _ _ refl named same)
 serve_is found (Serve config files patience) rows word p named first states (other, same, given, path, ready, drain, again, runs, log, form, status, ender, most, syncs, way, port, also) =
@@ -285,7 +286,7 @@ pub logged_is : (found : Option (Text × List Row)) (command : Words) (rows : Li
     → IsFound found command → IsLoggedBy word (first_of (codes "transfer-log") rows) (first_of (codes "log-form") rows) command
 logged_is found (Sheet (Share sheet svg by)) rows word named first (other, same, given, flag, users) = absurd (different _ _ _ _ _ refl named same)
 logged_is found (Sheet (Check sheet grants by)) rows word named first (other, same, given, also, users) = absurd (different _ _ _ _ _ refl named same)
-logged_is found (CheckConfig config json against running) rows word named first (other, same, given, flag, also, on) = absurd (different _ _ _ _ _ refl named same)
+logged_is found (CheckConfig config json against running share_by) rows word named first (other, same, given, flag, also, on, way) = absurd (different _ _ _ _ _ refl named same)
 logged_is found (Migrate config) rows word named first (other, same, given) = absurd (different _ _ _ _ _ refl named same)
 logged_is found (Script config) rows word named first (other, same, given) = absurd (different _ _ _ _ _ refl named same)
 logged_is found (Serve config files patience) rows word named first (other, same, given, path, ready, drain, again, runs, log, form, status, ender, most, syncs, way, port, also) =
@@ -299,7 +300,7 @@ pub status_is : (found : Option (Text × List Row)) (command : Words) (rows : Li
     → IsPortIn rows n → IsFound found command → IsStatusBy word (first_of (codes "status") rows) n command
 status_is found (Sheet (Share sheet svg by)) rows word n named first states (other, same, given, flag, users) = absurd (different _ _ _ _ _ refl named same)
 status_is found (Sheet (Check sheet grants by)) rows word n named first states (other, same, given, also, users) = absurd (different _ _ _ _ _ refl named same)
-status_is found (CheckConfig config json against running) rows word n named first states (other, same, given, flag, also, on) = absurd (different _ _ _ _ _ refl named same)
+status_is found (CheckConfig config json against running share_by) rows word n named first states (other, same, given, flag, also, on, way) = absurd (different _ _ _ _ _ refl named same)
 status_is found (Migrate config) rows word n named first states (other, same, given) = absurd (different _ _ _ _ _ refl named same)
 status_is found (Script config) rows word n named first states (other, same, given) = absurd (different _ _ _ _ _ refl named same)
 status_is found (Serve config files patience) rows word n named first states (other, same, given, path, ready, drain, again, runs, log, form, status, ender, most, syncs, way, port, also) =
@@ -313,7 +314,7 @@ pub plan_is : (found : Option (Text × List Row)) (command : Words) (rows : List
     → first_of (codes "TRANSFERS") rows ≡ Some stated → first_of (codes "share-by") rows ≡ None → IsFound found command → IsPlanWords word stated (is_flagged (codes "json") rows) command
 plan_is found (Sheet (Share sheet svg by)) rows word stated named first second unshared (other, same, given, flag, users) = absurd (different _ _ _ _ _ refl named same)
 plan_is found (Sheet (Check sheet grants by)) rows word stated named first second unshared (other, same, given, also, users) = absurd (different _ _ _ _ _ refl named same)
-plan_is found (CheckConfig config json against running) rows word stated named first second unshared (other, same, given, flag, also, on) = absurd (different _ _ _ _ _ refl named same)
+plan_is found (CheckConfig config json against running share_by) rows word stated named first second unshared (other, same, given, flag, also, on, way) = absurd (different _ _ _ _ _ refl named same)
 plan_is found (Migrate config) rows word stated named first second unshared (other, same, given) = absurd (different _ _ _ _ _ refl named same)
 plan_is found (Script config) rows word stated named first second unshared (other, same, given) = absurd (different _ _ _ _ _ refl named same)
 plan_is found (Serve config files patience) rows word stated named first second unshared (other, same, given, path, ready, drain, again, runs, log, form, status, ender, most, syncs, way, port, also) = absurd (different _ _ _ _ _ refl named same)
@@ -327,7 +328,7 @@ pub top_is : (found : Option (Text × List Row)) (command : Words) (rows : List 
     → AreLinesIn rows n → IsFound found command → IsTop word (is_flagged (codes "once") rows) n command
 top_is found (Sheet (Share sheet svg by)) rows word n named first states (other, same, given, flag, users) = absurd (different _ _ _ _ _ refl named same)
 top_is found (Sheet (Check sheet grants by)) rows word n named first states (other, same, given, also, users) = absurd (different _ _ _ _ _ refl named same)
-top_is found (CheckConfig config json against running) rows word n named first states (other, same, given, flag, also, on) = absurd (different _ _ _ _ _ refl named same)
+top_is found (CheckConfig config json against running share_by) rows word n named first states (other, same, given, flag, also, on, way) = absurd (different _ _ _ _ _ refl named same)
 top_is found (Migrate config) rows word n named first states (other, same, given) = absurd (different _ _ _ _ _ refl named same)
 top_is found (Script config) rows word n named first states (other, same, given) = absurd (different _ _ _ _ _ refl named same)
 top_is found (Serve config files patience) rows word n named first states (other, same, given, path, ready, drain, again, runs, log, form, status, ender, most, syncs, way, port, also) = absurd (different _ _ _ _ _ refl named same)

@@ -123,7 +123,8 @@ pub refused_stated : (found : Option (Text × List Row)) (p : Patience) (port : 
     → fault ≡ Memory
 refused_stated found p port lines way fault stated (inl (rows, is, without)) = let states = stated.0 rows is in unnumbered rows p port way fault states.0 states.1 states.2 without
 refused_stated found p port lines way fault stated (inr (inl (rows, is, without))) = refused_by Lines _ _ rows _ fault (stated.1 rows is) without
-refused_stated found p port lines way fault stated (inr (inr (rows, is, without))) = refused_way rows way fault (stated.2 rows is) without
+refused_stated found p port lines way fault stated (inr (inr (inl (rows, is, without)))) = refused_way rows way fault (stated.2 rows is) without
+refused_stated found p port lines way fault stated (inr (inr (inr (rows, is, without)))) = refused_way rows way fault (stated.3 rows is) without
 
 -- the rows that the parser found
 same_found : (found : Option (Text × List Row)) (name also : Text) (rows other : List Row) → found ≡ Some (name, rows) → found ≡ Some (also, other)
@@ -146,6 +147,7 @@ serve_stated found p port rows is states also unshared = (
       (subst (λ (r : List Row). IsPatienceIn r p) same states, subst (λ (r : List Row). IsPortIn r port) same also, subst (λ (r : List Row). IsWayIn r Sessions) same (usual_way rows unshared)),
   λ other equal. absurd (apart_found found _ _ rows other refl is equal),
   λ other equal. absurd (apart_found found _ _ rows other refl is equal),
+  λ other equal. absurd (apart_found found _ _ rows other refl is equal),
 )
 
 -- the number of lines of `top` is that of its rows
@@ -155,6 +157,7 @@ top_stated found lines rows is states = (
   λ other equal.
       let same = ap (λ (f : Text × List Row). f.1) (same_found found _ _ rows other is equal) in
       subst (λ (r : List Row). AreLinesIn r lines) same states,
+  λ other equal. absurd (apart_found found _ _ rows other refl is equal),
   λ other equal. absurd (apart_found found _ _ rows other refl is equal),
 )
 
@@ -166,11 +169,24 @@ plan_stated found rows is unshared = (
   λ other equal.
       let same = ap (λ (f : Text × List Row). f.1) (same_found found _ _ rows other is equal) in
       subst (λ (r : List Row). IsWayIn r Sessions) same (usual_way rows unshared),
+  λ other equal. absurd (apart_found found _ _ rows other refl is equal),
+)
+
+-- so does `check-config`
+pub config_stated : (found : Option (Text × List Row)) (rows : List Row) → found ≡ Some (codes "check-config", rows) → first_of (codes "share-by") rows ≡ None → IsStatedBy found usual_patience None ROWS Sessions
+config_stated found rows is unshared = (
+  λ other equal. absurd (apart_found found _ _ rows other refl is equal),
+  λ other equal. absurd (apart_found found _ _ rows other refl is equal),
+  λ other equal. absurd (apart_found found _ _ rows other refl is equal),
+  λ other equal.
+      let same = ap (λ (f : Text × List Row). f.1) (same_found found _ _ rows other is equal) in
+      subst (λ (r : List Row). IsWayIn r Sessions) same (usual_way rows unshared),
 )
 
 -- another command states none
 pub refused_other : (found : Option (Text × List Row)) (name : Text) (rows : List Row) (fault : WordsFault) → bytes_eq name (codes "serve") ≡ false → bytes_eq name (codes "top") ≡ false
-    → bytes_eq name (codes "plan") ≡ false → found ≡ Some (name, rows) → IsUnnumbered found fault → fault ≡ Memory
-refused_other found name rows fault apart also and is (inl (other, equal, without)) = absurd (apart_found found _ _ rows other apart is equal)
-refused_other found name rows fault apart also and is (inr (inl (other, equal, without))) = absurd (apart_found found _ _ rows other also is equal)
-refused_other found name rows fault apart also and is (inr (inr (other, equal, without))) = absurd (apart_found found _ _ rows other and is equal)
+    → bytes_eq name (codes "plan") ≡ false → bytes_eq name (codes "check-config") ≡ false → found ≡ Some (name, rows) → IsUnnumbered found fault → fault ≡ Memory
+refused_other found name rows fault apart also and more is (inl (other, equal, without)) = absurd (apart_found found _ _ rows other apart is equal)
+refused_other found name rows fault apart also and more is (inr (inl (other, equal, without))) = absurd (apart_found found _ _ rows other also is equal)
+refused_other found name rows fault apart also and more is (inr (inr (inl (other, equal, without)))) = absurd (apart_found found _ _ rows other and is equal)
+refused_other found name rows fault apart also and more is (inr (inr (inr (other, equal, without)))) = absurd (apart_found found _ _ rows other more is equal)

@@ -188,6 +188,11 @@ check_config_still : (b : ℕ) (bs : List ℕ) → (b == 45) ≡ false
 unfolding clap_on_literals
 check_config_still b bs ne = simp ne refl
 
+check_config_unshared : (b : ℕ) (bs : List ℕ) → (b == 45) ≡ false
+    → first_of (codes "share-by") (rows_in (subcommand_of ftpd (codes "check-config" ∷ (b ∷ bs) ∷ []))) ≡ None
+unfolding clap_on_literals
+check_config_unshared b bs ne = simp ne refl
+
 -- what the parser makes of the words of `check-config`
 pub record ChecksConfig (word : List ℕ) : Type 0 where
   pub rows : List Row
@@ -197,12 +202,13 @@ pub record ChecksConfig (word : List ℕ) : Type 0 where
   pub unflagged : is_flagged (codes "json") rows ≡ false
   pub alone : first_of (codes "against") rows ≡ None
   pub still : is_flagged (codes "against-running") rows ≡ false
+  pub unshared : first_of (codes "share-by") rows ≡ None
 
 pub checks_config : (word : List ℕ) → IsPlainWord word → ChecksConfig word
 checks_config [] plain = absurd plain
 checks_config (b ∷ bs) plain =
     let ne = ne_eqb _ _ plain in
-    record { rows = _; taken = check_config_taken b bs ne; entered = check_config_entered b bs ne; config = check_config_first b bs ne; unflagged = check_config_unflagged b bs ne; alone = check_config_alone b bs ne; still = check_config_still b bs ne }
+    record { rows = _; taken = check_config_taken b bs ne; entered = check_config_entered b bs ne; config = check_config_first b bs ne; unflagged = check_config_unflagged b bs ne; alone = check_config_alone b bs ne; still = check_config_still b bs ne; unshared = check_config_unshared b bs ne }
 
 -- the words of `check-config` that ask for JSON
 abbrev pub report_words : Text → List Text
@@ -237,6 +243,11 @@ report_still : (b : ℕ) (bs : List ℕ) → (b == 45) ≡ false
 unfolding clap_on_literals
 report_still b bs ne = simp ne refl
 
+report_unshared : (b : ℕ) (bs : List ℕ) → (b == 45) ≡ false
+    → first_of (codes "share-by") (rows_in (subcommand_of ftpd (report_words (b ∷ bs)))) ≡ None
+unfolding clap_on_literals
+report_unshared b bs ne = simp ne refl
+
 -- what the parser makes of those words
 pub record ReportsJson (word : List ℕ) : Type 0 where
   pub rows : List Row
@@ -246,12 +257,13 @@ pub record ReportsJson (word : List ℕ) : Type 0 where
   pub flagged : is_flagged (codes "json") rows ≡ true
   pub alone : first_of (codes "against") rows ≡ None
   pub still : is_flagged (codes "against-running") rows ≡ false
+  pub unshared : first_of (codes "share-by") rows ≡ None
 
 pub reports_json : (word : List ℕ) → IsPlainWord word → ReportsJson word
 reports_json [] plain = absurd plain
 reports_json (b ∷ bs) plain =
     let ne = ne_eqb _ _ plain in
-    record { rows = _; taken = report_taken b bs ne; entered = report_entered b bs ne; config = report_first b bs ne; flagged = report_flagged b bs ne; alone = report_alone b bs ne; still = report_still b bs ne }
+    record { rows = _; taken = report_taken b bs ne; entered = report_entered b bs ne; config = report_first b bs ne; flagged = report_flagged b bs ne; alone = report_alone b bs ne; still = report_still b bs ne; unshared = report_unshared b bs ne }
 
 running_taken : (b : ℕ) (bs : List ℕ) → (b == 45) ≡ false → takes ftpd (running_words (b ∷ bs)) ≡ true
 unfolding clap_on_literals
@@ -282,6 +294,11 @@ running_on : (b : ℕ) (bs : List ℕ) → (b == 45) ≡ false
 unfolding clap_on_literals
 running_on b bs ne = simp ne refl
 
+running_unshared : (b : ℕ) (bs : List ℕ) → (b == 45) ≡ false
+    → first_of (codes "share-by") (rows_in (subcommand_of ftpd (running_words (b ∷ bs)))) ≡ None
+unfolding clap_on_literals
+running_unshared b bs ne = simp ne refl
+
 -- what the parser makes of those words
 pub record ChecksRunning (word : List ℕ) : Type 0 where
   pub rows : List Row
@@ -291,12 +308,13 @@ pub record ChecksRunning (word : List ℕ) : Type 0 where
   pub unflagged : is_flagged (codes "json") rows ≡ false
   pub alone : first_of (codes "against") rows ≡ None
   pub on : is_flagged (codes "against-running") rows ≡ true
+  pub unshared : first_of (codes "share-by") rows ≡ None
 
 pub checks_running : (word : List ℕ) → IsPlainWord word → ChecksRunning word
 checks_running [] plain = absurd plain
 checks_running (b ∷ bs) plain =
     let ne = ne_eqb _ _ plain in
-    record { rows = _; taken = running_taken b bs ne; entered = running_entered b bs ne; config = running_first b bs ne; unflagged = running_unflagged b bs ne; alone = running_alone b bs ne; on = running_on b bs ne }
+    record { rows = _; taken = running_taken b bs ne; entered = running_entered b bs ne; config = running_first b bs ne; unflagged = running_unflagged b bs ne; alone = running_alone b bs ne; on = running_on b bs ne; unshared = running_unshared b bs ne }
 
 migrate_taken : (b : ℕ) (bs : List ℕ) → (b == 45) ≡ false → takes ftpd (codes "migrate" ∷ (b ∷ bs) ∷ []) ≡ true
 unfolding clap_on_literals

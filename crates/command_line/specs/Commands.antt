@@ -48,16 +48,18 @@ check =
     (codes "check")) (file_rule (codes "SHEET"))) (file_rule (codes "GRANTS")))
     (value_rule (codes "by"))
 
--- `check-config CONFIG [--json] [--against PATH] [--against-running]`
+-- `check-config CONFIG [--json] [--against PATH] [--against-running] [--share-by WAY]`
 abbrev pub check_config : App
 check_config =
     with_rule
     (with_rule
     (with_rule
     (with_rule
+    (with_rule
     (bare
     (codes "check-config")) (file_rule (codes "CONFIG"))) (flag_rule (codes "json")))
-    (value_rule (codes "against"))) (flag_rule (codes "against-running"))
+    (value_rule (codes "against"))) (flag_rule (codes "against-running")))
+    (value_rule (codes "share-by"))
 
 -- `migrate CONFIG`
 abbrev pub migrate : App

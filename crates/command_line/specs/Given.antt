@@ -40,7 +40,7 @@ IsCheck first second depth (Check sheet grants by) =
 -- a command on a sheet with that property
 abbrev pub IsOfSheets : (SheetWords → Type 0) → Words → Type 0
 IsOfSheets P (Sheet words) = P words
-IsOfSheets P (CheckConfig config json against running) = ⊥
+IsOfSheets P (CheckConfig config json against running share_by) = ⊥
 IsOfSheets P (Migrate config) = ⊥
 IsOfSheets P (Script config) = ⊥
 IsOfSheets P (Serve config files patience) = ⊥
@@ -49,12 +49,12 @@ IsOfSheets P (Top status once rows) = ⊥
 IsOfSheets P Usage = ⊥
 
 -- the command `check-config` of that configuration, as JSON or not, against that other one, if any,
--- or against that of a running file
+-- or against that of a running file, for a line that is shared among its sessions
 abbrev pub IsCheckConfig : List ℕ → Bool → Option (List ℕ) → Bool → Words → Type 0
 IsCheckConfig word as_json other by_running (Sheet words) = ⊥
-IsCheckConfig word as_json other by_running (CheckConfig config json against running) =
+IsCheckConfig word as_json other by_running (CheckConfig config json against running share_by) =
     (config.now ≡ word) × (json ≡ as_json) × (option_map (λ w. w.now) against ≡ other)
-    × (running ≡ by_running)
+    × (running ≡ by_running) × (share_by ≡ share.Sessions)
 IsCheckConfig word as_json other by_running (Migrate config) = ⊥
 IsCheckConfig word as_json other by_running (Script config) = ⊥
 IsCheckConfig word as_json other by_running (Serve config files patience) = ⊥
@@ -79,7 +79,7 @@ running_words config = codes "check-config" ∷ config ∷ codes "--against-runn
 -- the command `migrate` of that configuration
 abbrev pub IsMigrate : List ℕ → Words → Type 0
 IsMigrate word (Sheet words) = ⊥
-IsMigrate word (CheckConfig config json against running) = ⊥
+IsMigrate word (CheckConfig config json against running share_by) = ⊥
 IsMigrate word (Migrate config) = config.now ≡ word
 IsMigrate word (Script config) = ⊥
 IsMigrate word (Serve config files patience) = ⊥
@@ -90,7 +90,7 @@ IsMigrate word Usage = ⊥
 -- the command `script` of that configuration
 abbrev pub IsScript : List ℕ → Words → Type 0
 IsScript word (Sheet words) = ⊥
-IsScript word (CheckConfig config json against running) = ⊥
+IsScript word (CheckConfig config json against running share_by) = ⊥
 IsScript word (Migrate config) = ⊥
 IsScript word (Script config) = config.now ≡ word
 IsScript word (Serve config files patience) = ⊥
@@ -102,7 +102,7 @@ IsScript word Usage = ⊥
 -- that patience
 abbrev pub IsServe : List ℕ → Option (List ℕ) → Option (List ℕ) → Patience → Words → Type 0
 IsServe word stop ready p (Sheet words) = ⊥
-IsServe word stop ready p (CheckConfig config json against running) = ⊥
+IsServe word stop ready p (CheckConfig config json against running share_by) = ⊥
 IsServe word stop ready p (Migrate config) = ⊥
 IsServe word stop ready p (Script config) = ⊥
 IsServe word stop ready p (Serve config files patience) =
@@ -115,7 +115,7 @@ IsServe word stop ready p Usage = ⊥
 -- the command `serve` of that configuration, with that transfer log and that form of notes, if any
 abbrev pub IsLoggedBy : List ℕ → Option (List ℕ) → Option (List ℕ) → Words → Type 0
 IsLoggedBy word path form (Sheet words) = ⊥
-IsLoggedBy word path form (CheckConfig config json against running) = ⊥
+IsLoggedBy word path form (CheckConfig config json against running share_by) = ⊥
 IsLoggedBy word path form (Migrate config) = ⊥
 IsLoggedBy word path form (Script config) = ⊥
 IsLoggedBy word path form (Serve config files patience) =
@@ -131,7 +131,7 @@ IsLogged word path form words = IsLoggedBy word (Some path) (Some form) words
 -- the command `serve` of that configuration, with that status file and that port, if any
 abbrev pub IsStatusBy : List ℕ → Option (List ℕ) → Option ℕ → Words → Type 0
 IsStatusBy word path port (Sheet words) = ⊥
-IsStatusBy word path port (CheckConfig config json against running) = ⊥
+IsStatusBy word path port (CheckConfig config json against running share_by) = ⊥
 IsStatusBy word path port (Migrate config) = ⊥
 IsStatusBy word path port (Script config) = ⊥
 IsStatusBy word path port (Serve config files patience) =
@@ -160,7 +160,7 @@ ready_words config stop ready =
 -- shared among its sessions
 abbrev pub IsPlanWords : List ℕ → List ℕ → Bool → Words → Type 0
 IsPlanWords word stated as_json (Sheet words) = ⊥
-IsPlanWords word stated as_json (CheckConfig config json against running) = ⊥
+IsPlanWords word stated as_json (CheckConfig config json against running share_by) = ⊥
 IsPlanWords word stated as_json (Migrate config) = ⊥
 IsPlanWords word stated as_json (Script config) = ⊥
 IsPlanWords word stated as_json (Serve config files patience) = ⊥
@@ -173,7 +173,7 @@ IsPlanWords word stated as_json Usage = ⊥
 -- the command `top` of that status file, once or again and again, with that number of lines
 abbrev pub IsTop : List ℕ → Bool → ℕ → Words → Type 0
 IsTop word only_once lines (Sheet words) = ⊥
-IsTop word only_once lines (CheckConfig config json against running) = ⊥
+IsTop word only_once lines (CheckConfig config json against running share_by) = ⊥
 IsTop word only_once lines (Migrate config) = ⊥
 IsTop word only_once lines (Script config) = ⊥
 IsTop word only_once lines (Serve config files patience) = ⊥
@@ -215,12 +215,12 @@ IsSheetFound found (Check sheet grants by) =
 -- the parser found the command, and the words after it
 abbrev pub IsFound : Option (Text × List Row) → Words → Type 0
 IsFound found (Sheet words) = IsSheetFound found words
-IsFound found (CheckConfig config json against running) =
+IsFound found (CheckConfig config json against running share_by) =
     (rows : List Row) × (found ≡ Some (codes "check-config", rows))
     × (first_of (codes "CONFIG") rows ≡ Some config.now)
     × (json ≡ is_flagged (codes "json") rows)
     × (first_of (codes "against") rows ≡ option_map (λ w. w.now) against)
-    × (running ≡ is_flagged (codes "against-running") rows)
+    × (running ≡ is_flagged (codes "against-running") rows) × IsWayIn rows share_by
 IsFound found (Migrate config) =
     (rows : List Row) × (found ≡ Some (codes "migrate", rows))
     × (first_of (codes "CONFIG") rows ≡ Some config.now)

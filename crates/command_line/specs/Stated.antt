@@ -10,13 +10,15 @@ use Rattle.command_line.specs.declared.numbers.NumberForm.TheVariants.{Port, Lin
 use Rattle.command_line.specs.declared.words.WordsFault.{WordsFault}
 
 -- the command that the parser entered states that patience and that port, if it is `serve`, that
--- number of lines, if it is `top`, and that way of sharing, if it is `serve` or `plan`
+-- number of lines, if it is `top`, and that way of sharing, if it is `serve`, `plan` or
+-- `check-config`
 abbrev pub IsStatedBy : Option (Text × List Row) → Patience → Option ℕ → ℕ → ShareBy → Type 0
 IsStatedBy found p port lines way =
     ((rows : List Row) → found ≡ Some (codes "serve", rows)
     → IsPatienceIn rows p × IsPortIn rows port × IsWayIn rows way)
     × ((rows : List Row) → found ≡ Some (codes "top", rows) → AreLinesIn rows lines)
     × ((rows : List Row) → found ≡ Some (codes "plan", rows) → IsWayIn rows way)
+    × ((rows : List Row) → found ≡ Some (codes "check-config", rows) → IsWayIn rows way)
 
 -- each option of that command that is to be a number, or a way of sharing, is one
 abbrev pub IsNumbered : Option (Text × List Row) → Type 0
@@ -47,7 +49,14 @@ abbrev pub IsPlanUnnumbered : Option (Text × List Row) → WordsFault → Type 
 IsPlanUnnumbered found fault =
     (rows : List Row) × (found ≡ Some (codes "plan", rows)) × IsUnknownWayIn rows fault
 
+-- the same for that of `check-config`
+abbrev pub IsConfigUnnumbered : Option (Text × List Row) → WordsFault → Type 0
+IsConfigUnnumbered found fault =
+    (rows : List Row) × (found ≡ Some (codes "check-config", rows)) × IsUnknownWayIn rows fault
+
 -- the same for the command that the parser entered
 abbrev pub IsUnnumbered : Option (Text × List Row) → WordsFault → Type 0
 IsUnnumbered found fault =
-    IsServeUnnumbered found fault ⊎ (IsTopUnnumbered found fault ⊎ IsPlanUnnumbered found fault)
+    IsServeUnnumbered found fault
+    ⊎ (IsTopUnnumbered found fault
+    ⊎ (IsPlanUnnumbered found fault ⊎ IsConfigUnnumbered found fault))

@@ -139,6 +139,9 @@ fn config_command<'a>(
     with_file(alloc, command, "CONFIG", file)
 }
 
+const JUDGED_BY: &str =
+    "Among whom the line is to be shared, as `serve` takes it: sessions, or users, with a warning of anonymous [default: sessions]";
+
 fn check_config_command<'a>(alloc: Global) -> Result<Command<'a>, AllocError>
     ensures check_config { IfOk result (λ c. app_of c ≡ check_config) }
 {
@@ -157,7 +160,8 @@ fn check_config_command<'a>(alloc: Global) -> Result<Command<'a>, AllocError>
         "The same for the configuration that a server of the package has, by its running file, /run/ftpd/running.toml";
     let with_json = with_flag(alloc, command, "json", json)?;
     let with_other = with_value(alloc, with_json, "against", "PATH", against)?;
-    with_flag(alloc, with_other, "against-running", running)
+    let with_running = with_flag(alloc, with_other, "against-running", running)?;
+    with_value(alloc, with_running, "share-by", "WAY", JUDGED_BY)
 }
 
 fn migrate_command<'a>(alloc: Global) -> Result<Command<'a>, AllocError>

@@ -276,8 +276,8 @@ fn top_numbers(alloc: Global, inner: &ArgMatches<'_>) -> Result<Numbers, WordsFa
     })
 }
 
-/// The way of sharing that the arguments of `plan` state.
-fn plan_numbers(alloc: Global, inner: &ArgMatches<'_>) -> Result<Numbers, WordsFault>
+/// The way of sharing that the arguments of `plan` or of `check-config` state.
+fn way_numbers(alloc: Global, inner: &ArgMatches<'_>) -> Result<Numbers, WordsFault>
     ensures way { IfOk result (λ n. IsWayIn (rows_of (found_of inner.now)) n.share_by) }
     ensures refused { IfErr result (IsUnknownWayIn (rows_of (found_of inner.now))) }
 {
@@ -300,7 +300,8 @@ pub(crate) fn stated_numbers(alloc: Global, matches: &ArgMatches<'_>) -> Result<
     match entered(matches) {
         Some(("serve", inner)) => serve_numbers(alloc, inner),
         Some(("top", inner)) => top_numbers(alloc, inner),
-        Some(("plan", inner)) => plan_numbers(alloc, inner),
+        Some(("plan", inner)) => way_numbers(alloc, inner),
+        Some(("check-config", inner)) => way_numbers(alloc, inner),
         _ => Ok(Numbers {
             patience: usual_patience(),
             status_port: None,

@@ -74,12 +74,14 @@ pub enum Words<'a> {
     /// A command on a sheet.
     Sheet(SheetWords<'a>),
     /// Check the configuration at this path, and print its report; or what a reload of it would change for a server
-    /// with the configuration of another path, if one is given, or that of a running file. As JSON or in lines.
+    /// with the configuration of another path, if one is given, or that of a running file. As JSON or in lines, and for
+    /// a line that is shared in that way.
     CheckConfig {
         config: &'a str,
         json: bool,
         against: Option<&'a str>,
         running: bool,
+        share_by: ShareBy,
     },
     /// Print the configuration at this path in its latest version.
     Migrate {
@@ -216,6 +218,7 @@ fn given<'a>(name: &str, inner: &ArgMatches<'a>, numbers: Numbers) -> Option<Wor
             json: has_flag(inner, "json"),
             against: word_of(inner, "against"),
             running: has_flag(inner, "against-running"),
+            share_by: numbers.share_by,
         }),
         "migrate" => Some(Words::Migrate {
             config: word_of(inner, "CONFIG")?,

@@ -15,7 +15,7 @@ use Rattle.config_report.specs.declared.floors.ShortRate.TheVariants.{Server, Se
 use Rattle.config_report.specs.declared.floors.Shortage.{Shortage}
 use Rattle.config_report.specs.declared.seen.SeenUser.{SeenUser}
 use Rattle.config_report.specs.declared.warning.Warning.{Warning}
-use Rattle.config_report.specs.declared.warning.Warning.TheVariants.{NearlyMemory, RelativeRoot, AbsentRoot, NoFolderRoot, ClosedRoot, PublicPasswords, NoAddress, OwnPorts, PortAmongPassive, FewPorts, FewLanes, GuaranteesWait, PromisedDown, PromisedUp, PromisedBoth, NoUser, NoName, BlankName, NoPassword, Unbrowsed, NoFirstSession, NoSecondSession, NoHome}
+use Rattle.config_report.specs.declared.warning.Warning.TheVariants.{NearlyMemory, RelativeRoot, AbsentRoot, NoFolderRoot, ClosedRoot, PublicPasswords, NoAddress, OwnPorts, PortAmongPassive, FewPorts, FewLanes, GuaranteesWait, PromisedDown, PromisedUp, PromisedBoth, NoUser, NoName, BlankName, NoPassword, Unbrowsed, NoFirstSession, NoSecondSession, NoHome, OneUser}
 
 -- ---- rates and guarantees
 
@@ -141,6 +141,9 @@ warning_text (NoSecondSession user why) =
     ++ (codes ": a second session cannot be guaranteed what each is: " ++ shortage_text why))
 warning_text (NoHome user home) =
     home.now ++ (codes ", the home of user " ++ (user.now ++ codes ", is no directory"))
+warning_text (OneUser user) =
+    codes "user " ++ user.now
+    ++ codes ": all its sessions are one user, and share one part in each direction"
 
 abbrev pub warning_line : Warning → List ℕ
 warning_line warning = codes "warning: " ++ warning_text warning ++ 10 ∷ []

@@ -9,13 +9,15 @@ use Rattle.config_report.specs.Together.{all_warnings, is_among_passive, name_wa
 use Rattle.config_file.specs.declared.stated.ServerTable.{ServerTable}
 use Rattle.config_file.specs.declared.stated.GroupTable.{GroupTable}
 use Rattle.config_file.specs.declared.stated.UserTable.{UserTable}
+use Rattle.line_rates.specs.declared.share_by.ShareBy.{ShareBy}
+use Rattle.line_rates.specs.declared.share_by.ShareBy.TheVariants.{Sessions, Users}
 use Rattle.server_config.specs.Settings.{reported_address}
 use Rattle.config_report.specs.declared.floors.Shortage.{Shortage}
 use Rattle.config_report.specs.declared.looks.Sight.{Sight}
 use Rattle.config_report.specs.declared.looks.Sight.TheVariants as sight
 use Rattle.config_report.specs.declared.seen.SeenUser.{SeenUser}
 use Rattle.config_report.specs.declared.warning.Warning.{Warning}
-use Rattle.config_report.specs.declared.warning.Warning.TheVariants.{NearlyMemory, RelativeRoot, AbsentRoot, NoFolderRoot, ClosedRoot, PublicPasswords, NoAddress, OwnPorts, PortAmongPassive, FewPorts, NoPassword, Unbrowsed, NoFirstSession, NoSecondSession, NoHome}
+use Rattle.config_report.specs.declared.warning.Warning.TheVariants.{NearlyMemory, RelativeRoot, AbsentRoot, NoFolderRoot, ClosedRoot, PublicPasswords, NoAddress, OwnPorts, PortAmongPassive, FewPorts, NoPassword, Unbrowsed, NoFirstSession, NoSecondSession, NoHome, OneUser}
 use Rattle.config_report.specs.declared.warnings.TheConstants.{OWN_FIRST, OWN_LAST}
 
 -- ---- of the server
@@ -117,6 +119,20 @@ file_warnings mode rows =
 abbrev pub lacks_home : Option Sight → SeenUser → Bool
 lacks_home root row = not row.has_home && not (is_unlisted root)
 
+abbrev pub home_warnings : Option Sight → SeenUser → List Warning
+home_warnings root row =
+    if lacks_home root row then NoHome row.user.now.name row.user.now.home ∷ [] else []
+
+-- ---- of the way in which the line is to be shared
+
+-- among users, all sessions of `anonymous` are one
+abbrev pub shares_as_one : ShareBy → UserTable → Bool
+shares_as_one Sessions user = false
+shares_as_one Users user = bytes_eq user.name.now (codes "anonymous")
+
+abbrev pub one_user_warnings : ShareBy → UserTable → List Warning
+one_user_warnings by user = if shares_as_one by user then OneUser user.name ∷ [] else []
+
 -- ---- all
 
 abbrev pub server_warnings : ServerTable → Option Sight → Option ℕ → List SeenUser → List Warning
@@ -142,14 +158,16 @@ floor_warnings server groups user =
     first_warnings user (shortage_of server groups user 1)
     ++ second_warnings user (second_shortage server groups user)
 
-abbrev pub user_warnings : ServerTable → List GroupTable → Option Sight → SeenUser → List Warning
-user_warnings server groups root row =
+abbrev pub user_warnings : ShareBy → ServerTable → List GroupTable → Option Sight → SeenUser
+    → List Warning
+user_warnings by server groups root row =
     name_warnings row.user.now ++ access_warnings row.user.now
     ++ floor_warnings server groups row.user.now
-    ++ (if lacks_home root row then NoHome row.user.now.name row.user.now.home ∷ [] else [])
+    ++ home_warnings root row ++ one_user_warnings by row.user.now
 
--- those of the root, of the server and of the file, and then those of the users in their order
-abbrev pub warnings : ServerTable → List GroupTable → Option Sight → Option ℕ → List SeenUser
-    → List Warning
-warnings server groups root mode rows =
-    server_warnings server root mode rows ++ flat_map (user_warnings server groups root) rows
+-- those of the root, of the server and of the file, and then those of the users in their order, for
+-- a line that is shared in that way
+abbrev pub warnings : ShareBy → ServerTable → List GroupTable → Option Sight → Option ℕ
+    → List SeenUser → List Warning
+warnings by server groups root mode rows =
+    server_warnings server root mode rows ++ flat_map (user_warnings by server groups root) rows

@@ -2,9 +2,9 @@
 //! guarantees, and warnings of settings that are accepted and have no use, also by a look at the machine.
 //!
 //! ```text
-//! let text = report(rt.alloc(), "ftpd.toml", SMALL.as_bytes(), &machine)?; // a server and the user `ann`
+//! let text = report(rt.alloc(), by, "ftpd.toml", SMALL.as_bytes(), &machine)?; // a server and the user `ann`
 //! holds(rt, text.as_str().starts_with("listens on 127.0.0.1:2121\n"));
-//! let text = report_json(rt.alloc(), "ftpd.toml", SMALL.as_bytes(), &machine)?; // the same for programs
+//! let text = report_json(rt.alloc(), by, "ftpd.toml", SMALL.as_bytes(), &machine)?; // the same for programs
 //! holds(rt, text.as_str().contains("\"port\":2121"));
 //! ```
 #![tactic(auto)]

@@ -105,6 +105,10 @@ pub enum Warning<'a> {
         user: &'a str,
         home: &'a str,
     },
+    /// The line is to be shared among users, and all sessions of `anonymous`, perhaps of several people, are one user.
+    OneUser {
+        user: &'a str,
+    },
 }
 
 impl fmt::Display for Warning<'_> {
@@ -198,6 +202,10 @@ impl fmt::Display for Warning<'_> {
             Warning::NoHome { user, home } => {
                 write!(f, "{home}, the home of user {user}, is no directory")
             }
+            Warning::OneUser { user } => write!(
+                f,
+                "user {user}: all its sessions are one user, and share one part in each direction"
+            ),
         }
     }
 }

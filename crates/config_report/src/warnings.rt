@@ -4,7 +4,7 @@ ghost use Rattle.std.specs.Prelude.{◌≡◌, ◌++◌, IfOk, OnOk};
 ghost use Rattle.server_config.specs.Settings.{reported_address};
 ghost use Rattle.std.specs.List.{flat_map, list_any};
 ghost use Rattle.config_report.specs.Together.{all_warnings, name_warnings};
-ghost use Rattle.config_report.specs.Warnings.{access_warnings, file_warnings, floor_warnings, has_few_ports, has_word, is_among_own, is_open, is_public, is_unlisted, is_unreported, lacks_home, port_warnings, own_port_warnings, passive_port_warnings, root_warnings, server_warnings, sight_warnings, user_warnings, warnings};
+ghost use Rattle.config_report.specs.Warnings.{access_warnings, file_warnings, floor_warnings, has_few_ports, has_word, home_warnings, is_among_own, is_open, is_public, is_unlisted, is_unreported, lacks_home, one_user_warnings, port_warnings, own_port_warnings, passive_port_warnings, root_warnings, server_warnings, shares_as_one, sight_warnings, user_warnings, warnings};
 
 use crate::floors::{first_shortage, second_shortage};
 use crate::letters::may_browse;
@@ -14,6 +14,7 @@ use crate::seen::SeenUser;
 use crate::together::{is_among_passive, warn_of_all, warn_of_name};
 use crate::warning::Warning;
 use config_file::{GroupTable, ServerTable, UserTable};
+use line_rates::ShareBy;
 use std::alloc::{AllocError, Global};
 use std::net::Ipv4Addr;
 
@@ -98,6 +99,16 @@ fn lacks_home(root: Option<Sight>, row: &SeenUser) -> bool
     ensures lacks { result ≡ lacks_home root row.now }
 {
     !row.has_home && !is_unlisted(root)
+}
+
+/// Returns whether the sessions of a user, which may be those of several people, are one of those that share the line.
+fn shares_as_one(share_by: ShareBy, user: &UserTable) -> bool
+    ensures one { result ≡ shares_as_one share_by user.now }
+{
+    match share_by {
+        ShareBy::Sessions => false,
+        ShareBy::Users => user.name == "anonymous",
+    }
 }
 
 /// Adds the warnings of the root.
@@ -250,27 +261,57 @@ fn warn_of_floors<'a>(
     Ok(())
 }
 
+/// Adds the warning of a user's home.
+fn warn_of_home<'a>(
+    found: &mut Vec<Warning<'a>>,
+    root: Option<Sight>,
+    row: &SeenUser<'_, 'a>,
+) -> Result<(), AllocError>
+    ensures warnings { OnOk result
+        (found.new.items ≡ found.old.items ++ home_warnings root row.now) }
+{
+    if lacks_home(root, row) {
+        found.push(Warning::NoHome {
+            user: row.user.name,
+            home: row.user.home,
+        })?;
+    }
+    Ok(())
+}
+
+/// Adds the warning of a user whose sessions share one part of the line.
+fn warn_of_one_user<'a>(
+    found: &mut Vec<Warning<'a>>,
+    share_by: ShareBy,
+    user: &UserTable<'a>,
+) -> Result<(), AllocError>
+    ensures warnings { OnOk result
+        (found.new.items ≡ found.old.items ++ one_user_warnings share_by user.now) }
+{
+    if shares_as_one(share_by, user) {
+        found.push(Warning::OneUser { user: user.name })?;
+    }
+    Ok(())
+}
+
 /// Adds the warnings of a user.
 fn warn_of_user<'a>(
     found: &mut Vec<Warning<'a>>,
+    share_by: ShareBy,
     server: &ServerTable,
     groups: &[GroupTable],
     root: Option<Sight>,
     row: &SeenUser<'_, 'a>,
 ) -> Result<(), AllocError>
     ensures warnings { OnOk result (found.new.items
-        ≡ found.old.items ++ user_warnings server.now groups.now root row.now) }
+        ≡ found.old.items ++ user_warnings share_by server.now groups.now root row.now) }
 {
     let user = row.user;
     warn_of_name(found, user)?;
     warn_of_access(found, user)?;
     warn_of_floors(found, server, groups, user)?;
-    if lacks_home(root, row) {
-        found.push(Warning::NoHome {
-            user: user.name,
-            home: user.home,
-        })?;
-    }
+    warn_of_home(found, root, row)?;
+    warn_of_one_user(found, share_by, user)?;
     Ok(())
 }
 
@@ -296,16 +337,17 @@ fn warn_of_server<'a>(
 /// Adds the warnings of users, in their order.
 fn warn_of_users<'a>(
     found: &mut Vec<Warning<'a>>,
+    share_by: ShareBy,
     server: &ServerTable,
     groups: &[GroupTable],
     root: Option<Sight>,
     rows: &[SeenUser<'_, 'a>],
 ) -> Result<(), AllocError>
-    ensures warnings { OnOk result (found.new.items
-        ≡ found.old.items ++ flat_map (user_warnings server.now groups.now root) rows.now) }
+    ensures warnings { OnOk result (found.new.items ≡ found.old.items
+        ++ flat_map (user_warnings share_by server.now groups.now root) rows.now) }
 {
     for row in rows {
-        warn_of_user(found, server, groups, root, row)?;
+        warn_of_user(found, share_by, server, groups, root, row)?;
     }
     Ok(())
 }
@@ -314,6 +356,7 @@ fn warn_of_users<'a>(
 /// in their order.
 pub(crate) fn warnings_of<'a>(
     alloc: Global,
+    share_by: ShareBy,
     server: &ServerTable<'a>,
     groups: &[GroupTable],
     root: Option<Sight>,
@@ -321,10 +364,10 @@ pub(crate) fn warnings_of<'a>(
     rows: &[SeenUser<'_, 'a>],
 ) -> Result<Vec<Warning<'a>>, AllocError>
     ensures warnings { IfOk result
-        (λ found. found.items ≡ warnings server.now groups.now root mode rows.now) }
+        (λ found. found.items ≡ warnings share_by server.now groups.now root mode rows.now) }
 {
     let mut found = Vec::new(alloc);
     warn_of_server(&mut found, server, root, mode, rows)?;
-    warn_of_users(&mut found, server, groups, root, rows)?;
+    warn_of_users(&mut found, share_by, server, groups, root, rows)?;
     Ok(found)
 }

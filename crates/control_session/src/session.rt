@@ -23,8 +23,8 @@ use session_core::Session;
 use session_table::{Action, Settings, Text};
 use std::alloc::{AllocError, Allocator};
 
-/// Maximum number of octets that one read returns.
-const PIECE: usize = 4096;
+/// Maximum number of octets that one read returns: more than most commands have. A session holds as much memory for them.
+const PIECE: usize = 512;
 
 /// The memory that a session needs in addition to its `Session`, allocated before the greeting.
 #[derive(Drop)]
@@ -91,7 +91,7 @@ fn run_session<A: Allocator + Clone, H: Host<A>>(
 /// connection or to the end of the client's text, and closes the session however it ends. The banner of the settings
 /// contains no end of a line. Each step is for the users that the host lends with it.
 ///
-/// `ReadFault`: a read failed, or `turns` reads were made, each of at most 4,096 octets. `WriteFault`: a reply could
+/// `ReadFault`: a read failed, or `turns` reads were made, each of at most 512 octets. `WriteFault`: a reply could
 /// not be written. `Memory`: memory ran out. No call of the host is made before the memory to begin is allocated.
 pub fn run_control<A: Allocator + Clone, H: Host<A>>(
     alloc: &A,

@@ -172,6 +172,7 @@ module _ {K X : Type 0} (remaining : K → Option (List ℕ)) (collected : X →
     consumed = Consumes-nil (remaining flow.connection);
     no_call = λ e. (refl, refl);
     once = λ some. absurd (omega (arith, some, none));
+    lent = λ some. absurd (omega (arith, some, none));
     reads_failed = refl;
     writes_once = inl refl;
     writes_failed = refl;

@@ -17,6 +17,11 @@ abbrev pub most_sent : DataType → ℕ → ℕ
 most_sent Ascii count = 2 * count
 most_sent Image count = count
 
+-- length of the buffer that a read of a file is lent, if its wire octets have this room
+abbrev pub lent_for : DataType → ℕ → ℕ
+lent_for Ascii room = room / 2
+lent_for Image room = room
+
 -- Room of a buffer for the octets that are expected of a source, and for one more, so that a read
 -- of all of them leaves room; the most that there may be if nothing is expected.
 abbrev pub room_for : DataType → Option ℕ → ℕ

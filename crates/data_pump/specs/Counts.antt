@@ -15,10 +15,11 @@ pub record CallCounts : Type 0 where
 abbrev pub no_calls : CallCounts
 no_calls = record { made = 0; failed = 0 }
 
--- an end, with the counts of its calls
+-- an end, with the counts of its calls, and the length of the buffer that its last read was lent
 pub record Counted (E : Type 0) : Type 0 where
   pub end : E
   pub calls : CallCounts
+  pub lent : ℕ
 
 unfoldable pub next : ℕ → ℕ
 next count = (count + 1) % 2 ^ 64

@@ -1,23 +1,25 @@
 -- Downloads as contracts see them, and the effect of a pump.
-use Rattle.std.specs.Prelude.{◌≡◌, ◌⊎◌, ◌↔◌, ◌*◌, ◌<◌, ◌≤◌, ◌++◌, ℕ, nat_lt, min, List, [], length, take, drop, Option, Some, IfSome, Bool, true, false, ◌&&◌, not, IsTrue}
+use Rattle.std.specs.Prelude.{◌≡◌, ◌⊎◌, ◌↔◌, ◌*◌, ◌-◌, ◌<◌, ◌≤◌, ◌++◌, ℕ, nat_lt, min, List, [], length, take, drop, Option, Some, IfSome, Bool, true, false, ◌&&◌, not, IsTrue}
 use Rattle.std.specs.Option.{option_map}
 use Rattle.std.specs.Io.KnownBytes.{Keeps, Appends, Consumes, IsAtEnd}
 use Rattle.ftp_terms.specs.declared.data_type.DataType.{DataType}
 use Rattle.ftp_terms.specs.declared.data_type.DataType.TheVariants.{Ascii, Image}
 use Rattle.line_rates.specs.declared.ask.Way.TheVariants.{Down}
 use Rattle.data_pump.specs.WireText.{sent}
-use Rattle.data_pump.specs.Counts.{CallCounts, with_passed, with_failed, IsOnceAtMost, FailsAsReported}
-use Rattle.data_pump.specs.Buffers.{room_for}
+use Rattle.data_pump.specs.Counts.{CallCounts, next, with_passed, with_failed, IsOnceAtMost, FailsAsReported}
+use Rattle.data_pump.specs.Buffers.{lent_for, room_for}
 use Rattle.data_pump.specs.declared.pumped.FailedPart.TheVariants.{Connection, Source}
 use Rattle.data_pump.specs.declared.pumped.PumpEnd.{PumpEnd}
 use Rattle.data_pump.specs.declared.pumped.PumpEnd.TheVariants.{Ended, More, ReadFault, WriteFault, Memory}
 use Rattle.data_pump.specs.declared.pumped.Pumped.{Pumped}
 
--- the flow out: the source and the connection, each with the counts of its calls, the waiting wire
--- octets, and whether the source has ended
+-- the flow out: the source and the connection, each with the counts of its calls, the length of the
+-- buffer that the last read of the source was lent, the waiting wire octets, and whether the source
+-- has ended
 pub record OutFlow (S K : Type 0) : Type 0 where
   pub source : S
   pub reads : CallCounts
+  pub lent : ℕ
   pub connection : K
   pub writes : CallCounts
   pub data_type : DataType
@@ -53,6 +55,12 @@ pub record IsReady {S K : Type 0} (flow : OutFlow S K) (last : PumpEnd) : Type 0
   pub more : last ≡ More → (0 < length flow.waiting) ⊎ HasEnded flow
   pub ended : last ≡ Ended → HasEnded flow
 
+-- The source was not read, or once, and that read was lent a buffer for all the room.
+abbrev pub LendsAllRoom : {S K : Type 0} → OutFlow S K → OutFlow S K → Type 0
+LendsAllRoom old new =
+    ((new.reads ≡ old.reads) × (new.lent ≡ old.lent))
+    ⊎ ((new.reads.made ≡ next old.reads.made) × (new.lent ≡ lent_for new.data_type new.room))
+
 -- A pump of a download with a grant of `octets` moved `pumped`.
 pub record MovesOut {S K : Type 0} (remaining : S → Option (List ℕ))
     (contents : K → Option (List ℕ)) (octets : ℕ) (old new : OutFlow S K)
@@ -72,6 +80,7 @@ pub record MovesOut {S K : Type 0} (remaining : S → Option (List ℕ))
       → (new.waiting ≡ drop pumped.moved old.waiting) × (new.source ≡ old.source)
       × (new.reads ≡ old.reads)
   pub once : IsOnceAtMost old.reads new.reads
+  pub lent : LendsAllRoom old new
   -- a call failed exactly if the end says so
   pub reads_failed : FailsAsReported Down pumped.end Source old.reads new.reads
   pub writes_failed : FailsAsReported Down pumped.end Connection old.writes new.writes
@@ -99,21 +108,24 @@ abbrev pub is_low : {S K : Type 0} → OutFlow S K → Bool
 is_low flow =
     is_image flow.data_type && not flow.is_over && nat_lt (2 * length flow.waiting) flow.room
 
--- One read of the source passed: its octets wait after the others, and the source has ended exactly
--- if there are none.
+-- One read of the source passed, lent the room after the octets that wait: its octets wait after
+-- these, and the source has ended exactly if there are none.
 pub record ReadsMore {S K : Type 0} (remaining : S → Option (List ℕ))
     (old new : OutFlow S K) : Type 0 where
   pub counted : new.reads ≡ with_passed old.reads
+  pub lent : new.lent ≡ old.room - length old.waiting
   pub read : List ℕ
   pub waiting : new.waiting ≡ old.waiting ++ read
   pub consumed : Consumes (remaining old.source) (remaining new.source) read
   pub over : IsTrue new.is_over ↔ (read ≡ [])
   pub at_end : read ≡ [] → IsAtEnd (remaining new.source)
 
--- One read of the source failed: that call is counted, and the source keeps its octets.
+-- One read of the source failed, lent the same room: that call is counted, and the source keeps its
+-- octets.
 pub record ReadsNone {S K : Type 0} (remaining : S → Option (List ℕ))
     (old new : OutFlow S K) : Type 0 where
   pub counted : new.reads ≡ with_failed old.reads
+  pub lent : new.lent ≡ old.room - length old.waiting
   pub waiting : new.waiting ≡ old.waiting
   pub kept : Keeps (remaining old.source) (remaining new.source)
   pub over : new.is_over ≡ old.is_over

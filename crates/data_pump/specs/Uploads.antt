@@ -13,11 +13,12 @@ use Rattle.data_pump.specs.declared.pumped.Pumped.{Pumped}
 use Rattle.virtual_tree.specs.Calls.{Target}
 use Rattle.data_pump.specs.declared.inflow.TheConstants.{MAX_READ}
 
--- the flow in: the connection and the sink, each with the counts of its calls, and the octets held
--- back
+-- the flow in: the connection and the sink, each with the counts of its calls, the length of the
+-- buffer that the last read of the connection was lent, and the octets held back
 pub record InFlow (K X : Type 0) : Type 0 where
   pub connection : K
   pub reads : CallCounts
+  pub lent : ℕ
   pub sink : X
   pub writes : CallCounts
   pub data_type : DataType
@@ -69,6 +70,8 @@ pub record MovesIn {K X : Type 0} (remaining : K → Option (List ℕ))
   pub no_call : octets ≡ 0 → (pumped.end ≡ More) × (new ≡ old)
   -- one read and at most one write, of which one failed exactly if the end says so
   pub once : 0 < octets → new.reads.made ≡ next old.reads.made
+  -- that read was lent a buffer for all that was granted
+  pub lent : 0 < octets → new.lent ≡ min octets MAX_READ
   pub reads_failed : FailsAsReported Up pumped.end Connection old.reads new.reads
   pub writes_once : IsOnceAtMost old.writes new.writes
   pub writes_failed : FailsAsReported Up pumped.end Sink old.writes new.writes

@@ -3,7 +3,7 @@
 ghost use Rattle.std.specs.Prelude.{◌≡◌, ◌+◌, ◌*◌, ◌<◌, ◌≤◌, ◌-◌, ◌&&◌, nat_lt, [], length, take, drop, slice_range, IfOk, IfErr, OnErr};
 ghost use Rattle.virtual_tree.specs.Calls.{IsEndFault};
 ghost use Rattle.std.specs.Io.KnownBytes.{Keeps};
-ghost use Rattle.data_pump.specs.Buffers.{Fills, FillsUp, room_for};
+ghost use Rattle.data_pump.specs.Buffers.{Fills, FillsUp, lent_for, room_for};
 ghost use Rattle.data_pump.specs.Counts.{Counts};
 ghost use Rattle.data_pump.specs.Downloads.{is_image};
 
@@ -137,6 +137,7 @@ impl<A: Allocator> WireBuffer<A> {
         ensures kept { OnErr result
             (Keeps (S.remaining source.old.end) (S.remaining source.new.end)) }
         ensures counts { Counts result source.old.calls source.new.calls }
+        ensures lent { source.new.lent ≡ lent_for self.new.data_type self.new.room }
         ensures refusal { IfErr result (IsEndFault (S.remaining source.old.end)) }
     {
         self.from = 0;
@@ -162,6 +163,7 @@ impl<A: Allocator> WireBuffer<A> {
         ensures kept { OnErr result
             (Keeps (S.remaining source.old.end) (S.remaining source.new.end)) }
         ensures counts { Counts result source.old.calls source.new.calls }
+        ensures lent { source.new.lent ≡ self.old.room - length self.old.octets }
         ensures refusal { IfErr result (IsEndFault (S.remaining source.old.end)) }
     {
         let waiting = self.to - self.from;
@@ -200,6 +202,7 @@ fn read_after<S: Source>(
     ensures kept { OnErr result
         (Keeps (S.remaining source.old.end) (S.remaining source.new.end)) }
     ensures counts { Counts result source.old.calls source.new.calls }
+    ensures lent { source.new.lent ≡ length octets.old - waiting }
     ensures refusal { IfErr result (IsEndFault (S.remaining source.old.end)) }
 {
     let count = source.fetch(&mut octets[waiting..])?;
@@ -219,6 +222,7 @@ fn read_octets<S: Source>(
     ensures kept { OnErr result
         (Keeps (S.remaining source.old.end) (S.remaining source.new.end)) }
     ensures counts { Counts result source.old.calls source.new.calls }
+    ensures lent { source.new.lent ≡ length octets.old }
     ensures refusal { IfErr result (IsEndFault (S.remaining source.old.end)) }
 {
     source.fetch(octets)
@@ -239,6 +243,7 @@ fn read_text<S: Source>(
     ensures kept { OnErr result
         (Keeps (S.remaining source.old.end) (S.remaining source.new.end)) }
     ensures counts { Counts result source.old.calls source.new.calls }
+    ensures lent { source.new.lent ≡ length text.old }
     ensures refusal { IfErr result (IsEndFault (S.remaining source.old.end)) }
 {
     let count = source.fetch(text)?;

@@ -1,6 +1,6 @@
-//! Ends of a transfer, with counts of their calls and of those that failed.
+//! Ends of a transfer, with counts of their calls and of those that failed, and with what the last read was lent.
 //!
-//! No other module can access the end itself, so a contract that compares these counts covers each call that was made.
+//! No other module can access the end itself, so a contract that compares these numbers covers each call that was made.
 
 ghost use Rattle.std.specs.Prelude.{◌≡◌, ◌<◌, ◌≤◌, length, take, IfOk, IfErr, OnOk, OnErr};
 ghost use Rattle.virtual_tree.specs.Calls.{IsEndFault};
@@ -12,12 +12,13 @@ use std::io::{Read, Write};
 use std::marker::Model;
 use virtual_tree::{Sink, Source, StoreFault};
 
-/// An end with counts of its calls, modulo 2^64.
+/// An end with counts of its calls, modulo 2^64, and the length of the buffer that its last read was lent.
 #[derive(Drop)]
 pub(crate) struct CountedEnd<E> {
     end: E,
     made: u64,
     failed: u64,
+    lent: usize,
 }
 
 impl<E> Model for CountedEnd<E> {
@@ -26,7 +27,7 @@ impl<E> Model for CountedEnd<E> {
     ghost Value = { Counted E };
 
     ghost view = { λ c.
-        record { end = c.end; calls = record { made = c.made; failed = c.failed } } };
+        record { end = c.end; calls = record { made = c.made; failed = c.failed }; lent = c.lent } };
 }
 
 // One more, modulo 2^64.
@@ -38,14 +39,15 @@ fn next_count(count: u64) -> u64
 }
 
 impl<E> CountedEnd<E> {
-    /// An end without calls so far.
+    /// An end without calls so far, which was lent nothing.
     pub fn new(end: E) -> CountedEnd<E>
-        ensures new { result ≡ record { end = end; calls = no_calls } }
+        ensures new { result ≡ record { end = end; calls = no_calls; lent = 0 } }
     {
         CountedEnd {
             end,
             made: 0,
             failed: 0,
+            lent: 0,
         }
     }
 
@@ -57,6 +59,7 @@ impl<E> CountedEnd<E> {
             end,
             made: _,
             failed: _,
+            lent: _,
         } = self;
         end
     }
@@ -69,8 +72,10 @@ impl<K: Read> CountedEnd<K> {
         ensures bytes { ReadConsumes (K.remaining self.old.end) (K.remaining self.new.end)
             result buffer.new }
         ensures counts { Counts result self.old.calls self.new.calls }
+        ensures lent { self.new.lent ≡ length buffer.old }
     {
         self.made = next_count(self.made);
+        self.lent = buffer.len();
         match self.end.read(buffer) {
             Ok(count) => Ok(count),
             Err(fault) => {
@@ -119,8 +124,10 @@ impl<S: Source> CountedEnd<S> {
             result buffer.new }
         ensures refusal { IfErr result (IsEndFault (S.remaining self.old.end)) }
         ensures counts { Counts result self.old.calls self.new.calls }
+        ensures lent { self.new.lent ≡ length buffer.old }
     {
         self.made = next_count(self.made);
+        self.lent = buffer.len();
         match self.end.read(buffer) {
             Ok(count) => Ok(count),
             Err(fault) => {

@@ -2,6 +2,7 @@
 
 ghost use Rattle.std.specs.Prelude.{◌≡◌, ◌⊎◌, ◌-◌, ◌<◌, ◌≤◌, ◌++◌, ℕ, List, length, IsTrue, ◌↔◌, Some, IfOk, IfErr};
 ghost use Rattle.grant_ledger.specs.Books.{capped};
+ghost use Rattle.data_pump.specs.Buffers.{lent_for};
 ghost use Rattle.data_pump.specs.Counts.{no_calls, next};
 ghost use Rattle.data_pump.specs.WireText.{sent};
 ghost use Rattle.data_pump.specs.Downloads.{HasEnded, IsReady, IsRoomFor, MovesOut, TopsUp, IsSending};
@@ -52,6 +53,8 @@ impl<S: Source, K: Write + Drop, A: Allocator> DataOut<S, K, A> {
             × (out.flow.writes ≡ no_calls)) }
         ensures room { IfOk result
             (λ out. IsRoomFor (S.remaining source) data_type out.flow.room) }
+        ensures lent { IfOk result
+            (λ out. out.flow.lent ≡ lent_for data_type out.flow.room) }
         ensures filled { IfOk result
             (λ out. (0 < length out.flow.waiting) ⊎ HasEnded out.flow) }
         ensures refused { (octets : List ℕ) → S.remaining source ≡ Some octets

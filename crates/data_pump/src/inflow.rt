@@ -39,6 +39,7 @@ impl<K: Read + Drop, T: Sink, A: Allocator> Model for Inflow<K, T, A> {
     ghost view = { λ f. record {
       connection = f.connection.end;
       reads = f.connection.calls;
+      lent = f.connection.lent;
       sink = f.sink.end;
       writes = f.sink.calls;
       data_type = f.wire.data_type;
@@ -80,6 +81,7 @@ impl<K: Read + Drop, T: Sink, A: Allocator> Inflow<K, T, A> {
             (λ flow. flow ≡ record {
               connection = connection;
               reads = no_calls;
+              lent = 0;
               sink = sink;
               writes = no_calls;
               data_type = data_type;
@@ -159,6 +161,7 @@ fn read_once<K: Read>(
     ensures kept { OnErr result
         (Keeps (K.remaining connection.old.end) (K.remaining connection.new.end)) }
     ensures counts { Counts result connection.old.calls connection.new.calls }
+    ensures lent { connection.new.lent ≡ limit }
 {
     connection.read(&mut octets[..limit])
 }

@@ -4,10 +4,10 @@ ghost use Rattle.std.specs.Prelude.{◌≡◌, ◌≢◌, ◌<◌, ◌≤◌, �
 ghost use Rattle.std.specs.Bool.{OnTrue};
 ghost use Rattle.std.specs.Io.KnownBytes.{Keeps, IsAtEnd};
 ghost use Rattle.line_rates.specs.declared.ask.Way.TheVariants.{Down};
-ghost use Rattle.data_pump.specs.Buffers.{room_for};
+ghost use Rattle.data_pump.specs.Buffers.{lent_for, room_for};
 ghost use Rattle.data_pump.specs.Counts.{no_calls, next, IsOnceAtMost, FailsAsReported};
 ghost use Rattle.data_pump.specs.declared.pumped.FailedPart.TheVariants.{Connection, Source};
-ghost use Rattle.data_pump.specs.Downloads.{to_come, HasEnded, MovesOut, IsSourceFault, TopsUp};
+ghost use Rattle.data_pump.specs.Downloads.{to_come, HasEnded, LendsAllRoom, MovesOut, IsSourceFault, TopsUp};
 
 use crate::buffer::{MAX_WAITING, WireBuffer, room_for};
 use crate::counted::CountedEnd;
@@ -38,6 +38,7 @@ impl<S: Source, K: Write + Drop, A: Allocator> Model for Outflow<S, K, A> {
     ghost view = { λ f. record {
       source = f.source.end;
       reads = f.source.calls;
+      lent = f.source.lent;
       connection = f.connection.end;
       writes = f.connection.calls;
       data_type = f.buffer.data_type;
@@ -64,6 +65,7 @@ impl<S: Source, K: Write + Drop, A: Allocator> Outflow<S, K, A> {
             (λ flow. flow ≡ record {
               source = source;
               reads = no_calls;
+              lent = 0;
               connection = connection;
               writes = no_calls;
               data_type = data_type;
@@ -107,6 +109,9 @@ impl<S: Source, K: Write + Drop, A: Allocator> Outflow<S, K, A> {
         ensures once { IsOnceAtMost self.old.reads self.new.reads }
         ensures fetched { self.old.waiting ≡ [] → self.old.is_over ≡ false
             → self.new.reads.made ≡ next self.old.reads.made }
+        ensures filled { self.old.waiting ≡ [] → self.old.is_over ≡ false
+            → self.new.lent ≡ lent_for self.new.data_type self.new.room }
+        ensures lent { LendsAllRoom self.old self.new }
         ensures reads_failed { FailsAsReported Down result Source self.old.reads self.new.reads }
         ensures more { result ≡ PumpEnd.More → 0 < length self.new.waiting }
         ensures ended { result ≡ PumpEnd.Ended

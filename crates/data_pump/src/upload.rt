@@ -52,6 +52,7 @@ impl<K: Read + Drop, T: Sink, A: Allocator> DataIn<K, T, A> {
               flow = record {
                 connection = connection;
                 reads = no_calls;
+                lent = 0;
                 sink = sink;
                 writes = no_calls;
                 data_type = data_type;

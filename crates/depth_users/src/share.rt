@@ -34,9 +34,9 @@ fn are_wanted<A: Allocator>(flat: &Flat<A>, grants: &[u64]) -> bool
 /// among the leaves of each user, with their certificate. The users are the nodes at that depth, and each leaf above it.
 /// The entry of each leaf that has less than it wants is the deepest full branch above it; all other entries are none.
 ///
-/// The grants are found by three allotments, of trees as large as this one, and are then checked, in O(nodes * depth +
-/// leaves²) time. `Memory`: memory ran out. `UserTooLarge`: no grants were found that pass the check, as when a user can
-/// have more than `MAX_WANT` octets, and a limit above it is as large.
+/// The grants are found by at most three allotments, of trees as large as this one, and are then checked, in O(nodes *
+/// depth + leaves²) time. `Memory`: memory ran out. `UserTooLarge`: no grants were found that pass the check, as when a
+/// user can have more than `MAX_WANT` octets, and a limit above it is as large.
 pub fn allot_at<A: Allocator, B: Allocator + Clone>(
     alloc: B,
     tree: &Tree<A>,

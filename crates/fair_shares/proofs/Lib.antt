@@ -1,2 +1,5 @@
 pub mod AskedLemmas
+pub mod SameUsers
+pub mod UserNodes
 pub mod UserLemmas
+pub mod LargeUsers

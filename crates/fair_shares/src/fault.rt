@@ -10,9 +10,8 @@ pub enum FairFault {
     /// Memory ran out.
     #[error("out of memory")]
     Memory,
-    /// The line is shared among users, and no grants were found that are best by users. Tests have met this only if some
-    /// user wants more than a tree may want, `MAX_WANT`.
-    #[error("no division among the users was found")]
+    /// The line is shared among users, and the asks of one of them, in one way, want more than `MAX_WANT` octets together.
+    #[error("the asks of one user want too many octets")]
     Unshared,
 }
 
@@ -28,10 +27,15 @@ impl From<AllocError> for FairFault {
 }
 
 impl From<UserShareFault> for FairFault {
+    ghost use Rattle.std.specs.Prelude.{◌≡◌};
+    ghost use Rattle.fair_shares.specs.Unshared.{fault_of};
+
+    ghost from_gives = { λ e fault. fault ≡ fault_of e };
+
     fn from(fault: UserShareFault) -> FairFault {
         match fault {
             UserShareFault::Memory => FairFault::Memory,
-            UserShareFault::WantTooLarge { .. } | UserShareFault::Tree(_) => FairFault::Unshared,
+            UserShareFault::WantTooLarge { .. } => FairFault::Unshared,
         }
     }
 }

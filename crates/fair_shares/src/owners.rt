@@ -1,14 +1,17 @@
 //! The users of the leaves of the tree of a tick, and their branches.
 
-ghost use Rattle.std.specs.Prelude.{◌≡◌, ◌↔◌, ◌<◌, ℕ, length, IfOk, IfSome, IsTrue};
+ghost use Rattle.std.specs.Prelude.{◌≡◌, ◌<◌, ◌≤◌, ◌↔◌, ℕ, length, IfNone, IfOk, IfSome, IsTrue};
 ghost use Rattle.limit_tree.specs.Outline.{limits as seen};
+ghost use Rattle.line_rates.specs.Names.{same_way};
 ghost use Rattle.grant_certificate.specs.Users.{HasUsers};
 ghost use Rattle.fair_terms.specs.Owners.{AreOwners};
+ghost use Rattle.fair_terms.specs.Wants.{is_same_user};
+ghost use Rattle.user_shares.specs.InRow.{AreInRow, IsNext};
 ghost use Rattle.user_shares.specs.Nodes.{AreUsers};
-ghost use Rattle.fair_shares.specs.Users.{IsAlike, IsSameUser};
+ghost use Rattle.fair_shares.specs.Users.{AreNodesOf, IsRunOf, IsTreeOf};
 
 use limit_tree::{Flat, NodeKind};
-use line_rates::Ask;
+use line_rates::{Ask, Way};
 use std::alloc::{AllocError, Allocator, Global};
 use user_shares::owners_of;
 
@@ -19,87 +22,28 @@ pub(crate) struct LeafUsers<A: Allocator = Global> {
     pub owners: Vec<u32, A>,
 }
 
-// Returns whether two asks are of the same way and user.
+fn same_way(one: Way, other: Way) -> bool
+    ensures same { result ≡ same_way one other }
+{
+    match (one, other) {
+        (Way::Down, Way::Down) => true,
+        (Way::Up, Way::Up) => true,
+        (Way::Down, Way::Up) => false,
+        (Way::Up, Way::Down) => false,
+    }
+}
+
+// Returns whether an ask is of the user of another, in its way.
 fn is_same_user(one: Ask, other: Ask) -> bool
-    ensures same { IsTrue result ↔ IsSameUser one other }
+    ensures same { result ≡ is_same_user one other }
 {
-    one.way == other.way && one.user == other.user
-}
-
-fn is_same_owner(one: u32, other: u32) -> bool
-    ensures same { IsTrue result ↔ (one ≡ other) }
-{
-    one == other
-}
-
-fn is_same(one: bool, other: bool) -> bool
-    ensures same { IsTrue result ↔ (one ≡ other) }
-{
-    one == other
-}
-
-// Returns whether the owners of two leaves are the same exactly if their asks are of the same way and user.
-fn is_alike(asks: &[Ask], owners: &[u32], one: usize, other: usize) -> bool
-    requires one { one < length asks.now }
-    requires other { other < length asks.now }
-    requires each { length owners.now ≡ length asks.now }
-    ensures alike { IsTrue result → IsAlike asks.now owners.now one other }
-{
-    let same_owner = is_same_owner(owners[one], owners[other]);
-    is_same(same_owner, is_same_user(asks[one], asks[other]))
-}
-
-// The same for one leaf and all others.
-fn is_alike_to_all(asks: &[Ask], owners: &[u32], one: usize) -> bool
-    requires one { one < length asks.now }
-    requires each { length owners.now ≡ length asks.now }
-    ensures alike { IsTrue result
-        → (j : ℕ) → j < length asks.now → IsAlike asks.now owners.now one j }
-{
-    for other in 0..asks.len() {
-        if !is_alike(asks, owners, one, other) {
-            return false;
-        }
-    }
-    true
-}
-
-// The same for all leaves.
-fn are_alike(asks: &[Ask], owners: &[u32]) -> bool
-    requires each { length owners.now ≡ length asks.now }
-    ensures alike { IsTrue result → (i j : ℕ) → i < length asks.now → j < length asks.now
-        → IsAlike asks.now owners.now i j }
-{
-    for one in 0..asks.len() {
-        if !is_alike_to_all(asks, owners, one) {
-            return false;
-        }
-    }
-    true
-}
-
-// Returns whether these are the owners of the leaves with the asks.
-fn are_owners(asks: &[Ask], owners: &[u32]) -> bool
-    ensures each { IsTrue result → length owners.now ≡ length asks.now }
-    ensures alike { IsTrue result → (i j : ℕ) → i < length asks.now → j < length asks.now
-        → IsAlike asks.now owners.now i j }
-{
-    if owners.len() != asks.len() {
-        return false;
-    }
-    are_alike(asks, owners)
-}
-
-// Returns whether an ask is the first of its user among asks that are side by side.
-fn begins(asks: &[Ask], leaf: usize) -> bool
-    requires leaf { leaf < length asks.now }
-{
-    leaf == 0 || !is_same_user(asks[leaf - 1], asks[leaf])
+    same_way(other.way, one.way) && other.user == one.user
 }
 
 // The number of asks of the same user side by side, from one on.
 fn run_of(asks: &[Ask], first: usize) -> usize
     requires first { first < length asks.now }
+    ensures run { IsRunOf asks.now first result }
 {
     for leaf in first..asks.len() {
         if !is_same_user(asks[first], asks[leaf]) {
@@ -109,69 +53,100 @@ fn run_of(asks: &[Ask], first: usize) -> usize
     asks.len() - first
 }
 
-// The first branch from a node on that has these leaves.
-fn branch_with<A: Allocator>(
+// The number of leaves of a node, if it is a branch with a leaf of which this is the first.
+fn leaves_at<A: Allocator>(flat: &Flat<A>, node: usize, first: usize) -> Option<usize>
+    requires node { node < length flat.now }
+    ensures some { IfSome result (λ leaves. IsNext flat.now node first leaves) }
+    ensures none { IfNone result ((leaves : ℕ) → IsNext flat.now node first leaves → ⊥) }
+{
+    let place = flat.place(node);
+    match place.kind {
+        NodeKind::Leaf { .. } => None,
+        NodeKind::Branch { .. } => {
+            if place.leaves > 0 && place.first == first {
+                Some(place.leaves)
+            } else {
+                None
+            }
+        }
+    }
+}
+
+// Returns whether a node is a branch with just these leaves.
+fn is_over<A: Allocator>(flat: &Flat<A>, node: usize, first: usize, leaves: usize) -> bool
+    requires node { node < length flat.now }
+    ensures over { IsTrue result ↔ IsNext flat.now node first leaves }
+{
+    match leaves_at(flat, node, first) {
+        Some(found) => found == leaves,
+        None => false,
+    }
+}
+
+// The first branch from a node on that has just these leaves.
+fn branch_over<A: Allocator>(
     flat: &Flat<A>,
     from: usize,
     first: usize,
     leaves: usize,
 ) -> Option<usize>
-    ensures node { IfSome result (λ node. node < length flat.now) }
+    ensures some { IfSome result (λ node. IsNext flat.now node first leaves) }
+    ensures none { IfNone result ((k : ℕ) → from ≤ k → IsNext flat.now k first leaves → ⊥) }
 {
     for node in from..flat.nodes() {
-        let place = flat.place(node);
-        match place.kind {
-            NodeKind::Branch { .. } if place.first == first && place.leaves == leaves => {
-                return Some(node);
-            }
-            _ => {}
+        if is_over(flat, node, first, leaves) {
+            return Some(node);
         }
     }
     None
 }
 
-// The branches of the users, in the order of their leaves, as far as they are found.
+// The branches of the users, in the order of their leaves. Those of a later user come later, since the nodes are in
+// preorder.
 fn user_nodes<A: Allocator, B: Allocator>(
     alloc: B,
     flat: &Flat<A>,
     asks: &[Ask],
-) -> Result<Vec<u32, B>, AllocError> {
+) -> Result<Vec<u32, B>, AllocError>
+    requires tree { IsTreeOf asks.now (seen flat.now) }
+    ensures row { IfOk result (λ nodes. AreInRow flat.now nodes.items) }
+    ensures users { IfOk result (λ nodes. AreNodesOf flat.now asks.now nodes.items) }
+{
     let mut nodes = Vec::new(alloc);
     let mut from = 0;
+    let mut leaf = 0;
     let _bounded = flat.nodes();
-    for leaf in 0..asks.len() {
-        if begins(asks, leaf) {
-            match branch_with(flat, from, leaf, run_of(asks, leaf)) {
-                Some(node) => {
-                    nodes.push(node as u32)?;
-                    from = node;
-                }
-                None => return Ok(nodes),
+    while leaf < asks.len() {
+        let leaves = run_of(asks, leaf);
+        match branch_over(flat, from, leaf, leaves) {
+            Some(node) => {
+                nodes.push(node as u32)?;
+                from = node;
+                leaf += leaves;
             }
+            None => unreachable!(),
         }
     }
     Ok(nodes)
 }
 
-/// The users of the leaves of the tree of a tick, by the ask of each leaf; none if these are not found.
+/// The users of the leaves of the tree of a tick, by the ask of each leaf.
 pub(crate) fn users_of<A: Allocator, B: Allocator + Clone>(
     alloc: &B,
     flat: &Flat<A>,
     asks: &[Ask],
-) -> Result<Option<LeafUsers<B>>, AllocError>
-    ensures users { IfOk result (λ found. IfSome found
-        (λ users. AreUsers flat.now users.nodes.items users.owners.items)) }
-    ensures has { IfOk result (λ found. IfSome found
-        (λ users. HasUsers (seen flat.now) (length users.nodes.items) users.owners.items)) }
-    ensures owners { IfOk result (λ found. IfSome found
-        (λ users. AreOwners asks.now (length users.nodes.items) users.owners.items)) }
+) -> Result<LeafUsers<B>, AllocError>
+    requires tree { IsTreeOf asks.now (seen flat.now) }
+    ensures users { IfOk result
+        (λ users. AreUsers flat.now users.nodes.items users.owners.items) }
+    ensures has { IfOk result
+        (λ users. HasUsers (seen flat.now) (length users.nodes.items) users.owners.items) }
+    ensures owners { IfOk result
+        (λ users. AreOwners asks.now (length users.nodes.items) users.owners.items) }
 {
     let nodes = user_nodes(alloc.clone()?, flat, asks)?;
     let Some(owners) = owners_of(alloc.clone()?, flat, &nodes)? else {
-        return Ok(None);
+        unreachable!()
     };
-    if !are_owners(asks, &owners) {
-        return Ok(None);
-    }
-    Ok(Some(LeafUsers { nodes, owners }))
+    Ok(LeafUsers { nodes, owners })
 }

@@ -1,14 +1,15 @@
 //! Fair grants of a plan.
 
-ghost use Rattle.std.specs.Prelude.{◌≡◌, length, None, Some, IfErr, IfOk};
+ghost use Rattle.std.specs.Prelude.{◌≡◌, length, map, None, Some, IfErr, IfOk};
 ghost use Rattle.limit_tree.specs.Outline.{limits as seen};
 ghost use Rattle.limit_tree.specs.Sharing.{IsBackedBy, IsBest};
 ghost use Rattle.line_rates.specs.declared.share_by.ShareBy.TheVariants as share;
-ghost use Rattle.line_rates.specs.TickTree.{IsPlan};
+ghost use Rattle.line_rates.specs.TickTree.{ask_in, IsPlan};
 ghost use Rattle.round_allocator.specs.Order.{GivesInOrder};
 ghost use Rattle.fair_terms.specs.Fair.{AreSealedOwners, IsBackedFair, IsFair};
 ghost use Rattle.fair_shares.specs.Asked.{asks_on, AreApart, IsAskedPlan};
 ghost use Rattle.fair_shares.specs.Faults.{IsFairFault};
+ghost use Rattle.fair_shares.specs.Users.{IsTreeOf};
 
 use crate::asked::asks_on;
 use crate::fault::FairFault;
@@ -54,16 +55,16 @@ fn share_among_users<A: Allocator + Clone>(
     asks: &[Ask],
     tree: Tree<A>,
 ) -> Result<Sealed<A>, FairFault>
+    requires asks { IsTreeOf asks.now (seen tree) }
     ensures tree { IfOk result (λ s. s.tree ≡ tree) }
     ensures owners { IfOk result (λ s. AreSealedOwners share.Users asks.now s.owners) }
     ensures fair { IfOk result (λ s. IsFair share.Users asks.now (seen tree) s.grants) }
     ensures backed { IfOk result (λ s. IsBackedFair share.Users asks.now (seen tree) s.grants
         s.certificate) }
+    ensures fault { IfErr result (IsFairFault share.Users asks.now) }
 {
     let flat = Flat::of(alloc.clone()?, &tree)?;
-    let Some(users) = users_of(&alloc, &flat, asks)? else {
-        return Err(FairFault::Unshared);
-    };
+    let users = users_of(&alloc, &flat, asks)?;
     let (grants, certificate) = allot_by_users(alloc, &tree, &users.nodes, &users.owners)?;
     match seal_by_users(tree, users.owners, grants, certificate) {
         Ok(sealed) => Ok(sealed),
@@ -79,6 +80,7 @@ pub fn share_tree<A: Allocator + Clone>(
     asks: &[Ask],
     tree: Tree<A>,
 ) -> Result<Sealed<A>, FairFault>
+    requires asks { IsTreeOf asks.now (seen tree) }
     ensures tree { IfOk result (λ s. s.tree ≡ tree) }
     ensures owners { IfOk result (λ s. AreSealedOwners share_by asks.now s.owners) }
     ensures fair { IfOk result (λ s. IsFair share_by asks.now (seen tree) s.grants) }
@@ -86,7 +88,7 @@ pub fn share_tree<A: Allocator + Clone>(
         (λ s. IsBackedFair share_by asks.now (seen tree) s.grants s.certificate) }
     ensures order { share_by ≡ share.Sessions
         → IfOk result (λ s. GivesInOrder (seen tree) s.grants) }
-    ensures fault { IfErr result (IsFairFault share_by) }
+    ensures fault { IfErr result (IsFairFault share_by asks.now) }
 {
     match share_by {
         ShareBy::Sessions => Ok(share_among_sessions(alloc, tree)?),
@@ -97,8 +99,8 @@ pub fn share_tree<A: Allocator + Clone>(
 /// The fair grants of a plan for asks in a tick, each with its lane, with the ask of each leaf: best grants of the tree
 /// if the line is shared among sessions, and if it is shared among users grants that are best by users.
 ///
-/// Returns `Memory` if memory runs out; among users `Unshared` if no such grants are found, which tests have met only
-/// if some user wants more than `MAX_WANT` octets together.
+/// Returns `Memory` if memory runs out; among users `Unshared` only if the asks of some user, in one way, want more than
+/// `MAX_WANT` octets together.
 pub fn share_plan<L: Allocator, A: Allocator + Clone>(
     alloc: A,
     limits: &Limits<L>,
@@ -120,7 +122,7 @@ pub fn share_plan<L: Allocator, A: Allocator + Clone>(
         r.sealed.grants) }
     ensures order { limits.now.share_by ≡ share.Sessions
         → IfOk result (λ r. GivesInOrder (seen r.sealed.tree) r.sealed.grants) }
-    ensures fault { IfErr result (IsFairFault limits.now.share_by) }
+    ensures fault { IfErr result (IsFairFault limits.now.share_by (map ask_in asks.now)) }
 {
     let Plan { tree, lanes } = plan;
     let leaf_asks = asks_on(alloc.clone()?, asks, &lanes)?;

@@ -1,3 +1,4 @@
 pub mod Lists
 pub mod KeptLemmas
+mod Counted
 mod Sameness

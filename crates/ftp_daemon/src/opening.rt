@@ -8,7 +8,9 @@ ghost use Rattle.lane_desk.specs.Posted.{AllAnswered};
 ghost use Rattle.lane_desk.specs.Traces.{back, traces, IsRoundOf};
 ghost use Rattle.lent_parts.specs.Rooms.{HasRoom};
 ghost use Rattle.passive_ports.specs.Connections.{none_admitted};
+ghost use Rattle.rate_floors.specs.Promises.{HasNoSessions};
 ghost use Rattle.round_pace.specs.Earned.{tick_of};
+ghost use Rattle.round_pace.specs.Guaranteed.{AreCounted};
 ghost use Rattle.round_pace.specs.Paced.{IsPacedFrom};
 ghost use Rattle.ftp_daemon.specs.Boards.{AreNewBoards, ArePassesOf};
 ghost use Rattle.ftp_daemon.specs.Unheld.{IsUnheld};
@@ -225,6 +227,16 @@ fn lend_passes<B: PartsName>(
     Ok(lent)
 }
 
+// The guarantees of limits, with no session counted.
+fn new_floors(alloc: Global, limits: &Limits) -> Result<Floors, AllocError>
+    ensures counted { IfOk result (AreCounted limits.now) }
+    ensures none { IfOk result HasNoSessions }
+{
+    let floors = Floors::of(alloc, limits)?;
+    floors.promises_fit();
+    Ok(floors)
+}
+
 /// Allocates the parts beside the line of a server, with room for this many seats. The pace takes the limits.
 pub(crate) fn allocate<R, S, B, N>(
     rt: &R,
@@ -241,11 +253,12 @@ where
     B: PartsName,
     requires passes { ArePassesOf B.first B.board passes }
     ensures new { IfOk result (λ a. IsPacedFrom (tick_of a.begun.micros) limits a.pace) }
+    ensures counted { IfOk result (λ a. AreCounted limits a.floors) }
     ensures room { IfOk result (λ a. HasRoom seats a.seats) }
 {
     let alloc = rt.alloc();
     let most = usize::from(numbers.max_cons);
-    let floors = Floors::of(alloc, &limits)?;
+    let floors = new_floors(alloc, &limits)?;
     let ports = new_ports(alloc, numbers)?;
     let registry = admissions(alloc, connection_limits(numbers))?;
     let own_stores = locked(alloc, own_stores)?;

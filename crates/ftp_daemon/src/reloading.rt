@@ -3,6 +3,7 @@
 ghost use Rattle.std.specs.Prelude.{◌≡◌, true, IfOk, Ok, OnErr, OnOk};
 ghost use Rattle.rate_floors.specs.Carried.{carried};
 ghost use Rattle.round_pace.specs.Changed.{IsChangedTo};
+ghost use Rattle.round_pace.specs.Guaranteed.{AreCounted};
 
 use crate::opening::new_cadence;
 use lane_rounds::Engine;
@@ -53,6 +54,21 @@ pub enum ReloadFault {
     Memory,
 }
 
+// The sessions inside, counted under new limits, if their guarantees fit these.
+fn counted_under(alloc: Global, floors: &Floors, limits: &Limits) -> Result<Floors, ReloadFault>
+    ensures carried { IfOk result (λ new. carried floors.now limits.now ≡ Ok new) }
+    ensures counted { IfOk result (AreCounted limits.now) }
+{
+    match floors.carried(alloc, limits) {
+        Ok(new) => {
+            new.promises_fit();
+            Ok(new)
+        }
+        Err(CarryFault::Memory) => Err(ReloadFault::Memory),
+        Err(fault) => Err(ReloadFault::Guarantees(fault)),
+    }
+}
+
 // Puts limits in force, in all parts or in none. In all parts, the terms beside them are due.
 fn put_in_force<B: PartsName, N>(
     alloc: Global,
@@ -68,6 +84,7 @@ fn put_in_force<B: PartsName, N>(
     ensures registry { OnOk result (registry.new.limits ≡ counts) }
     ensures same_connections { registry.new.registry ≡ registry.old.registry }
     ensures floors { OnOk result (carried floors.old limits ≡ Ok floors.new) }
+    ensures counted { OnOk result (AreCounted limits floors.new) }
     ensures pace { OnOk result (IsChangedTo limits rounds.old.rounds.pace
         rounds.new.rounds.pace) }
     ensures same_registry { OnErr result (registry.new ≡ registry.old) }
@@ -75,18 +92,14 @@ fn put_in_force<B: PartsName, N>(
     ensures same_pace { OnErr result
         (rounds.new.rounds.pace ≡ rounds.old.rounds.pace) }
 {
-    let carried = match floors.carried(alloc, &limits) {
-        Ok(carried) => carried,
-        Err(CarryFault::Memory) => return Err(ReloadFault::Memory),
-        Err(fault) => return Err(ReloadFault::Guarantees(fault)),
-    };
+    let counted = counted_under(alloc, floors, &limits)?;
     let Ok(cadence) = new_cadence(alloc, &limits) else {
         return Err(ReloadFault::Memory);
     };
     match rounds.change(alloc, limits, cadence) {
         Ok(()) => {
             registry.limits = counts;
-            *floors = carried;
+            *floors = counted;
             Ok(DueTerms::of(terms))
         }
         Err(AllocError) => Err(ReloadFault::Memory),

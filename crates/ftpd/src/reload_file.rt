@@ -183,7 +183,9 @@ impl ReloadFile {
                 ),
                 Some(next),
             ) => {
-                let limit = limit_words(alloc, &next.known, name)?;
+                let Ok(Some(limit)) = limit_words(alloc, &next.known, name) else {
+                    return None;
+                };
                 format!(in alloc;
                     "the sessions inside are promised {promised}, and {limit} would be {rate}"
                 ).ok()

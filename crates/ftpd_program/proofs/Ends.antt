@@ -35,7 +35,7 @@ share_end gives shown serves Refuses (Sheet words) sheet as_svg old new (Server 
 share_end gives shown serves Refuses (Sheet words) sheet as_svg old new (Status file fault) is end = absurd end
 share_end gives shown serves Refuses (Sheet words) sheet as_svg old new (Watches status rows) is end = absurd end
 share_end gives shown serves Refuses (Sheet words) sheet as_svg old new AddsUp is end = absurd end
-share_end gives shown serves Refuses (CheckConfig path json against running) sheet as_svg old new ending is end = absurd is
+share_end gives shown serves Refuses (CheckConfig path json against running share_by) sheet as_svg old new ending is end = absurd is
 share_end gives shown serves Refuses (Migrate path) sheet as_svg old new ending is end = absurd is
 share_end gives shown serves Refuses (Script path) sheet as_svg old new ending is end = absurd is
 share_end gives shown serves Refuses (Serve path files patience) sheet as_svg old new ending is end = absurd is
@@ -55,7 +55,7 @@ check_end gives shown serves Refuses (Sheet words) sheet grants old new (Server 
 check_end gives shown serves Refuses (Sheet words) sheet grants old new (Status file fault) is end = absurd end
 check_end gives shown serves Refuses (Sheet words) sheet grants old new (Watches status rows) is end = absurd end
 check_end gives shown serves Refuses (Sheet words) sheet grants old new AddsUp is end = absurd end
-check_end gives shown serves Refuses (CheckConfig path json against running) sheet grants old new ending is end = absurd is
+check_end gives shown serves Refuses (CheckConfig path json against running share_by) sheet grants old new ending is end = absurd is
 check_end gives shown serves Refuses (Migrate path) sheet grants old new ending is end = absurd is
 check_end gives shown serves Refuses (Script path) sheet grants old new ending is end = absurd is
 check_end gives shown serves Refuses (Serve path files patience) sheet grants old new ending is end = absurd is
@@ -65,13 +65,14 @@ check_end gives shown serves Refuses Usage sheet grants old new ending is end = 
 
 pub report_end : (gives : List ℕ → Octets) (shown : Shown) (serves : Service) (Refuses : List ℕ → Type 0) (words : Words) (config : List ℕ) (as_json : Bool) (old new : Option (List ℕ)) (ending : FtpdExit)
     → IsCheckConfig config as_json None false words → IsCommandEnd gives shown serves Refuses words old new ending → IsReportEnd as_json shown (gives config) config Refuses old new ending
-report_end gives shown serves Refuses (CheckConfig path json None true) config as_json old new ending is end =
+report_end gives shown serves Refuses (CheckConfig path json None true share_by) config as_json old new ending is end =
     let still = is.3 in
     absurd (cc)
-report_end gives shown serves Refuses (CheckConfig path json None false) config as_json old new ending is end =
-    let first = subst (λ (p : List ℕ). IsPrintEnd (report_print json path) shown (gives p) Refuses old new ending) is.0 end in
-    (path, is.0, subst (λ (b : Bool). IsPrintEnd (report_print b path) shown (gives config) Refuses old new ending) is.1 first)
-report_end gives shown serves Refuses (CheckConfig path json (Some other) running) config as_json old new ending is end =
+report_end gives shown serves Refuses (CheckConfig path json None false share_by) config as_json old new ending is end =
+    let first = subst (λ (p : List ℕ). IsPrintEnd (report_print json share_by path) shown (gives p) Refuses old new ending) is.0 end in
+    let second = subst (λ (b : Bool). IsPrintEnd (report_print b share_by path) shown (gives config) Refuses old new ending) is.1 first in
+    (path, is.0, subst (λ (by : ShareBy). IsPrintEnd (report_print as_json by path) shown (gives config) Refuses old new ending) is.4 second)
+report_end gives shown serves Refuses (CheckConfig path json (Some other) running share_by) config as_json old new ending is end =
     let alone = is.2 in
     absurd (cc)
 report_end gives shown serves Refuses (Sheet words) config as_json old new ending is end = absurd is
@@ -84,16 +85,16 @@ report_end gives shown serves Refuses Usage config as_json old new ending is end
 
 pub against_end : (gives : List ℕ → Octets) (shown : Shown) (serves : Service) (Refuses : List ℕ → Type 0) (words : Words) (config other : List ℕ) (as_json : Bool) (old new : Option (List ℕ)) (ending : FtpdExit)
     → IsCheckConfig config as_json (Some other) false words → IsCommandEnd gives shown serves Refuses words old new ending → IsAgainstEnd as_json gives config other Refuses old new ending
-against_end gives shown serves Refuses (CheckConfig path json (Some word) true) config other as_json old new ending is end =
+against_end gives shown serves Refuses (CheckConfig path json (Some word) true share_by) config other as_json old new ending is end =
     let still = is.3 in
     absurd (cc)
-against_end gives shown serves Refuses (CheckConfig path json (Some word) false) config other as_json old new ending is end =
+against_end gives shown serves Refuses (CheckConfig path json (Some word) false share_by) config other as_json old new ending is end =
     let with_other = is.2 in
     let same : word.now ≡ other = cc in
     let first = subst (λ (p : List ℕ). IsAgainstEnd json gives p word.now Refuses old new ending) is.0 end in
     let second = subst (λ (p : List ℕ). IsAgainstEnd json gives config p Refuses old new ending) same first in
     subst (λ (b : Bool). IsAgainstEnd b gives config other Refuses old new ending) is.1 second
-against_end gives shown serves Refuses (CheckConfig path json None running) config other as_json old new ending is end =
+against_end gives shown serves Refuses (CheckConfig path json None running share_by) config other as_json old new ending is end =
     let with_other = is.2 in
     absurd (cc)
 against_end gives shown serves Refuses (Sheet words) config other as_json old new ending is end = absurd is
@@ -106,13 +107,13 @@ against_end gives shown serves Refuses Usage config other as_json old new ending
 
 pub running_end : (gives : List ℕ → Octets) (shown : Shown) (serves : Service) (Refuses : List ℕ → Type 0) (words : Words) (config : List ℕ) (as_json : Bool) (old new : Option (List ℕ)) (ending : FtpdExit)
     → IsCheckConfig config as_json None true words → IsCommandEnd gives shown serves Refuses words old new ending → IsAgainstEnd as_json gives config RUNNING_FILE.now Refuses old new ending
-running_end gives shown serves Refuses (CheckConfig path json None true) config as_json old new ending is end =
+running_end gives shown serves Refuses (CheckConfig path json None true share_by) config as_json old new ending is end =
     let first = subst (λ (p : List ℕ). IsAgainstEnd json gives p RUNNING_FILE.now Refuses old new ending) is.0 end in
     subst (λ (b : Bool). IsAgainstEnd b gives config RUNNING_FILE.now Refuses old new ending) is.1 first
-running_end gives shown serves Refuses (CheckConfig path json None false) config as_json old new ending is end =
+running_end gives shown serves Refuses (CheckConfig path json None false share_by) config as_json old new ending is end =
     let on = is.3 in
     absurd (cc)
-running_end gives shown serves Refuses (CheckConfig path json (Some other) running) config as_json old new ending is end =
+running_end gives shown serves Refuses (CheckConfig path json (Some other) running share_by) config as_json old new ending is end =
     let alone = is.2 in
     absurd (cc)
 running_end gives shown serves Refuses (Sheet words) config as_json old new ending is end = absurd is
@@ -127,7 +128,7 @@ pub migrate_end : (gives : List ℕ → Octets) (shown : Shown) (serves : Servic
     → IsMigrate config words → IsCommandEnd gives shown serves Refuses words old new ending → IsPrintEnd Latest shown (gives config) Refuses old new ending
 migrate_end gives shown serves Refuses (Migrate path) config old new ending is end = subst (λ (p : List ℕ). IsPrintEnd Latest shown (gives p) Refuses old new ending) is end
 migrate_end gives shown serves Refuses (Sheet words) config old new ending is end = absurd is
-migrate_end gives shown serves Refuses (CheckConfig path json against running) config old new ending is end = absurd is
+migrate_end gives shown serves Refuses (CheckConfig path json against running share_by) config old new ending is end = absurd is
 migrate_end gives shown serves Refuses (Script path) config old new ending is end = absurd is
 migrate_end gives shown serves Refuses (Serve path files patience) config old new ending is end = absurd is
 migrate_end gives shown serves Refuses (Plan path stated json share_by) config old new ending is end = absurd is
@@ -138,7 +139,7 @@ pub script_end : (gives : List ℕ → Octets) (shown : Shown) (serves : Service
     → IsScript config words → IsCommandEnd gives shown serves Refuses words old new ending → IsScriptEnd gives config old new ending
 script_end gives shown serves Refuses (Script path) config old new ending is end = subst (λ (p : List ℕ). IsScriptEnd gives p old new ending) is end
 script_end gives shown serves Refuses (Sheet words) config old new ending is end = absurd is
-script_end gives shown serves Refuses (CheckConfig path json against running) config old new ending is end = absurd is
+script_end gives shown serves Refuses (CheckConfig path json against running share_by) config old new ending is end = absurd is
 script_end gives shown serves Refuses (Migrate path) config old new ending is end = absurd is
 script_end gives shown serves Refuses (Serve path files patience) config old new ending is end = absurd is
 script_end gives shown serves Refuses (Plan path stated json share_by) config old new ending is end = absurd is
@@ -155,7 +156,7 @@ serve_end gives shown serves Refuses (Serve word files patience) config path rea
     let third = subst (λ (f : Option (List ℕ)). IsServeEnd (gives config) shown config serves path f patience old new ending) is.2 second in
     subst (λ (q : Patience). IsServeEnd (gives config) shown config serves path ready q old new ending) is.3 third
 serve_end gives shown serves Refuses (Sheet words) config path ready p old new ending is end = absurd is
-serve_end gives shown serves Refuses (CheckConfig word json against running) config path ready p old new ending is end = absurd is
+serve_end gives shown serves Refuses (CheckConfig word json against running share_by) config path ready p old new ending is end = absurd is
 serve_end gives shown serves Refuses (Migrate word) config path ready p old new ending is end = absurd is
 serve_end gives shown serves Refuses (Script word) config path ready p old new ending is end = absurd is
 serve_end gives shown serves Refuses (Plan word stated json share_by) config path ready p old new ending is end = absurd is
@@ -169,7 +170,7 @@ plan_end gives shown serves Refuses (Plan path stated json share_by) config tran
     let second = subst (λ (b : Bool). IsPrintEnd (plan_print b stated share_by) shown (gives config) Refuses old new ending) is.2 first in
     (stated, is.1, subst (λ (by : ShareBy). IsPrintEnd (plan_print as_json stated by) shown (gives config) Refuses old new ending) is.3 second)
 plan_end gives shown serves Refuses (Sheet words) config transfers as_json old new ending is end = absurd is
-plan_end gives shown serves Refuses (CheckConfig path json against running) config transfers as_json old new ending is end = absurd is
+plan_end gives shown serves Refuses (CheckConfig path json against running share_by) config transfers as_json old new ending is end = absurd is
 plan_end gives shown serves Refuses (Migrate path) config transfers as_json old new ending is end = absurd is
 plan_end gives shown serves Refuses (Script path) config transfers as_json old new ending is end = absurd is
 plan_end gives shown serves Refuses (Serve path files patience) config transfers as_json old new ending is end = absurd is
@@ -183,7 +184,7 @@ top_end gives shown serves Refuses (Top status once rows) path only_once lines o
     let second = subst (λ (b : Bool). IsTopEnd b path rows (IsPrintEnd (Table rows) shown (gives path) Refuses old new) ending) is.1 first in
     subst (λ (n : ℕ). IsTopEnd only_once path n (IsPrintEnd (Table n) shown (gives path) Refuses old new) ending) is.2 second
 top_end gives shown serves Refuses (Sheet words) path only_once lines old new ending is end = absurd is
-top_end gives shown serves Refuses (CheckConfig word json against running) path only_once lines old new ending is end = absurd is
+top_end gives shown serves Refuses (CheckConfig word json against running share_by) path only_once lines old new ending is end = absurd is
 top_end gives shown serves Refuses (Migrate word) path only_once lines old new ending is end = absurd is
 top_end gives shown serves Refuses (Script word) path only_once lines old new ending is end = absurd is
 top_end gives shown serves Refuses (Serve word files patience) path only_once lines old new ending is end = absurd is

@@ -121,7 +121,8 @@ abbrev pub IsCommandWhy : (List ℕ → Octets) → (List ℕ → Type 0) → (L
     → (List ℕ → Type 0) → Type 0 → Words → FtpdExit → Type 0
 IsCommandWhy gives refused fails refuses breaks (Sheet words) ending =
     IsCommon (IsSheetWhy gives refused fails refuses words) ending
-IsCommandWhy gives refused fails refuses breaks (CheckConfig config json against running) ending =
+IsCommandWhy gives refused fails refuses breaks (CheckConfig config json against running share_by)
+    ending =
     IsConfigWhy refused fails config against running ending
 IsCommandWhy gives refused fails refuses breaks (Migrate config) ending =
     IsReadWhy config.now (refused config.now ⊎ fails config.now) ending
@@ -140,7 +141,7 @@ abbrev pub AreCommandOpened : {O : Type 0} → (O → List ℕ → O → Type 0)
     → Words → FtpdExit → Type 0
 AreCommandOpened opens old new refused (Sheet words) ending =
     IsCommon (AreOpened opens old new refused words) ending
-AreCommandOpened opens old new refused (CheckConfig config json against running) ending =
+AreCommandOpened opens old new refused (CheckConfig config json against running share_by) ending =
     AreConfigOpened opens old new config against running ending
 AreCommandOpened opens old new refused (Migrate config) ending = opens old config.now new
 AreCommandOpened opens old new refused (Script config) ending =

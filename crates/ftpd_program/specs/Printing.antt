@@ -18,12 +18,13 @@ use Rattle.ftpd_program.specs.declared.printing.PrintFault.{PrintFault}
 use Rattle.ftpd_program.specs.declared.printing.PrintFault.TheVariants.{Config, Text, Transfers, Status}
 
 -- the report on the configuration of a text, by the possible results of looks at the machine, in
--- lines or as JSON; or a text that has the same configuration in version 2; of a plan in lines only
--- that transfers are planned by the rates of the configuration; of one as JSON also that the text
--- has their shares; or the table of the transfers of a status
+-- lines or as JSON, for a line that is shared in that way; or a text that has the same
+-- configuration in version 2; of a plan in lines only that transfers are planned by the rates of
+-- the configuration; of one as JSON also that the text has their shares; or the table of the
+-- transfers of a status
 abbrev pub IsPrintOf : Print → Shown → List ℕ → List ℕ → Type 0
-IsPrintOf (Report path) shown text printed = IsReportOf shown path.now text printed
-IsPrintOf (ReportJson path) shown text printed = IsReportJson shown path.now text printed
+IsPrintOf (Report path by) shown text printed = IsReportOf by shown path.now text printed
+IsPrintOf (ReportJson path by) shown text printed = IsReportJson by shown path.now text printed
 IsPrintOf Latest shown text printed = IsMigrated text printed
 IsPrintOf (Plan transfers by) shown text printed = IsPlanReport by text
 IsPrintOf (PlanJson transfers by) shown text printed = IsPlanJson by text printed
@@ -31,8 +32,8 @@ IsPrintOf (Table rows) shown text printed = IsTableOf rows text printed
 
 -- the text is refused for that fault; or, in version 2, it has no print that is read back
 abbrev pub IsUnprinted : Print → List ℕ → ConfigFault → Type 0
-IsUnprinted (Report path) text fault = IsFaultOfText text fault
-IsUnprinted (ReportJson path) text fault = IsFaultOfText text fault
+IsUnprinted (Report path by) text fault = IsFaultOfText text fault
+IsUnprinted (ReportJson path by) text fault = IsFaultOfText text fault
 IsUnprinted Latest text fault = IsUnmigrated text fault
 IsUnprinted (Plan transfers by) text fault = IsFaultOfText text fault
 IsUnprinted (PlanJson transfers by) text fault = IsFaultOfText text fault

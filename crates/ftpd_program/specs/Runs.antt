@@ -40,17 +40,19 @@ IsPrintEnd print shown gives Refuses old new (Status file fault) =
     (text : Option (List ℕ)) × gives text × IsUntabledAt print text fault
 IsPrintEnd print shown gives Refuses old new _ = ⊥
 
--- the report on the configuration of the file of a path, as JSON or in lines
-abbrev pub report_print : Bool → Bor (List ℕ) → Print
-report_print false path = Report path
-report_print true path = ReportJson path
+-- the report on the configuration of the file of a path, as JSON or in lines, for a line that is
+-- shared in that way
+abbrev pub report_print : Bool → ShareBy → Bor (List ℕ) → Print
+report_print false by path = Report path by
+report_print true by path = ReportJson path by
 
--- the ending of `check-config` for the path of a configuration
+-- the ending of `check-config` for the path of a configuration, of a line that is shared among its
+-- sessions
 abbrev pub IsReportEnd : Bool → Shown → Octets → List ℕ → (List ℕ → Type 0) → Option (List ℕ)
     → Option (List ℕ) → FtpdExit → Type 0
 IsReportEnd json shown gives config Refuses old new ending =
     (path : Bor (List ℕ)) × (path.now ≡ config)
-    × IsPrintEnd (report_print json path) shown gives Refuses old new ending
+    × IsPrintEnd (report_print json share.Sessions path) shown gives Refuses old new ending
 
 -- the plan of the transfers that a word states, as JSON or in lines
 abbrev pub plan_print : Bool → Bor (List ℕ) → ShareBy → Print
@@ -105,14 +107,14 @@ IsRunningEnd json gives config (Some other) Refuses old new ending =
     IsCommon IsNoLine ending × (new ≡ old)
 
 -- the ending of `check-config` for the path of a configuration, and that of another one if it is
--- stated, or the running file
+-- stated, or the running file; the report alone depends on the way of sharing
 abbrev pub IsConfigEnd : (List ℕ → Octets) → Shown → (List ℕ → Type 0) → Bor (List ℕ) → Bool
-    → Option (Bor (List ℕ)) → Bool → Option (List ℕ) → Option (List ℕ) → FtpdExit → Type 0
-IsConfigEnd gives shown Refuses config json against true old new ending =
+    → ShareBy → Option (Bor (List ℕ)) → Bool → Option (List ℕ) → Option (List ℕ) → FtpdExit → Type 0
+IsConfigEnd gives shown Refuses config json by against true old new ending =
     IsRunningEnd json gives config.now against Refuses old new ending
-IsConfigEnd gives shown Refuses config json None false old new ending =
-    IsPrintEnd (report_print json config) shown (gives config.now) Refuses old new ending
-IsConfigEnd gives shown Refuses config json (Some other) false old new ending =
+IsConfigEnd gives shown Refuses config json by None false old new ending =
+    IsPrintEnd (report_print json by config) shown (gives config.now) Refuses old new ending
+IsConfigEnd gives shown Refuses config json by (Some other) false old new ending =
     IsAgainstEnd json gives config.now other.now Refuses old new ending
 
 -- the ending of that command, given the possible results of looks at the machine, and the possible
@@ -121,8 +123,9 @@ abbrev pub IsCommandEnd : (List ℕ → Octets) → Shown → Service → (List 
     → Option (List ℕ) → Option (List ℕ) → FtpdExit → Type 0
 IsCommandEnd gives shown serves Refuses (Sheet words) old new ending =
     IsCommon (IsSheetEnd gives words old new) ending
-IsCommandEnd gives shown serves Refuses (CheckConfig config json against running) old new ending =
-    IsConfigEnd gives shown Refuses config json against running old new ending
+IsCommandEnd gives shown serves Refuses (CheckConfig config json against running share_by) old new
+    ending =
+    IsConfigEnd gives shown Refuses config json share_by against running old new ending
 IsCommandEnd gives shown serves Refuses (Migrate config) old new ending =
     IsPrintEnd Latest shown (gives config.now) Refuses old new ending
 IsCommandEnd gives shown serves Refuses (Script config) old new ending =

@@ -18,10 +18,10 @@ use text_io::{MAX_TEXT, TextFault, TextReader, TextWriter, read_whole, write_who
 /// A text about a configuration, or about the status of a server.
 #[derive(Clone, Copy, Debug, PartialEq, Eq)]
 pub enum Print<'w> {
-    /// The report on it, with its warnings; the path of its file.
-    Report(&'w str),
+    /// The report on it, with its warnings, for a line that is shared among these; the path of its file.
+    Report(&'w str, ShareBy),
     /// The same report as JSON.
-    ReportJson(&'w str),
+    ReportJson(&'w str, ShareBy),
     /// Its text in version 2.
     Latest,
     /// The plan of the transfers that a word states, in lines, of a line that is shared among these.
@@ -122,8 +122,8 @@ fn text_about<L: Lookout>(
     ensures refused { IfErr result (IsPrintRefusal print.entry octets.now) }
 {
     let text = match print {
-        Print::Report(path) => report(alloc, path, octets, lookout),
-        Print::ReportJson(path) => report_json(alloc, path, octets, lookout),
+        Print::Report(path, by) => report(alloc, by, path, octets, lookout),
+        Print::ReportJson(path, by) => report_json(alloc, by, path, octets, lookout),
         Print::Latest => migrate(alloc, octets),
         Print::Plan(transfers, by) => return plan_about(alloc, transfers, by, octets),
         Print::PlanJson(transfers, by) => return plan_json_about(alloc, transfers, by, octets),

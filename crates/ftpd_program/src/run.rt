@@ -80,14 +80,21 @@ fn print_text<'w, O: Opener + Lookout, W: TextWriter>(
     }
 }
 
-/// The report on the configuration of the file of a path, as JSON or in lines.
-fn report_print(path: &str, json: bool) -> Print<'_>
-    ensures print { result ≡ report_print json path.entry }
+/// The form of a report, and the way in which the line is to be shared, for its warnings.
+#[derive(Clone, Copy)]
+struct ReportForm {
+    json: bool,
+    share_by: ShareBy,
+}
+
+/// The report on the configuration of the file of a path, in that form.
+fn report_print(path: &str, form: ReportForm) -> Print<'_>
+    ensures print { result ≡ report_print form.json form.share_by path.entry }
 {
-    if json {
-        Print::ReportJson(path)
+    if form.json {
+        Print::ReportJson(path, form.share_by)
     } else {
-        Print::Report(path)
+        Print::Report(path, form.share_by)
     }
 }
 
@@ -204,7 +211,7 @@ fn check_running<'w, O: Opener + Lookout, W: TextWriter>(
 /// Runs `check-config`, with another configuration if one is stated, or with that which a server has.
 fn check_config<'w, O: Opener + Lookout, W: TextWriter>(
     alloc: Global,
-    json: bool,
+    form: ReportForm,
     config: &'w str,
     against: Option<&'w str>,
     running: bool,
@@ -212,7 +219,8 @@ fn check_config<'w, O: Opener + Lookout, W: TextWriter>(
     output: &mut W,
 ) -> FtpdExit<'w>
     ensures end { IsConfigEnd (O.Gives files.old) (O.Shows files.new) (W.may_refuse output.old)
-        config.entry json against.entry running (W.contents output.old) (W.contents output.new) result }
+        config.entry form.json form.share_by against.entry running
+        (W.contents output.old) (W.contents output.new) result }
     ensures why { IsConfigWhy (O.MayRefuse files.old) (O.MayFail files.old) config.entry
         against.entry running result }
     ensures opened { AreConfigOpened O.Opens files.old files.new config.entry against.entry running
@@ -220,11 +228,11 @@ fn check_config<'w, O: Opener + Lookout, W: TextWriter>(
     ensures unwritten { IsUnwritten result → output.new ≡ output.old }
 {
     if running {
-        return check_running(alloc, json, config, against, files, output);
+        return check_running(alloc, form.json, config, against, files, output);
     }
     match against {
-        None => print_text(alloc, report_print(config, json), config, files, output),
-        Some(other) => check_against(alloc, json, config, other, files, output),
+        None => print_text(alloc, report_print(config, form), config, files, output),
+        Some(other) => check_against(alloc, form.json, config, other, files, output),
     }
 }
 
@@ -251,7 +259,11 @@ fn run_command<'w, O: Opener + Lookout, W: TextWriter, V: Server<W>>(
             json,
             against,
             running,
-        } => check_config(alloc, json, config, against, running, files, output),
+            share_by,
+        } => {
+            let form = ReportForm { json, share_by };
+            check_config(alloc, form, config, against, running, files, output)
+        }
         Words::Migrate { config } => print_text(alloc, Print::Latest, config, files, output),
         Words::Script { config } => script(alloc, config, files, output),
         Words::Plan {

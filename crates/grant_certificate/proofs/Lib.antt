@@ -17,3 +17,4 @@ pub mod UserRanges
 pub mod Necks
 pub mod FitsTree
 pub mod UserChecks
+pub mod UserLooks

@@ -8,3 +8,5 @@ pub mod Users
 pub mod UserLaws
 pub mod TwoStages
 pub mod UserRanges
+pub mod UserNecks
+pub mod UserLooks

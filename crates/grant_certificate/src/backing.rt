@@ -89,7 +89,7 @@ fn mark_held(
 }
 
 /// Returns whether the entry is `number`.
-fn names(entry: Option<u32>, number: usize) -> bool
+pub(crate) fn names(entry: Option<u32>, number: usize) -> bool
     ensures named { IsTrue result ↔ (entry ≡ Some number) }
 {
     match entry {
@@ -105,7 +105,7 @@ fn is_near(most: u64, grant: u64) -> bool
     most < 2 || most - 2 < grant
 }
 
-fn no_marks() -> [bool; MAX_LEAVES]
+pub(crate) fn no_marks() -> [bool; MAX_LEAVES]
     ensures none { (i : ℕ) → IsMarked result i → ⊥ }
 {
     [false; MAX_LEAVES]

@@ -1,9 +1,9 @@
 //! Grants that are backed among users.
 
 ghost use Rattle.limit_tree.specs.declared.bounds.TheConstants.{MAX_LEAVES};
-ghost use Rattle.std.specs.Prelude.{◌≡◌, ◌+◌, ◌<◌, ◌≤◌, ◌^◌, ◌⊎◌, ◌↔◌, ℕ, IsTrue, MatchBool, MatchOption, Some, length, slice_get, slice_index, sum, take};
+ghost use Rattle.std.specs.Prelude.{◌≡◌, ◌+◌, ◌<◌, ◌≤◌, ◌^◌, ◌⊎◌, ◌↔◌, ℕ, IsTrue, MatchBool, length, slice_index, sum};
 ghost use Rattle.limit_tree.specs.Sharing.{IsUnmet, IsWithin};
-ghost use Rattle.limit_tree.specs.Outline.{IsFullPlace, leaf_range, limits};
+ghost use Rattle.limit_tree.specs.Outline.{leaf_range, limits};
 ghost use Rattle.grant_certificate.specs.Ranges.{IsGreater, IsNear, IsNoneGreater};
 ghost use Rattle.grant_certificate.specs.UserRanges.{AreUserTotals, IsInnerRange, IsOuterRange, tells_within};
 ghost use Rattle.grant_certificate.specs.Users.{total_of, HasUsers, HasUserNeck, IsBackedByUsers, IsBestByUsers};
@@ -12,6 +12,7 @@ use super::certificate::Certificate;
 use super::checker::{FEW_LEAVES, check};
 use super::flaw::{Flaw, Verdict};
 use super::range::first_greater;
+use super::user_look::look_at_necks;
 use limit_tree::{MAX_LEAVES, Place, Tree};
 use std::alloc::Allocator;
 
@@ -124,166 +125,85 @@ fn holds_inside(grants: &[u64], floors: &[u64], place: Place, leaf: usize) -> bo
     none_greater(grants, floors, place.first, place.leaves, grants[leaf])
 }
 
-/// Totals of users, in octets, by leaf: for each leaf the total of its user's grants, and that of its user's floors.
+/// Grants and floors of leaves, in octets, with the number of the user of each leaf, and for each leaf the totals of its
+/// user's grants and floors.
 #[derive(Clone, Copy)]
-struct LeafTotals<'a> {
-    grants: &'a [u64],
-    floors: &'a [u64],
+pub(crate) struct UserGrants<'a> {
+    pub owners: &'a [u32],
+    pub grants: &'a [u64],
+    pub floors: &'a [u64],
+    pub totals: &'a [u64],
+    pub floor_totals: &'a [u64],
+    ghost owned: { length owners.now ≡ length grants.now },
+    ghost floored: { length floors.now ≡ length grants.now },
+    ghost fits: { sum grants.now < 2 ^ 64 },
+    ghost room: { length owners.now ≤ length totals.now },
+    ghost tables: { length floor_totals.now ≡ length totals.now },
+    ghost granted: { AreUserTotals owners.now grants.now totals.now },
+    ghost guaranteed: { AreUserTotals owners.now floors.now floor_totals.now },
 }
 
 /// Returns whether a range of leaves holds a leaf back among users.
-fn holds_among(
-    owners: &[u32],
-    grants: &[u64],
-    floors: &[u64],
-    totals: LeafTotals<'_>,
-    place: Place,
-    leaf: usize,
-) -> bool
-    requires owners { length owners.now ≡ length grants.now }
-    requires floors { length floors.now ≡ length grants.now }
-    requires room { length owners.now ≤ length totals.grants.now }
-    requires tables { length totals.floors.now ≡ length totals.grants.now }
-    requires totals { AreUserTotals owners.now grants.now totals.grants.now }
-    requires floor_totals { AreUserTotals owners.now floors.now totals.floors.now }
-    requires inside { place.first + place.leaves ≤ length owners.now }
-    requires leaf { leaf < length owners.now }
-    ensures holds { IsTrue result
-        ↔ IsOuterRange owners.now grants.now floors.now place.first place.leaves leaf }
+fn holds_among(of: UserGrants<'_>, place: Place, leaf: usize) -> bool
+    requires inside { place.first + place.leaves ≤ length of.owners.now }
+    requires leaf { leaf < length of.owners.now }
+    ensures holds { IsTrue result ↔ IsOuterRange of.entry.owners.now of.entry.grants.now
+        of.entry.floors.now place.first place.leaves leaf }
 {
-    let user = owners[leaf];
-    if !are_in(owners, place.first, place.leaves, user) {
+    let user = of.owners[leaf];
+    if !are_in(of.owners, place.first, place.leaves, user) {
         return false;
     }
-    if !are_near(owners, grants, floors, user, grants[leaf]) {
+    if !are_near(of.owners, of.grants, of.floors, user, of.grants[leaf]) {
         return false;
     }
-    let total = totals.grants[leaf];
-    none_greater(
-        totals.grants,
-        totals.floors,
-        place.first,
-        place.leaves,
-        total,
-    )
+    let total = of.totals[leaf];
+    none_greater(of.totals, of.floor_totals, place.first, place.leaves, total)
 }
 
 /// Returns whether a range of leaves holds a leaf back, within the leaf's user or among users.
-fn holds_back(
-    owners: &[u32],
-    grants: &[u64],
-    floors: &[u64],
-    totals: LeafTotals<'_>,
-    place: Place,
-    leaf: usize,
-) -> bool
-    requires owners { length owners.now ≡ length grants.now }
-    requires floors { length floors.now ≡ length grants.now }
-    requires room { length owners.now ≤ length totals.grants.now }
-    requires tables { length totals.floors.now ≡ length totals.grants.now }
-    requires totals { AreUserTotals owners.now grants.now totals.grants.now }
-    requires floor_totals { AreUserTotals owners.now floors.now totals.floors.now }
-    requires inside { place.first + place.leaves ≤ length owners.now }
-    requires leaf { leaf < length owners.now }
+pub(crate) fn holds_back(of: UserGrants<'_>, place: Place, leaf: usize) -> bool
+    requires inside { place.first + place.leaves ≤ length of.owners.now }
+    requires leaf { leaf < length of.owners.now }
     ensures holds { IsTrue result
-        ↔ (IsInnerRange owners.now grants.now floors.now place.first place.leaves leaf
-        ⊎ IsOuterRange owners.now grants.now floors.now place.first place.leaves leaf) }
+        ↔ (IsInnerRange of.entry.owners.now of.entry.grants.now of.entry.floors.now place.first
+        place.leaves leaf
+        ⊎ IsOuterRange of.entry.owners.now of.entry.grants.now of.entry.floors.now place.first
+        place.leaves leaf) }
 {
-    if are_of(owners, place.first, place.leaves, owners[leaf]) {
-        return holds_inside(grants, floors, place, leaf);
+    if are_of(of.owners, place.first, place.leaves, of.owners[leaf]) {
+        return holds_inside(of.grants, of.floors, place, leaf);
     }
-    holds_among(owners, grants, floors, totals, place, leaf)
+    holds_among(of, place, leaf)
 }
 
-/// The full branch whose number is an entry.
-fn full_branch<A: Allocator>(tree: &Tree<A>, grants: &[u64], entry: Option<u32>) -> Option<Place>
-    requires lengths { length (limits tree.now).wants ≡ length grants.now }
-    requires fits { sum grants.now < 2 ^ 64 }
-    ensures full { MatchOption result
-        ((k : ℕ) (p : Place) → entry ≡ Some k → slice_get tree.now k ≡ Some p
-        → IsFullPlace p grants.now → ⊥)
-        (λ p. (k : ℕ) × (entry ≡ Some k) × (slice_get tree.now k ≡ Some p)
-        × IsFullPlace p grants.now × (p.first + p.leaves ≤ length grants.now)) }
-{
-    let Some(named) = entry else {
-        return None;
-    };
-    let node = named as usize;
-    if node >= tree.nodes() {
-        return None;
-    }
-    let place = tree.place(node);
-    if place.is_full(grants) {
-        Some(place)
-    } else {
-        None
-    }
-}
-
-/// Returns whether the entry of a leaf is the number of its bottleneck, within its user or among users.
-fn has_neck<A: Allocator>(
-    tree: &Tree<A>,
-    owners: &[u32],
-    grants: &[u64],
-    floors: &[u64],
-    totals: LeafTotals<'_>,
-    entries: &[Option<u32>],
-    leaf: usize,
-) -> bool
-    requires users { (users : ℕ) × HasUsers (limits tree.now) users owners.now }
-    requires lengths { length (limits tree.now).wants ≡ length grants.now }
-    requires owners { length owners.now ≡ length grants.now }
-    requires fits { sum grants.now < 2 ^ 64 }
-    requires floors { floors.now ≡ (limits tree.now).floors }
-    requires floored { length floors.now ≡ length grants.now }
-    requires room { length owners.now ≤ length totals.grants.now }
-    requires tables { length totals.floors.now ≡ length totals.grants.now }
-    requires totals { AreUserTotals owners.now grants.now totals.grants.now }
-    requires floor_totals { AreUserTotals owners.now floors.now totals.floors.now }
-    requires entries { length entries.now ≡ length grants.now }
-    requires leaf { leaf < length grants.now }
-    ensures neck { IsTrue result
-        ↔ HasUserNeck (limits tree.now) owners.now grants.now entries.now leaf }
-{
-    let _bounded = tree.leaves();
-    let Some(place) = full_branch(tree, grants, entries[leaf]) else {
-        return false;
-    };
-    holds_back(owners, grants, floors, totals, place, leaf)
-}
-
-/// Returns whether each unmet leaf has a bottleneck, within its user or among users, whose number is its entry.
+/// Returns whether each unmet leaf has a bottleneck, within its user or among users, whose number is its entry: the leaves
+/// that have one are marked.
 fn are_backed<A: Allocator>(
     tree: &Tree<A>,
-    owners: &[u32],
-    grants: &[u64],
+    of: UserGrants<'_>,
     entries: &[Option<u32>],
     wants: &[u64],
-    floors: &[u64],
-    totals: LeafTotals<'_>,
 ) -> bool
-    requires users { (users : ℕ) × HasUsers (limits tree.now) users owners.now }
-    requires lengths { length (limits tree.now).wants ≡ length grants.now }
-    requires owners { length owners.now ≡ length grants.now }
-    requires fits { sum grants.now < 2 ^ 64 }
-    requires entries { length entries.now ≡ length grants.now }
+    requires users { (users : ℕ) × HasUsers (limits tree.now) users of.owners.now }
+    requires lengths { length (limits tree.now).wants ≡ length of.grants.now }
+    requires few { length of.grants.now ≤ MAX_LEAVES }
+    requires entries { length entries.now ≡ length of.grants.now }
     requires wants { wants.now ≡ (limits tree.now).wants }
-    requires floors { floors.now ≡ (limits tree.now).floors }
-    requires floored { length floors.now ≡ length grants.now }
-    requires room { length owners.now ≤ length totals.grants.now }
-    requires tables { length totals.floors.now ≡ length totals.grants.now }
-    requires totals { AreUserTotals owners.now grants.now totals.grants.now }
-    requires floor_totals { AreUserTotals owners.now floors.now totals.floors.now }
+    requires floors { of.floors.now ≡ (limits tree.now).floors }
     ensures backed { MatchBool result
-        ((i : ℕ) → i < length grants.now → IsUnmet (limits tree.now) grants.now i
-        → HasUserNeck (limits tree.now) owners.now grants.now entries.now i)
-        ((i : ℕ) × (i < length grants.now) × IsUnmet (limits tree.now) grants.now i
-        × (HasUserNeck (limits tree.now) owners.now grants.now entries.now i → ⊥)) }
+        ((i : ℕ) → i < length of.entry.grants.now
+        → IsUnmet (limits tree.now) of.entry.grants.now i
+        → HasUserNeck (limits tree.now) of.entry.owners.now of.entry.grants.now entries.now i)
+        ((i : ℕ) × (i < length of.entry.grants.now)
+        × IsUnmet (limits tree.now) of.entry.grants.now i
+        × (HasUserNeck (limits tree.now) of.entry.owners.now of.entry.grants.now entries.now i
+        → ⊥)) }
 {
-    for leaf in 0..grants.len() {
-        if grants[leaf] < wants[leaf]
-            && !has_neck(tree, owners, grants, floors, totals, entries, leaf)
-        {
+    let _bounded = tree.leaves();
+    let marks = look_at_necks(tree, of, entries);
+    for leaf in 0..of.grants.len() {
+        if of.grants[leaf] < wants[leaf] && !marks[leaf] {
             return false;
         }
     }
@@ -311,23 +231,19 @@ fn are_backed_by<A: Allocator, const N: usize>(
     let mut wants = [0; N];
     let mut floors = [0; N];
     tree.leaves_into(&mut wants, &mut floors);
-    let mut granted = [0; N];
-    let mut floored = [0; N];
-    totals_into(owners, grants, &mut granted);
-    totals_into(owners, &floors[..leaves], &mut floored);
-    let totals = LeafTotals {
-        grants: &granted,
-        floors: &floored,
-    };
-    are_backed(
-        tree,
+    let floors = &floors[..leaves];
+    let mut totals = [0; N];
+    let mut floor_totals = [0; N];
+    totals_into(owners, grants, &mut totals);
+    totals_into(owners, floors, &mut floor_totals);
+    let of = UserGrants {
         owners,
         grants,
-        entries,
-        &wants[..leaves],
-        &floors[..leaves],
-        totals,
-    )
+        floors,
+        totals: &totals,
+        floor_totals: &floor_totals,
+    };
+    are_backed(tree, of, entries, &wants[..leaves])
 }
 
 /// Returns whether grants within the limits are backed among users.
@@ -369,7 +285,8 @@ fn keeps_limits(verdict: Verdict) -> bool
 
 /// Returns whether grants, in octets by leaf, are within the limits of the tree and backed among users by their
 /// certificate, and therefore best by users. `owners` has the number of the user of each leaf; each branch lies within
-/// the leaves of a user, around them, or apart from them. No memory; O(nodes * depth + leaves²) time.
+/// the leaves of a user, around them, or apart from them. No memory; O(nodes * depth + leaves²) time: one walk more than
+/// `check`.
 pub fn check_by_users<A: Allocator, B: Allocator>(
     tree: &Tree<A>,
     owners: &[u32],

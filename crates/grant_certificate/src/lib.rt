@@ -32,6 +32,7 @@ mod leaves;
 mod over;
 mod range;
 mod sealed;
+mod user_look;
 
 pub use by_users::check_by_users;
 pub use certificate::Certificate;

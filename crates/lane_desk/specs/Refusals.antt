@@ -1,12 +1,12 @@
 -- Refusals of rounds.
-use Rattle.std.specs.Prelude.{◌≡◌, ◌+◌, ◌<◌, ◌≤◌, ℕ, List, Some, sum, ⊤}
+use Rattle.std.specs.Prelude.{◌≡◌, ◌+◌, ◌<◌, ◌≤◌, ℕ, List, map, Some, sum, ⊤}
 use Rattle.fair_shares.specs.Asked.{IsAskedPlan}
 use Rattle.fair_terms.specs.Fair.{IsFair}
+use Rattle.fair_terms.specs.Wants.{HasLargeUser}
 use Rattle.limit_tree.specs.Sharing.{LimitTree}
-use Rattle.line_rates.specs.declared.share_by.ShareBy.TheVariants as share
 use Rattle.line_rates.specs.declared.ask.Ask.{Ask}
 use Rattle.line_rates.specs.Rates.{Rates}
-use Rattle.line_rates.specs.TickTree.{Asker}
+use Rattle.line_rates.specs.TickTree.{Asker, ask_in}
 use Rattle.line_rates.specs.Refused.{HasFault}
 use Rattle.grant_ledger.specs.Books.{BookView}
 use Rattle.grant_ledger.specs.declared.ledger.TheConstants.{MAX_ISSUED}
@@ -32,7 +32,7 @@ IsRefused A rates tick asks book (Plan fault) =
     IsLater tick book.last_tick × HasFault A rates tick asks fault
 IsRefused A rates tick asks book Memory = IsLater tick book.last_tick
 IsRefused A rates tick asks book Unshared =
-    IsLater tick book.last_tick × (rates.share_by ≡ share.Users)
+    IsLater tick book.last_tick × HasLargeUser rates.share_by (map ask_in asks)
 IsRefused A rates tick asks book BookFull =
     IsLater tick book.last_tick × PassesMost rates tick asks book.issued
 
@@ -41,5 +41,5 @@ abbrev pub IsUnshared : (A : Type 0) → Rates → ℕ → List Asker → RoundR
 IsUnshared A rates tick asks (NotYet last) = ⊥
 IsUnshared A rates tick asks (Plan fault) = HasFault A rates tick asks fault
 IsUnshared A rates tick asks Memory = ⊤
-IsUnshared A rates tick asks Unshared = rates.share_by ≡ share.Users
+IsUnshared A rates tick asks Unshared = HasLargeUser rates.share_by (map ask_in asks)
 IsUnshared A rates tick asks BookFull = ⊥

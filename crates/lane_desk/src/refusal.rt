@@ -17,8 +17,8 @@ pub enum RoundRefusal {
     /// The limit tree of the tick has a fault.
     #[error("the limit tree of the tick is refused: {0}")]
     Plan(TreeFault),
-    /// The line is shared among users, and no grants were found that are best by users.
-    #[error("no division among the users was found")]
+    /// The line is shared among users, and the asks of one of them, in one way, want more than `MAX_WANT` octets together.
+    #[error("the asks of one user want too many octets")]
     Unshared,
     /// Memory ran out.
     #[error("out of memory")]

@@ -1,3 +1,4 @@
 pub mod Ends
+pub mod Awaits
 pub mod Dues
 pub mod Gates

@@ -202,6 +202,7 @@ where
             self.seen = seen;
             return;
         }
+        sign.set_awaited(false);
         let now = self.rt.moment();
         let due = help(self.rt.alloc(), self.house, self.engine, sign, now);
         let limit = match due {

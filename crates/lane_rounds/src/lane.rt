@@ -122,7 +122,8 @@ where
     }
 }
 
-// Runs the transfer of the next ticket whose number is on the board. Returns whether there was a number.
+// Runs the transfer of the next ticket whose number is on the board, and wakes its session once the end is there. Returns
+// whether there was a number.
 fn run_next<R, S, H, B, N>(
     rt: &R,
     house: &House<S, H, B>,
@@ -140,7 +141,10 @@ where
     match house.board.pop(rt, pass) {
         Some(number) => {
             match (&*house).tickets.get(number as usize) {
-                Some(ticket) => run_transfer(rt, &*house, engine, worker, ticket),
+                Some(ticket) => {
+                    run_transfer(rt, &*house, engine, worker, ticket);
+                    (&*house).ring(number as usize);
+                }
                 None => {}
             }
             true

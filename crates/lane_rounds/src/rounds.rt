@@ -3,11 +3,12 @@
 ghost use Rattle.std.specs.Prelude.{◌≡◌, true};
 ghost use Rattle.lane_rounds.specs.Dues.{sooner};
 
+use crate::awaiting::{Awaited, due_for, find_awaited, is_to_wait};
 use crate::engine::Engine;
 use grant_ledger::MAX_LANES;
 use lane_desk::RoundRecord;
 use lent_parts::{LentDesk, LentRounds, Moment, PartsName};
-use line_rates::Way;
+use line_rates::{Ask, Way};
 use round_pace::{Due, TICK_MICROS};
 use server_house::{House, LaneSign};
 use std::alloc::Global;
@@ -38,23 +39,34 @@ fn wake_lanes(lanes: &[LaneSign], answered: u64, is_refused: bool) {
     }
 }
 
-// The lanes that a round is of: those with a transfer whose rows are open, or which is to stop. The ask of one that is to
-// stop is answered too, so that its lane can leave it. A lane without a transfer is not tried. The signs are hints, as for
-// `due_by`: a lane whose sign is stale is left out, or asked too early, in one round.
+// The lanes that a round is of: those with a transfer whose rows are open and that waits for no other, or which is to stop.
+// The ask of one that is to stop is answered too, so that its lane can leave it. A lane without a transfer is not tried. The
+// signs are hints, as for `due_by`: a lane whose sign is stale is left out, or asked too early, in one round.
 fn open_lanes<S: Store<Global>, H: Drop, B: PartsName, N>(
     house: &House<S, H, B>,
     rounds: &LentRounds<B, N>,
     now: u64,
 ) -> [bool; MAX_LANES] {
     let mut given = [false; MAX_LANES];
+    let awaited = find_awaited(house, rounds);
     for lane in 0..house.lanes.len().min(MAX_LANES) {
         let sign = &house.lanes[lane];
         if let Some(session) = sign.session() {
             let (way, user) = sign.name.get();
-            given[lane] = rounds.is_open(way, user, now) || house.is_stopping(session);
+            given[lane] = house.is_stopping(session)
+                || rounds.is_open(way, user, now) && !is_to_wait(rounds, awaited, way, user, now);
         }
     }
     given
+}
+
+// Waits for none of these lanes any more: the round is held without those that have not asked.
+fn leave_late(lanes: &[LaneSign], given: &[bool; MAX_LANES]) {
+    for lane in 0..lanes.len().min(MAX_LANES) {
+        if given[lane] {
+            lanes[lane].set_awaited(false);
+        }
+    }
 }
 
 // The number of the transfer of each lane. A lane that asks keeps its transfer until it is answered.
@@ -66,8 +78,20 @@ fn transfers_of(lanes: &[LaneSign]) -> [u64; MAX_LANES] {
     transfers
 }
 
-// Tells each lane that a round has answered whether it was granted all that it asked for, and one that receives whether
-// its rates have plenty left, and whether none is a limit.
+// Returns whether the session of a lane's transfer has a guarantee, as the first round of the transfer has seen.
+fn has_floor<B: PartsName, N>(rounds: &LentRounds<B, N>, sign: &LaneSign, ask: Ask) -> bool {
+    match sign.has_floor() {
+        Some(seen) => seen,
+        None => {
+            let (_, has_floor) = rounds.opening(ask.way, ask.user);
+            sign.set_floor(has_floor);
+            has_floor
+        }
+    }
+}
+
+// Tells each lane that a round has answered whether it was granted all that it asked for, whether rounds wait for its next
+// ask, and one that receives whether its rates have plenty left, and whether none is a limit.
 fn report_grants<B: PartsName, N>(
     lanes: &[LaneSign],
     rounds: &LentRounds<B, N>,
@@ -78,6 +102,7 @@ fn report_grants<B: PartsName, N>(
     for ((lane, ask), grant) in record.lanes.iter().zip(&record.asks).zip(grants) {
         if let Some(sign) = lanes.get(*lane as usize) {
             sign.set_whole(*grant >= ask.want);
+            sign.set_awaited(has_floor(rounds, sign, *ask));
             if matches!(ask.way, Way::Up) {
                 sign.set_plenty(rounds.has_plenty(Way::Up, ask.user, now));
                 sign.set_free(rounds.is_free(Way::Up, ask.user));
@@ -95,6 +120,7 @@ fn hold_one<S: Store<Global>, H: Drop, B: PartsName, N>(
     now: Moment,
 ) {
     let given = open_lanes(house, &*rounds, now.micros());
+    leave_late(&house.lanes, &given);
     let transfers = transfers_of(&house.lanes);
     match rounds.hold(alloc, desk, now, &given, &transfers) {
         Ok(record) => {
@@ -121,6 +147,7 @@ fn sooner(one: Due, other: Due) -> Due
 fn due_at<S: Store<Global>, H: Drop, B: PartsName, N>(
     house: &House<S, H, B>,
     rounds: &LentRounds<B, N>,
+    awaited: Awaited,
     sign: &LaneSign,
     now: u64,
 ) -> Due {
@@ -130,7 +157,7 @@ fn due_at<S: Store<Global>, H: Drop, B: PartsName, N>(
         None => return Due::At(u64::MAX),
     }
     let (way, user) = sign.name.get();
-    rounds.due_for(way, user, now)
+    due_for(rounds, awaited, way, user, now)
 }
 
 // The earliest moment of a round for the worker of a lane, or for that of any.
@@ -140,12 +167,13 @@ fn due_by<S: Store<Global>, H: Drop, B: PartsName, N>(
     sign: Option<&LaneSign>,
     now: u64,
 ) -> Due {
+    let awaited = find_awaited(house, rounds);
     match sign {
-        Some(sign) => due_at(house, rounds, sign, now),
+        Some(sign) => due_at(house, rounds, awaited, sign, now),
         None => {
             let mut due = Due::At(u64::MAX);
             for lane in &house.lanes {
-                due = sooner(due, due_at(house, rounds, lane, now));
+                due = sooner(due, due_at(house, rounds, awaited, lane, now));
             }
             due
         }

@@ -13,11 +13,11 @@ ghost use Rattle.round_pace.specs.Histories.{rates_of, after};
 ghost use Rattle.round_pace.specs.Offered.{offer_round};
 ghost use Rattle.line_rates.specs.Rates.{Rates};
 ghost use Rattle.round_pace.specs.Paced.{IsPacedFrom};
-ghost use Rattle.round_pace.specs.Rows.{are_free, rows_of};
+ghost use Rattle.round_pace.specs.Rows.{are_free, has_floor, rows_of};
 ghost use Rattle.round_tally.specs.Counts.{tallied};
 ghost use Rattle.paced_rounds.specs.History.{round_at, history, ended_in, stretch_under, stretches};
 ghost use Rattle.paced_rounds.specs.HeldLeaves.{AreHeld};
-ghost use Rattle.paced_rounds.specs.Beating.{has_plenty, is_open, due_open};
+ghost use Rattle.paced_rounds.specs.Beating.{has_plenty, is_open, due_open, opens_in};
 ghost use Rattle.paced_rounds.specs.Allowed.{AreAllowed};
 
 use crate::clock::Moment;
@@ -107,6 +107,15 @@ impl<B: PartsName, N> LentRounds<B, N> {
         ensures free { result ≡ are_free (rows_of way user self.now.rounds.pace) }
     {
         self.rounds.is_free(way, user)
+    }
+
+    /// The first tick in which all rows that a transfer of a user is within are open, and whether its session has a
+    /// guarantee.
+    pub fn opening(&self, way: Way, user: u32) -> (u64, bool)
+        ensures opens { result.0 ≡ opens_in way user self.now.rounds.pace self.now.rounds.cadence }
+        ensures floor { result.1 ≡ has_floor (rows_of way user self.now.rounds.pace) }
+    {
+        self.rounds.opening(way, user)
     }
 
     /// The earliest moment of the next round for a transfer of a user.

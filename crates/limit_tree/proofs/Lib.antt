@@ -19,3 +19,4 @@ pub mod Copied
 pub mod Shown
 pub mod Deeper
 pub mod Taken
+pub mod DepthsByKids

@@ -6,7 +6,7 @@ ghost use Rattle.limit_tree.specs.Sharing.{sum_over, IsWanted, IsLimitTree, Bran
 ghost use Rattle.limit_tree.specs.Outline.{places, limits, leaves_under, absorbed};
 ghost use Rattle.limit_tree.specs.Copies.{AreCopied};
 ghost use Rattle.limit_tree.specs.Laws.{LaterIsInside};
-ghost use Rattle.limit_tree.specs.Depths.{LaterIsDeeper};
+ghost use Rattle.limit_tree.specs.Depths.{HaveDepths, LaterIsDeeper};
 ghost use Rattle.limit_tree.specs.Faults.{tree_fault};
 ghost use Rattle.limit_tree.specs.Flat.{IsFlat};
 
@@ -87,11 +87,13 @@ impl<A: Allocator> Tree<A> {
         self.nodes
     }
 
-    /// The nodes of a tree have the shape of a tree, and their numbers have no fault. Of two nodes with a common leaf,
-    /// the later one is deeper.
+    /// The nodes of a tree have the shape and the depths of a tree, and their numbers have no fault. Of two nodes with a
+    /// common leaf, the later one is deeper.
     pub fn nodes_are_a_tree(&self)
         ensures flat { IsFlat self.now }
         ensures deeper { LaterIsDeeper self.now }
+        ensures depths { HaveDepths self.now }
+        ensures sound { tree_fault self.now ≡ None }
     {
         recall!(self.leaves);
     }

@@ -2,5 +2,7 @@ mod Files
 mod KeptNames
 mod Numbers
 mod Reloading
+mod Rewritten
 mod Searching
 mod Taking
+mod Unread

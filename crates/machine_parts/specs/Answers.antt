@@ -4,6 +4,8 @@ use Rattle.std.specs.IoError.{error_kind}
 use Rattle.std.specs.declared.io.Error.{Error}
 use Rattle.std.specs.declared.io.ErrorKind.{ErrorKind}
 use Rattle.std.specs.declared.io.ErrorKind.TheVariants.{NotFound}
+use Rattle.folder_store.specs.declared.looked.LookedKind.{LookedKind}
+use Rattle.folder_store.specs.declared.looked.LookedKind.TheVariants as looked
 use Rattle.machine_parts.specs.declared.answers.FileKind.{FileKind}
 use Rattle.machine_parts.specs.declared.answers.FileKind.TheVariants.{File, Device, Other}
 use Rattle.machine_parts.specs.declared.sign_file.SignLook.{SignLook}
@@ -21,16 +23,22 @@ kind_of mode =
     (cond (nat_eq ((mode / 2 ^ 12) % 16) 2) Device Other)
 
 -- a text may replace nothing, and a regular file
-abbrev pub may_be_replaced : Option FileKind → Bool
+abbrev pub may_be_replaced : Option LookedKind → Bool
 may_be_replaced None = true
-may_be_replaced (Some File) = true
-may_be_replaced (Some Device) = false
-may_be_replaced (Some Other) = false
+may_be_replaced (Some looked.File) = true
+may_be_replaced (Some looked.Directory) = false
+may_be_replaced (Some looked.Other) = false
 
 -- a look at the path of a sign, by the machine's reason for which nothing is found, if there is one
 abbrev pub look_of : Option Error → SignLook
 look_of None = There
 look_of (Some reason) = cond (is_absent (error_kind reason)) Nothing (Unseen reason)
+
+-- a sign is given exactly if its file is there
+abbrev pub is_given : SignLook → Bool
+is_given There = true
+is_given Nothing = false
+is_given (Unseen reason) = false
 
 -- a look that the machine has refused
 abbrev pub refusal_of : SignLook → Option Error

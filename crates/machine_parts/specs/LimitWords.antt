@@ -1,6 +1,8 @@
 -- A limit in words: its key, and whose it is.
-use Rattle.std.specs.Prelude.{ℕ, ◌++◌, List, Option, Some, None, codes, map, slice_get, string_bytes}
-use Rattle.std.specs.Fmt.{◌++?◌, debug_str}
+use Rattle.std.specs.Prelude.{ℕ, if◌then◌else◌, nat_eq, List, ◌++◌, codes, encode_utf8, Option, Some, None, map, slice_get, string_bytes}
+use Rattle.std.specs.Char.{is_control}
+use Rattle.std.specs.List.{flat_map}
+use Rattle.std.specs.Str.{chars}
 use Rattle.line_rates.specs.declared.ask.Name.{Name}
 use Rattle.line_rates.specs.declared.ask.Name.TheVariants.{Server, Direction, Group, User, Session}
 use Rattle.line_rates.specs.declared.ask.Way.{Way}
@@ -21,12 +23,27 @@ name_of known (Group way group) = slice_get (map string_bytes known.groups.items
 name_of known (User way user) = name_in known.users.items user
 name_of known (Session way user session) = name_in known.users.items user
 
--- words, and a name in quotation marks, escaped; none without a name, or if it is not ASCII, of
--- which std has no definition
+-- a backslash before a quotation mark and a backslash, and a question mark for a control character
+abbrev pub escaped_character : ℕ → List ℕ
+escaped_character character =
+    if nat_eq character 34 then codes "\\\""
+    else if nat_eq character 92 then codes "\\\\"
+    else if is_control character then codes "?"
+    else encode_utf8 character
+
+abbrev pub escaped : List ℕ → List ℕ
+escaped name = flat_map escaped_character (chars name)
+
+-- a name in quotation marks
+abbrev pub quoted : List ℕ → List ℕ
+quoted name = codes "\"" ++ (escaped name ++ codes "\"")
+
+-- words, and a name in quotation marks; none without a name
 abbrev pub with_name : List ℕ → Option (List ℕ) → Option (List ℕ)
 with_name words None = None
-with_name words (Some name) = Some words ++? debug_str name
+with_name words (Some name) = Some (words ++ quoted name)
 
+-- the key of a limit, and whose it is
 abbrev pub limit_text : Known → Name → Option (List ℕ)
 limit_text known Server = Some (codes "`rate` of the server")
 limit_text known (Direction way) = Some (codes "`" ++ (key_of way ++ codes "` of the server"))

@@ -83,14 +83,15 @@ IsSignFault End path (Reported reason) (EndFileUnseen at why) =
 IsSignFault _ path _ _ = ⊥
 
 -- the file at a path, with the new file beside it, and with these permissions
-pub record IsFileAt {Y Z : Type 0} (mode : ℕ) (paths : String Y × String Z) (file : StatusFile)
-    : Type 0 where
+pub record IsFileAt {M Y Z : Type 0} (mode : ℕ) (paths : String Y × String Z)
+    (file : StatusFile M) : Type 0 where
   pub path : string_bytes file.path ≡ string_bytes paths.0
   pub beside : string_bytes file.beside ≡ string_bytes paths.1
   pub mode_is : file.mode ≡ mode
 
 -- there is one if there are paths
-abbrev pub IsFileIf : {Y Z : Type 0} → ℕ → Option (String Y × String Z) → Option StatusFile → Type 0
+abbrev pub IsFileIf : {M Y Z : Type 0} → ℕ → Option (String Y × String Z) → Option (StatusFile M)
+    → Type 0
 IsFileIf mode None found = found ≡ None
 IsFileIf mode (Some paths) None = ⊥
 IsFileIf mode (Some paths) (Some file) = IsFileAt mode paths file

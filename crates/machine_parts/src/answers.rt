@@ -4,6 +4,7 @@ ghost use Rattle.std.specs.Prelude.{◌≡◌};
 ghost use Rattle.std.specs.IoError.{error_kind};
 ghost use Rattle.machine_parts.specs.Answers.{is_absent, kind_of, may_be_replaced};
 
+use folder_store::LookedKind;
 use std::io;
 
 /// The kind of what is at a path.
@@ -36,8 +37,8 @@ pub(crate) fn kind_of(mode: u32) -> FileKind
 }
 
 /// Returns whether a text may replace what is at a path: nothing, or a regular file.
-pub(crate) fn may_be_replaced(kind: Option<FileKind>) -> bool
+pub(crate) fn may_be_replaced(kind: Option<LookedKind>) -> bool
     ensures free { result ≡ may_be_replaced kind }
 {
-    matches!(kind, None | Some(FileKind::File))
+    matches!(kind, None | Some(LookedKind::File))
 }

@@ -1,22 +1,21 @@
 //! The configuration that a running server takes next.
 
-ghost use Rattle.std.specs.Prelude.{◌≡◌, IfErr, IfOk, IfSome, option_map, string_bytes};
+ghost use Rattle.std.specs.Prelude.{◌≡◌, IfErr, IfOk, option_map, string_bytes};
 ghost use Rattle.line_rates.specs.Rates.{Rates};
 ghost use Rattle.config_change.specs.Past.{KeepPast};
 ghost use Rattle.machine_parts.specs.Following.{AreParts, IsHindrance, IsNoConfig, IsNumberedAs, IsPastFault, IsUnnumbered, capacity_of, root_of};
-ghost use Rattle.machine_parts.specs.LimitWords.{key_of, limit_text};
 ghost use Rattle.machine_parts.specs.Reloads.{IsNext, IsNotTaken, KeepsNames};
 ghost use Rattle.server_config.specs.Configs.{IsConfigText};
 
 use crate::facts::{Start, copied_limits, facts_of};
 use crate::known::Known;
+use crate::reasons::words;
 use config_change::{FixedValues, RenumberFault, count_fault, fixed_key, renumbered, with_past};
-use line_rates::{Limits, Name, Way};
+use line_rates::Limits;
 use server_config::{Config, ConfigFault, ServedStore, ServerNumbers};
 use server_house::Terms;
 use status_keeper::StatusFacts;
 use std::alloc::{AllocError, Global};
-use std::fmt::Display;
 use std::sync::Arc;
 
 /// The values of a server's start that a reload cannot change, and its moment.
@@ -40,14 +39,6 @@ pub struct NextConfig {
     pub known: Known,
     /// The facts that a status shows; none without memory for them.
     pub facts: Option<StatusFacts>,
-}
-
-/// A reason in words; none if memory runs out.
-pub fn words<T: Display>(alloc: Global, reason: &T) -> Option<String>
-    ensures words { IfSome result
-        (λ text. IfSome (T.output reason.now) (λ octets. string_bytes text ≡ octets)) }
-{
-    format!(in alloc; "{reason}").ok()
 }
 
 // The root of a store, as a configuration states it.
@@ -114,40 +105,6 @@ impl AtStart {
             None => None,
         }
     }
-}
-
-// The key of a rate of a way.
-fn key_of(way: Way) -> &'static str
-    ensures key { result.now ≡ key_of way }
-{
-    match way {
-        Way::Down => "down_rate",
-        Way::Up => "up_rate",
-    }
-}
-
-/// A limit in words: its key, and whose it is. None if memory runs out, or if nobody is known by the number.
-pub fn limit_words(alloc: Global, known: &Known, name: Name) -> Option<String>
-    ensures words { IfSome result (λ text. IfSome (limit_text known.now name)
-        (λ octets. string_bytes text ≡ octets)) }
-{
-    let reported = match name {
-        Name::Server => String::from_str(alloc, "`rate` of the server"),
-        Name::Direction(way) => format!(in alloc; "`{}` of the server", key_of(way)),
-        Name::Group(way, group) => {
-            let name = known.groups.get(group as usize)?;
-            format!(in alloc; "`{}` of the group {:?}", key_of(way), name.as_str())
-        }
-        Name::User(way, user) => {
-            let name = known.user(user)?;
-            format!(in alloc; "`{}` of the user {name:?}", key_of(way))
-        }
-        Name::Session(way, user, _) => {
-            let name = known.user(user)?;
-            format!(in alloc; "`session_{}` of the user {name:?}", key_of(way))
-        }
-    };
-    reported.ok()
 }
 
 // The configuration of octets of the file at a path. `Err` is the reason for which they are none, with the path; none

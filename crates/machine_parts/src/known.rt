@@ -1,6 +1,6 @@
 //! The names of users and groups that a server knows by numbers.
 
-ghost use Rattle.std.specs.Prelude.{◌≡◌, ◌+◌, ◌-◌, IfOk, OnOk, count_by, map, nat_eq, not, option_map, string_bytes};
+ghost use Rattle.std.specs.Prelude.{◌≡◌, ◌+◌, ◌-◌, IfOk, OnOk, count_by, map, nat_eq, not, option_map, slice_get, string_bytes};
 ghost use Rattle.std.specs.List.{list_any};
 ghost use Rattle.std.specs.List.Sorted.{IsNonDecreasing};
 ghost use Rattle.std.specs.FinMap as finite;
@@ -157,6 +157,15 @@ impl Known {
             }
         }
         None
+    }
+
+    /// The name of the group with a number.
+    pub fn group(&self, number: u32) -> Option<&str>
+        ensures name { option_map (λ name. name.now) result
+            ≡ slice_get (map string_bytes self.now.groups.items) number }
+    {
+        let name = self.groups.get(number as usize)?;
+        Some(name.as_str())
     }
 
     /// An authorizer in which users of these names have these numbers, and new ones get others than anybody has had.

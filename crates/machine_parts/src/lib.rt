@@ -13,16 +13,19 @@
 //!
 //! Decisions that need no machine have contracts: `asked` and `stated_options` on the service that the words state,
 //! `following`, `facts` and [`Known`] on the parts of a reload, which [`next_config`] puts together, and `answers` on what the
-//! machine has answered. Calls that only ask the machine have none.
+//! machine has answered. `starting` has each sign and log at the path that is stated for it. `status_file` and `file_reading`
+//! name the calls that they make on any machine of files, and their order. Calls that only ask the machine have none.
 #![tactic(auto)]
 
 mod answers;
 mod asked;
 mod config_thread;
 mod facts;
+mod file_reading;
 mod following;
 mod keeper;
 mod known;
+mod limit_in_words;
 mod log_file;
 mod log_thread;
 mod looked_file;
@@ -31,6 +34,7 @@ mod options;
 mod own_thread;
 mod page_thread;
 mod ready_file;
+mod reasons;
 mod running_file;
 mod sign_file;
 mod starting;
@@ -43,17 +47,20 @@ mod usage_files;
 mod watched_file;
 
 pub use asked::{AskedServer, AskedService, ReadText, SignPaths, WrittenPaths};
-pub use config_thread::{ConfigReader, ReadOctets};
+pub use config_thread::ConfigReader;
 pub use facts::{Start, copied_limits, start_of};
-pub use following::{AtStart, NextConfig, limit_words, next_config, words};
+pub use file_reading::ReadOctets;
+pub use following::{AtStart, NextConfig, next_config};
 pub use keeper::{Cells, MachineNotes, keeper_of};
 pub use known::Known;
+pub use limit_in_words::limit_words;
 pub use log_file::LogFile;
 pub use log_thread::{LogThreads, PlainNotes, QueuedTransfers};
 pub use looked_file::looked_at;
 pub use machine_files::MachineFiles;
 pub use page_thread::PageSocket;
 pub use ready_file::MachineReadyFile;
+pub use reasons::words;
 pub use running_file::RunningWriter;
 pub use sign_file::{SignFile, SignLook};
 pub use starting::{Means, Prepared, Shown, Signs, prepare};

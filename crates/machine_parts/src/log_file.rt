@@ -1,6 +1,6 @@
 //! The file of the transfer log.
 
-ghost use Rattle.std.specs.Prelude.{◌≡◌, ◌/◌, ◌%◌, ◌^◌, ◌||◌, nat_eq};
+ghost use Rattle.std.specs.Prelude.{◌≡◌, ◌/◌, ◌%◌, ◌^◌, ◌||◌, IfErr, IfOk, nat_eq, string_bytes};
 
 use crate::options::log_options;
 use counted_file::CountedFile;
@@ -66,7 +66,10 @@ fn opened(machine: &HostRuntime, path: &str) -> io::Result<OpenLog> {
 
 impl LogFile {
     /// The transfer log at a path. `Err` is the machine's reason if its file cannot be opened, with the path.
-    pub fn at(machine: HostRuntime, path: String) -> Result<LogFile, (String, io::Error)> {
+    pub fn at(machine: HostRuntime, path: String) -> Result<LogFile, (String, io::Error)>
+        ensures path { IfOk result (λ log. log.path ≡ path) }
+        ensures refused { IfErr result (λ refused. refused.0 ≡ path) }
+    {
         match opened(&machine, path.as_str()) {
             Ok(open) => Ok(LogFile {
                 machine,
@@ -78,7 +81,9 @@ impl LogFile {
     }
 
     /// Returns the path.
-    pub fn path(&self) -> &str {
+    pub fn path(&self) -> &str
+        ensures path { result.now ≡ string_bytes self.now.path }
+    {
         self.path.as_str()
     }
 

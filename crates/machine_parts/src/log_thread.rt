@@ -1,6 +1,7 @@
 //! The threads that write notes and the transfer log.
 
-ghost use Rattle.std.specs.Prelude.{◌≡◌, MatchResult, false, true};
+ghost use Rattle.std.specs.Prelude.{◌≡◌, IfOk, MatchResult, false, string_bytes, true};
+ghost use Rattle.machine_parts.specs.PlainNotes.{gone_line, head_of};
 
 use crate::log_file::LogFile;
 use crate::own_thread::{STACK, ThreadSigns, shared};
@@ -49,11 +50,21 @@ impl<R: Wait + AllocGlobal> TransferLog for QueuedTransfers<R> {
 }
 
 /// The head of a note with a count of dropped lines, in a form.
-fn count_head(form: LogForm) -> &'static str {
+fn count_head(form: LogForm) -> &'static str
+    ensures head { result.now ≡ head_of form }
+{
     match form {
         LogForm::Plain => "[WARN ] ",
         LogForm::Journal => "<4>",
     }
+}
+
+/// The note of the number of users that a new configuration has no longer.
+fn gone_line(alloc: Global, form: LogForm, count: u64) -> Result<String, AllocError>
+    ensures line { IfOk result (λ line. string_bytes line ≡ gone_line form count) }
+{
+    let head = count_head(form);
+    format!(in alloc; "{head}users that the new configuration has no longer: {count}\n")
 }
 
 /// Notes without a time, under the head of a warning.
@@ -71,11 +82,7 @@ impl PlainNotes {
 
     /// Notes the number of users that a new configuration has no longer.
     pub fn note_gone<R: Wait + AllocGlobal>(&self, rt: &R, count: u64) {
-        let head = count_head(self.form);
-        let line = format!(in rt.alloc();
-            "{head}users that the new configuration has no longer: {count}\n"
-        );
-        self.lines.note(rt, line);
+        self.lines.note(rt, gone_line(rt.alloc(), self.form, count));
     }
 
     /// Notes that a file of the server's cannot be written; `what` says which.

@@ -4,7 +4,8 @@
 //! the owner's paths are examined, opened, read and written by such threads, and the end of the server waits at most
 //! [`LAST_WAIT`] for each. One that has not ended by then ends with the process.
 
-ghost use Rattle.std.specs.Prelude.{◌≡◌, ◌-◌};
+ghost use Rattle.std.specs.Prelude.{◌≡◌, ◌-◌, IfOk};
+ghost use Rattle.std.specs.Arc.{arc_value};
 
 use event_word::{EventCount, micros};
 use std::alloc::{AllocError, Global};
@@ -22,7 +23,9 @@ pub const LAST_WAIT: u64 = 1_000_000;
 const LONGEST_SLEEP: u64 = 10;
 
 /// A value that such a thread shares with those who give it work.
-pub fn shared<T: Drop>(alloc: Global, value: T) -> Result<Arc<T>, AllocError> {
+pub fn shared<T: Drop>(alloc: Global, value: T) -> Result<Arc<T>, AllocError>
+    ensures value { IfOk result (λ handle. arc_value handle ≡ value) }
+{
     let handle = Arc::new(alloc, value)?;
     Ok(handle)
 }

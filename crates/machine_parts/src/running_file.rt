@@ -26,7 +26,7 @@ impl RunningWriter {
     pub fn start<R>(
         rt: &R,
         alloc: Global,
-        file: StatusFile,
+        file: StatusFile<HostRuntime>,
         notes: PlainNotes,
     ) -> Result<Arc<RunningWriter>, ServeFault>
     where
@@ -43,7 +43,7 @@ impl RunningWriter {
         let runtime = *rt;
         let started = Builder::new()
             .stack_size(STACK)
-            .spawn(rt, move || own.work(&runtime, &file, &notes));
+            .spawn(rt, move || own.work(&runtime, file, &notes));
         match started {
             Ok(_) => Ok(writer),
             Err(_) => Err(ServeFault::NoThread),
@@ -51,12 +51,19 @@ impl RunningWriter {
     }
 
     // Writes each text that it is given, until no more work comes; then removes the file, if it has the last one.
-    fn work<R: Wait + Clock + AllocGlobal>(&self, rt: &R, file: &StatusFile, notes: &PlainNotes) {
+    fn work<R: Wait + Clock + AllocGlobal>(
+        &self,
+        rt: &R,
+        file: StatusFile<HostRuntime>,
+        notes: &PlainNotes,
+    ) {
+        let mut file = file;
         let mut is_written = false;
         for _ in rt.forever() {
             let seen = self.signs.seen();
             if let Some(octets) = self.next(rt) {
-                is_written = noted(rt, file, notes, file.write(octets.as_slice()));
+                let written = file.write(octets.as_slice());
+                is_written = noted(rt, &file, notes, written);
             } else if self.signs.is_closed() {
                 if is_written {
                     file.remove();
@@ -89,7 +96,7 @@ impl RunningWriter {
 // Notes the machine's reason for which a text was not written, if there is one. Returns whether it was written.
 fn noted<R: Wait + AllocGlobal>(
     rt: &R,
-    file: &StatusFile,
+    file: &StatusFile<HostRuntime>,
     notes: &PlainNotes,
     written: io::Result<()>,
 ) -> bool {

@@ -1,11 +1,16 @@
 //! The files by which the owner of a server ends it.
 
-ghost use Rattle.std.specs.Prelude.{◌≡◌, string_bytes};
-ghost use Rattle.machine_parts.specs.Answers.{look_of, noted_of, refusal_of};
+ghost use Rattle.std.specs.Prelude.{◌≡◌, IfSome, Result, Some, cond, is_some, string_bytes};
+ghost use Rattle.std.specs.Result.{result_err};
+ghost use Rattle.std.specs.declared.io.Error.{Error};
+ghost use Rattle.folder_store.specs.MachineCalls.MachineCall.{Follows};
+ghost use Rattle.folder_store.specs.declared.looked.Looked.{Looked};
+ghost use Rattle.machine_parts.specs.Answers.{is_given, look_of, noted_of, refusal_of};
 
 use crate::answers::is_absent;
+use folder_store::{FolderMachine, Looked};
+use std::io;
 use std::sync::atomic::{AtomicU64, Ordering};
-use std::{fs, io};
 
 /// A look at the path of a sign.
 #[derive(Clone, Copy)]
@@ -27,9 +32,11 @@ pub struct SignFile {
     unseen: AtomicU64,
 }
 
-// The machine's reason for which nothing is found at a path, if there is one.
-fn reason_at(machine: &HostRuntime, path: &str) -> Option<io::Error> {
-    match fs::metadata(machine, path) {
+// The machine's reason for which nothing is found at a path, if its answer has one.
+fn reason_in(found: io::Result<Looked>) -> Option<io::Error>
+    ensures reason { result ≡ result_err found }
+{
+    match found {
         Ok(_) => None,
         Err(reason) => Some(reason),
     }
@@ -44,6 +51,22 @@ fn look_of(reason: Option<io::Error>) -> SignLook
         Some(reason) if is_absent(&reason) => SignLook::Nothing,
         Some(reason) => SignLook::Unseen(reason),
     }
+}
+
+/// A look at a path.
+pub(crate) fn look_at<M: FolderMachine>(machine: &mut M, path: &str) -> SignLook
+    ensures look { (found : Result Looked Error)
+        × M.Does machine.old (Follows path.now found) machine.new
+        × (result ≡ look_of (result_err found)) }
+{
+    look_of(reason_in(machine.follow(path)))
+}
+
+// Returns whether a look has found the file of a sign.
+fn is_given(look: SignLook) -> bool
+    ensures given { result ≡ is_given look }
+{
+    matches!(look, SignLook::There)
 }
 
 // The machine's reason for which a look was refused, if it was.
@@ -66,6 +89,13 @@ fn noted_of(was_unseen: bool, look: SignLook) -> Option<io::Error>
     refusal_of(look)
 }
 
+// The mark of a look that was refused, or was not.
+fn mark_of(look: SignLook) -> u64
+    ensures mark { result ≡ cond (is_some (refusal_of look)) 1 0 }
+{
+    u64::from(refusal_of(look).is_some())
+}
+
 impl SignFile {
     /// The file of a path.
     pub fn new(machine: HostRuntime, path: String) -> SignFile
@@ -86,17 +116,19 @@ impl SignFile {
 
     /// Returns whether there is a file at the path.
     pub fn is_there(&self) -> bool {
-        matches!(self.look(), SignLook::There)
+        is_given(self.look())
     }
 
     /// Looks at the path.
     pub fn look(&self) -> SignLook {
-        look_of(reason_at(&self.machine, self.path.as_str()))
+        let mut machine = self.machine;
+        look_at(&mut machine, self.path.as_str())
     }
 
     /// The machine's reason for which it cannot be examined, if it could be the time before.
-    pub fn new_reason(&self, look: SignLook) -> Option<io::Error> {
-        let unseen = u64::from(refusal_of(look).is_some());
-        noted_of(self.unseen.swap(unseen, Ordering::SeqCst) == 1, look)
+    pub fn new_reason(&self, look: SignLook) -> Option<io::Error>
+        ensures reason { IfSome result (λ reason. refusal_of look ≡ Some reason) }
+    {
+        noted_of(self.unseen.swap(mark_of(look), Ordering::SeqCst) == 1, look)
     }
 }

@@ -1,15 +1,19 @@
 //! The files and sockets that a server needs from the machine at its start.
 
-ghost use Rattle.std.specs.Prelude.{◌≡◌, IfOk, string_bytes};
+ghost use Rattle.std.specs.Prelude.{◌≡◌, IfErr, IfOk, IfSome, None, Some, is_some, false, string_bytes, true};
+ghost use Rattle.std.specs.Fs.{IsDir, file_type};
+ghost use Rattle.std.specs.IoError.{raw_os_error};
 ghost use Rattle.machine_parts.specs.Answers.{group_mode, owner_mode};
+ghost use Rattle.machine_parts.specs.Prepared.{AreSignsAt, IsEndAt, IsLogAt, IsReadyAt, IsSignAt, hindrance_of};
 ghost use Rattle.machine_parts.specs.Starting.{IsFileIf, IsSignFault};
+ghost use Rattle.machine_parts.specs.declared.starting.Hindrance.{Hindrance};
 
 use crate::asked::{AskedService, ReadText, SignPaths, WrittenPaths};
 use crate::log_file::LogFile;
 use crate::page_thread::PageSocket;
 use crate::ready_file::MachineReadyFile;
 use crate::running_file::RUNNING_MODE;
-use crate::sign_file::SignFile;
+use crate::sign_file::{SignFile, SignLook, look_at};
 use crate::stated_files::{FRONT, found_at, twin_of};
 use crate::stated_options::{
     Unprepared, check_options, form_named, not_prepared, part, sessions_in, warned,
@@ -36,8 +40,8 @@ pub struct Signs {
 /// The files and the socket that show the state of a server, those that there are to be.
 #[derive(Drop)]
 pub struct Shown {
-    pub running: Option<StatusFile>,
-    pub status: Option<StatusFile>,
+    pub running: Option<StatusFile<HostRuntime>>,
+    pub status: Option<StatusFile<HostRuntime>>,
     pub page: Option<PageSocket>,
 }
 
@@ -67,13 +71,24 @@ pub struct Prepared {
 /// Number of the machine's error "Not a directory".
 const NOT_A_DIRECTORY: i32 = 20;
 
-/// Returns the machine's reason for which there is no folder at a path, if there is one.
-fn no_folder(machine: &HostRuntime, path: &str) -> Option<io::Error> {
-    match fs::metadata(machine, path) {
+/// Returns the reason for which what the machine finds is no folder, if there is one.
+fn no_folder_in(found: io::Result<fs::Metadata>) -> Option<io::Error>
+    ensures folder { IfOk found (λ found. result ≡ None → IsDir (file_type found)) }
+    ensures taken { IfOk found (λ found. IsDir (file_type found) → result ≡ None) }
+    ensures number { IfOk found (λ _. IfSome result
+        (λ reason. raw_os_error reason ≡ Some NOT_A_DIRECTORY)) }
+    ensures reason { IfErr found (λ reason. result ≡ Some reason) }
+{
+    match found {
         Ok(found) if found.is_dir() => None,
         Ok(_) => Some(io::Error::from_raw_os_error(NOT_A_DIRECTORY)),
         Err(reason) => Some(reason),
     }
+}
+
+/// Returns the machine's reason for which there is no folder at a path, if there is one.
+fn no_folder(machine: &HostRuntime, path: &str) -> Option<io::Error> {
+    no_folder_in(fs::metadata(machine, path))
 }
 
 /// Returns the path of the folder of a file.
@@ -94,16 +109,26 @@ enum Hindrance {
     Reported(io::Error),
 }
 
+/// Returns the hindrance that a look at the path itself shows, if it shows one.
+fn hindrance_of(look: SignLook) -> Option<Hindrance>
+    ensures hindrance { result ≡ hindrance_of look }
+{
+    match look {
+        SignLook::There => Some(Hindrance::There),
+        SignLook::Nothing => None,
+        SignLook::Unseen(reason) => Some(Hindrance::Reported(reason)),
+    }
+}
+
 /// Returns the reason for which no file can appear at a path, if there is one.
 fn hindrance_at(machine: &HostRuntime, path: &str) -> Option<Hindrance> {
-    let reason = match fs::metadata(machine, path) {
-        Ok(_) => return Some(Hindrance::There),
-        Err(reason) if reason.kind() != io::ErrorKind::NotFound => Some(reason),
-        Err(_) => no_folder(machine, folder_of(path)),
-    };
-    match reason {
-        Some(reason) => Some(Hindrance::Reported(reason)),
-        None => None,
+    let mut files = *machine;
+    match look_at(&mut files, path) {
+        SignLook::Nothing => match no_folder(machine, folder_of(path)) {
+            Some(reason) => Some(Hindrance::Reported(reason)),
+            None => None,
+        },
+        look => hindrance_of(look),
     }
 }
 
@@ -140,7 +165,12 @@ fn sign_if_any(
     machine: &HostRuntime,
     sign: Sign,
     path: Option<String>,
-) -> Result<Option<SignFile>, StartFault> {
+) -> Result<Option<SignFile>, StartFault>
+    ensures sign { IfOk result (IsSignAt path) }
+    ensures refused { IfErr result (λ fault. IfSome path
+        (λ at. (hindrance : Hindrance) × IsSignFault sign (string_bytes at) hindrance fault)) }
+    ensures stated { IfErr result (λ _. is_some path ≡ true) }
+{
     let Some(path) = path else {
         return Ok(None);
     };
@@ -154,7 +184,9 @@ fn sign_if_any(
 fn end_if_any(
     machine: &HostRuntime,
     path: Option<String>,
-) -> Result<Option<(SignFile, String)>, Unprepared> {
+) -> Result<Option<(SignFile, String)>, Unprepared>
+    ensures sign { IfOk result (IsEndAt path) }
+{
     let sign = part(sign_if_any(machine, Sign::End, path), ServeFault::EndFile)?;
     let Some(sign) = sign else {
         return Ok(None);
@@ -171,7 +203,9 @@ fn end_if_any(
 fn ready_if_any(
     machine: &HostRuntime,
     path: Option<String>,
-) -> Result<Option<MachineReadyFile>, StartFault> {
+) -> Result<Option<MachineReadyFile>, StartFault>
+    ensures ready { IfOk result (IsReadyAt path) }
+{
     match path {
         Some(path) => match ready_at(machine, path) {
             Ok(ready) => Ok(Some(ready)),
@@ -182,7 +216,10 @@ fn ready_if_any(
 }
 
 /// Returns the ready file at a path. `Err` if there is something at the path, or if no file could be made there.
-fn ready_at(machine: &HostRuntime, path: String) -> Result<MachineReadyFile, StartFault> {
+fn ready_at(machine: &HostRuntime, path: String) -> Result<MachineReadyFile, StartFault>
+    ensures path { IfOk result (λ ready. ready.path ≡ path) }
+    ensures none { IfOk result (λ ready. ready.is_there ≡ false) }
+{
     match hindrance_at(machine, path.as_str()) {
         Some(Hindrance::There) => Err(StartFault::ReadyFileThere { path }),
         Some(Hindrance::Reported(reason)) => Err(StartFault::ReadyFileUnmade { path, reason }),
@@ -195,7 +232,9 @@ fn ready_at(machine: &HostRuntime, path: String) -> Result<MachineReadyFile, Sta
 }
 
 /// Returns the transfer log at a path, if there is to be one. `Err` if its file cannot be opened.
-fn log_at(machine: &HostRuntime, path: Option<String>) -> Result<Option<LogFile>, StartFault> {
+fn log_at(machine: &HostRuntime, path: Option<String>) -> Result<Option<LogFile>, StartFault>
+    ensures log { IfOk result (IsLogAt path) }
+{
     match path {
         None => Ok(None),
         Some(path) => match LogFile::at(*machine, log_path(machine, path)?) {
@@ -257,14 +296,14 @@ fn check_twins(machine: &HostRuntime, service: &AskedService) -> Result<(), Unpr
 fn status_at(
     machine: &HostRuntime,
     paths: Option<(String, String)>,
-) -> Result<Option<StatusFile>, StartFault>
+) -> Result<Option<StatusFile<HostRuntime>>, StartFault>
     ensures file { IfOk result (IsFileIf group_mode paths) }
 {
     let Some((path, beside)) = paths else {
         return Ok(None);
     };
     let path = status_path(machine, path)?;
-    let file = StatusFile::new(*machine, path, beside, STATUS_MODE);
+    let mut file = StatusFile::new(*machine, path, beside, STATUS_MODE);
     match file.try_out() {
         Ok(()) => Ok(Some(file)),
         Err(reason) => Err(StartFault::StatusUnwritten {
@@ -275,7 +314,10 @@ fn status_at(
 }
 
 /// Returns the running file at these paths, if there is to be one. Whether it can be written is noted later.
-fn running_at(machine: &HostRuntime, paths: Option<(String, String)>) -> Option<StatusFile>
+fn running_at(
+    machine: &HostRuntime,
+    paths: Option<(String, String)>,
+) -> Option<StatusFile<HostRuntime>>
     ensures file { IsFileIf owner_mode paths result }
 {
     match paths {
@@ -291,6 +333,7 @@ fn running_at(machine: &HostRuntime, paths: Option<(String, String)>) -> Option<
 fn page_at<R>(rt: &R, port: Option<u16>) -> Result<Option<PageSocket>, StartFault>
 where
     R: Net<Listener = TcpListener, Stream = TcpStream>,
+    ensures page { IfOk result (λ page. is_some page ≡ is_some port) }
 {
     let Some(port) = port else {
         return Ok(None);
@@ -302,7 +345,9 @@ where
 }
 
 /// Returns the signs at these paths. `Err` says what could not be had.
-fn signs_at(machine: &HostRuntime, paths: SignPaths) -> Result<Signs, Unprepared> {
+fn signs_at(machine: &HostRuntime, paths: SignPaths) -> Result<Signs, Unprepared>
+    ensures signs { IfOk result (AreSignsAt paths) }
+{
     let SignPaths {
         stop,
         drain,

@@ -23,7 +23,7 @@ impl StatusWriter {
     pub fn start<R>(
         rt: &R,
         alloc: Global,
-        file: StatusFile,
+        file: StatusFile<HostRuntime>,
         notes: PlainNotes,
     ) -> Result<Arc<StatusWriter>, ServeFault>
     where
@@ -40,7 +40,7 @@ impl StatusWriter {
         let runtime = *rt;
         let started = Builder::new()
             .stack_size(STACK)
-            .spawn(rt, move || own.work(&runtime, &file, &notes));
+            .spawn(rt, move || own.work(&runtime, file, &notes));
         match started {
             Ok(_) => Ok(writer),
             Err(_) => Err(ServeFault::NoThread),
@@ -48,7 +48,13 @@ impl StatusWriter {
     }
 
     // Writes each text that it is given, until no more work comes; then removes the file.
-    fn work<R: Wait + Clock + AllocGlobal>(&self, rt: &R, file: &StatusFile, notes: &PlainNotes) {
+    fn work<R: Wait + Clock + AllocGlobal>(
+        &self,
+        rt: &R,
+        file: StatusFile<HostRuntime>,
+        notes: &PlainNotes,
+    ) {
+        let mut file = file;
         let mut is_noted = false;
         for _ in rt.forever() {
             let seen = self.signs.seen();

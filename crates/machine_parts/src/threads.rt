@@ -1,5 +1,8 @@
 //! The threads that own files and sockets of the machine for a server.
 
+ghost use Rattle.std.specs.Prelude.{◌≡◌, IfOk, option_map};
+ghost use Rattle.std.specs.Arc.{arc_value};
+
 use crate::config_thread::ConfigReader;
 use crate::log_thread::{LogThreads, PlainNotes};
 use crate::page_thread::PageThread;
@@ -39,7 +42,10 @@ pub struct ReadPaths {
 }
 
 /// Another handle of a thread, if there is one.
-pub fn another<T>(thread: &Option<Arc<T>>) -> Result<Option<Arc<T>>, AllocError> {
+pub fn another<T>(thread: &Option<Arc<T>>) -> Result<Option<Arc<T>>, AllocError>
+    ensures same { IfOk result
+        (λ other. option_map arc_value other ≡ option_map arc_value thread.now) }
+{
     match thread {
         Some(thread) => Ok(Some(Arc::try_clone(thread)?)),
         None => Ok(None),
@@ -48,9 +54,9 @@ pub fn another<T>(thread: &Option<Arc<T>>) -> Result<Option<Arc<T>>, AllocError>
 
 // A file that a thread writes, if there is to be one, with notes of what cannot be written.
 fn with_notes(
-    written: Option<StatusFile>,
+    written: Option<StatusFile<HostRuntime>>,
     log: &LogThreads,
-) -> Result<Option<(StatusFile, PlainNotes)>, AllocError> {
+) -> Result<Option<(StatusFile<HostRuntime>, PlainNotes)>, AllocError> {
     match written {
         Some(file) => Ok(Some((file, log.plain_notes()?))),
         None => Ok(None),

@@ -19,7 +19,7 @@ ghost use Rattle.paced_rounds.specs.HeldLeaves.{AreHeld};
 ghost use Rattle.paced_rounds.specs.Beating.{beats_after, closed_in, has_plenty, is_open, due_open, opens_in};
 ghost use Rattle.paced_rounds.specs.Turning.{had_at, had_after};
 ghost use Rattle.paced_rounds.specs.LaneTurns.{turns_in, turns_at, turns_after, IsSecond};
-ghost use Rattle.round_pace.specs.Rows.{are_free, rows_of};
+ghost use Rattle.round_pace.specs.Rows.{are_free, has_floor, rows_of};
 
 use crate::account::RoundsAccount;
 use crate::beats::beat;
@@ -133,10 +133,10 @@ impl<N, A: Allocator> PacedRounds<N, A> {
     /// guarantee.
     pub fn opening(&self, way: Way, user: u32) -> (u64, bool)
         ensures opens { result.0 ≡ opens_in way user self.now.pace self.now.cadence }
-        ensures floor { result.1 ≡ (rows_of way user self.now.pace).has_floor }
+        ensures floor { result.1 ≡ has_floor (rows_of way user self.now.pace) }
     {
         let rows = self.pace.rows_of(way, user);
-        (self.cadence.opens(way, user, &rows), rows.has_floor)
+        (self.cadence.opens(way, user, &rows), rows.has_floor())
     }
 
     /// The earliest moment of the next round for a transfer of a user: that at which its rows open; if they are open,

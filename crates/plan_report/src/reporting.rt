@@ -75,12 +75,10 @@ fn no_plan(
             not_guaranteed(alloc, named, limits, transfers, place, name)
         }
         Unplanned::Memory => return NoPlan::Memory,
-        Unplanned::Unshared => { String::from_str(alloc, "no division among the users was found") }
         _ => String::from_str(alloc, "a rate is too large for so many transfers"),
     };
     let name = match fault {
         Unplanned::NotGuaranteed(_, _) => "NotGuaranteed",
-        Unplanned::Unshared => "Unshared",
         _ => "RateTooLarge",
     };
     match reported {

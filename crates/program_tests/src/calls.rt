@@ -3,7 +3,7 @@
 use crate::ends::{Files, Given};
 use crate::expect::{holds, reports, same};
 use crate::texts::{LOGIN, LUNCH, LUNCH_GRANTS, MIGRATED, SMALL, WELCOME};
-use command_line::{SheetWords, WordsFault};
+use command_line::{ShareBy, SheetWords, WordsFault};
 use ftpd_program::{Print, STANDARD_INPUT, run_print, run_script};
 use sheets_program::{ErrorText, Exit, as_words, report, run_sheet_words};
 
@@ -65,7 +65,7 @@ fn a_configuration_is_reported(rt: HostRuntime) {
     let mut output = Vec::new(rt.alloc());
     let reported = run_print(
         rt.alloc(),
-        Print::Report("file"),
+        Print::Report("file", ShareBy::Sessions),
         &mut SMALL.as_bytes(),
         &mut output,
         &NO_FILES,
@@ -79,7 +79,7 @@ fn a_configuration_is_reported_as_json(rt: HostRuntime) {
     let mut output = Vec::new(rt.alloc());
     let reported = run_print(
         rt.alloc(),
-        Print::ReportJson("file"),
+        Print::ReportJson("file", ShareBy::Sessions),
         &mut SMALL.as_bytes(),
         &mut output,
         &NO_FILES,

@@ -1,7 +1,10 @@
 //! Tests of the programs and of their commands by public calls, for what no run of a program shows: results of calls,
-//! ends that fail midway, and refused memory. The runs are in `runs/`.
+//! ends that fail midway, and refused memory; and of a server of one's own: its settings before it begins, and each number
+//! out of its range by its name. The runs are in `runs/`.
 #![tactic(auto)]
 
+#[cfg(test)]
+mod begun;
 #[cfg(test)]
 mod by_users;
 #[cfg(test)]
@@ -13,6 +16,8 @@ mod examples;
 #[cfg(test)]
 mod expect;
 #[cfg(test)]
+mod ranges;
+#[cfg(test)]
 mod ready;
 #[cfg(test)]
 mod runs;
@@ -20,6 +25,8 @@ mod runs;
 mod screens;
 #[cfg(test)]
 mod servers;
+#[cfg(test)]
+mod settings;
 #[cfg(test)]
 mod shortages;
 #[cfg(test)]

@@ -20,6 +20,7 @@ fn words_on_a_configuration(rt: HostRuntime) {
                 json: false,
                 against: None,
                 running: false,
+                share_by: ShareBy::Sessions,
             },
     );
     let words = ["check-config", config, "--json"];
@@ -32,6 +33,7 @@ fn words_on_a_configuration(rt: HostRuntime) {
                 json: true,
                 against: None,
                 running: false,
+                share_by: ShareBy::Sessions,
             },
     );
     let words = ["check-config", "--against", "old.toml", config];
@@ -44,6 +46,7 @@ fn words_on_a_configuration(rt: HostRuntime) {
                 json: false,
                 against: Some("old.toml"),
                 running: false,
+                share_by: ShareBy::Sessions,
             },
     );
     let words = ["check-config", config, "--against-running"];
@@ -56,6 +59,7 @@ fn words_on_a_configuration(rt: HostRuntime) {
                 json: false,
                 against: None,
                 running: true,
+                share_by: ShareBy::Sessions,
             },
     );
     let words = ["migrate", config];

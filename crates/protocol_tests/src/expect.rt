@@ -5,7 +5,7 @@ ghost use Rattle.std.specs.Prelude.{IsTrue};
 use ftp_reply::Reply;
 use ftp_terms::LineText;
 use std::alloc::{AllocError, Allocator};
-use std::fmt::Debug;
+use std::fmt::{Debug, Display};
 use std::process::Abort;
 
 /// Stops the test if this is false.
@@ -46,4 +46,10 @@ pub(crate) fn says(rt: &(impl Abort + AllocGlobal), reply: Reply, wanted: &[u8])
     let mut octets = Vec::from_slice(rt.alloc(), b"before ").expect(rt, "memory");
     reply.write_to(&mut octets).expect(rt, "memory");
     assert_eq!(rt; octets.as_slice().strip_prefix(b"before "), Some(wanted));
+}
+
+/// Stops the test if the fault has another text.
+pub(crate) fn reads<F: Display>(rt: &(impl Abort + AllocGlobal), fault: &F, wanted: &str) {
+    let text = format!(in rt.alloc(); "{fault}").expect(rt, "memory");
+    same(rt, &text.as_str(), &wanted);
 }

@@ -1,4 +1,4 @@
-//! Tests of the shared words, of control text and of replies, by their public calls alone.
+//! Tests of the shared words, of control text and of replies, of paths, and of users by the public calls of `authorizer`.
 #![tactic(auto)]
 
 #[cfg(test)]
@@ -12,6 +12,10 @@ mod examples;
 #[cfg(test)]
 mod expect;
 #[cfg(test)]
+mod numbers;
+#[cfg(test)]
+mod paths;
+#[cfg(test)]
 mod refused;
 #[cfg(test)]
 mod replies;
@@ -20,6 +24,12 @@ mod reported;
 #[cfg(test)]
 mod sessions;
 #[cfg(test)]
+mod shortages;
+#[cfg(test)]
+mod steps;
+#[cfg(test)]
 mod texts;
+#[cfg(test)]
+mod users;
 #[cfg(test)]
 mod words;

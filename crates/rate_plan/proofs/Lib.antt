@@ -4,3 +4,4 @@ pub mod Pushed
 pub mod SecondTree
 pub mod ShareLemmas
 pub mod TenLemmas
+pub mod UserWants

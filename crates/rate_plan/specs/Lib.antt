@@ -6,4 +6,3 @@ pub mod Refused
 pub mod Second
 pub mod Shared
 pub mod Tens
-pub mod Unshared

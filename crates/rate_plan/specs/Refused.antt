@@ -10,7 +10,7 @@ use Rattle.rate_plan.specs.Admission.{IsExceeded, IsRefusedAt}
 use Rattle.rate_plan.specs.Asked.{AreAsked}
 use Rattle.rate_plan.specs.declared.asks.Transfer.{Transfer}
 use Rattle.rate_plan.specs.declared.fault.Unplanned.{Unplanned}
-use Rattle.rate_plan.specs.declared.fault.Unplanned.TheVariants.{TooManySessions, TooManyTransfers, NotGuaranteed, RateTooLarge, Rates as RatesRefused, Tree, Unshared, Memory}
+use Rattle.rate_plan.specs.declared.fault.Unplanned.TheVariants.{TooManySessions, TooManyTransfers, NotGuaranteed, RateTooLarge, Rates as RatesRefused, Tree, Memory}
 use Rattle.rate_plan.specs.declared.plan.TheConstants.{MAX_EXACT}
 use Rattle.rate_plan.specs.declared.tens.TheConstants.{MAX_PLANNED}
 
@@ -40,11 +40,10 @@ AreSmallForAll rates ts =
     (asks : List Asker) × AreAsked rates.share_by ts asks
     × All (λ x. AreSmallFor rates (ask_in x)) asks
 
--- the fault of a tree, of its rates, or of memory; or that no grants were found among users
+-- the fault of a tree, of its rates, or of memory
 abbrev pub IsTreeFault : Unplanned → Type 0
 IsTreeFault (RatesRefused fault) = ⊤
 IsTreeFault (Tree fault) = ⊤
-IsTreeFault Unshared = ⊤
 IsTreeFault Memory = ⊤
 IsTreeFault fault = ⊥
 

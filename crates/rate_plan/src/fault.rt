@@ -1,6 +1,5 @@
 //! The reasons for which transfers are not planned.
 
-use fair_shares::FairFault;
 use line_rates::{LimitsFault, Name, PlanFault};
 use std::alloc::AllocError;
 use thiserror::Error;
@@ -27,9 +26,6 @@ pub enum Unplanned {
     /// The tree is refused.
     #[error("{0}")]
     Tree(PlanFault),
-    /// The line is shared among users, and no grants were found that are best by users.
-    #[error("no division among the users was found")]
-    Unshared,
     /// Memory ran out.
     #[error("out of memory")]
     Memory,
@@ -43,19 +39,5 @@ impl From<AllocError> for Unplanned {
 
     fn from(_error: AllocError) -> Unplanned {
         Unplanned::Memory
-    }
-}
-
-impl From<FairFault> for Unplanned {
-    ghost use Rattle.std.specs.Prelude.{◌≡◌};
-    ghost use Rattle.rate_plan.specs.Unshared.{unshared_fault};
-
-    ghost from_gives = { λ e fault. fault ≡ unshared_fault e };
-
-    fn from(fault: FairFault) -> Unplanned {
-        match fault {
-            FairFault::Memory => Unplanned::Memory,
-            FairFault::Unshared => Unplanned::Unshared,
-        }
     }
 }

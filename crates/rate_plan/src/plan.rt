@@ -18,7 +18,7 @@ use crate::shares::{TransferShare, granted_shares};
 use crate::small::has_large;
 use crate::tens::tenfold;
 use line_rates::{Ask, Limits, Plan, PlanFault, tree_of};
-use std::alloc::Allocator;
+use std::alloc::{AllocError, Allocator};
 
 /// Most transfers whose shares no rate above `MAX_PLANNED` limits.
 pub const MAX_EXACT: usize = 25;
@@ -37,13 +37,12 @@ fn shares_in<L: Allocator, A: Allocator + Clone>(
     tens: &Limits<L>,
     asks: &[(u8, Ask)],
     plan: Plan<A>,
-) -> Result<Vec<TransferShare, A>, Unplanned>
+) -> Result<Vec<TransferShare, A>, AllocError>
     requires asked { (transfers : List Transfer) × AreAsked tens.now.share_by transfers asks.now }
     requires plan { IsPlan tens.now 0 asks.now (seen plan.tree) plan.lanes.items }
     ensures shares { IfOk result (λ shares. (rates : Rates) (transfers : List Transfer)
         → AreTens rates tens.now → AreAsked rates.share_by transfers asks.now
         → AreShares rates transfers shares.items) }
-    ensures fault { IfErr result IsTreeFault }
 {
     let Plan { tree, lanes } = plan;
     let order = in_order(alloc.clone()?, asks, &lanes)?;

@@ -1,16 +1,15 @@
 //! The shares of transfers in a second.
 
-ghost use Rattle.std.specs.Prelude.{◌≡◌, ◌≤◌, ◌<◌, IfOk, length, map, slice_get, slice_index, slice_index_or, IfErr, Some};
+ghost use Rattle.std.specs.Prelude.{◌≡◌, ◌≤◌, ◌<◌, IfOk, length, map, slice_get, slice_index, slice_index_or, Some};
 ghost use Rattle.limit_tree.specs.Outline.{limits as seen};
 ghost use Rattle.limit_tree.specs.Sharing.{IsWanted};
 ghost use Rattle.fair_terms.specs.Fair.{IsBackedFair};
-ghost use Rattle.rate_plan.specs.Refused.{IsTreeFault};
+ghost use Rattle.fair_terms.specs.Wants.{HasLargeUser};
 ghost use Rattle.line_rates.specs.Names.{floor_of};
 ghost use Rattle.line_rates.specs.TickTree.{IsTickTree, ask_in};
 ghost use Rattle.rate_plan.specs.Shared.{AreGrantedShares, AreTickShares, IsShareOf};
 
-use crate::fault::Unplanned;
-use fair_shares::share_tree;
+use fair_shares::{FairFault, share_tree};
 use held_names::held_by;
 use limit_tree::Tree;
 use line_rates::{Ask, Limits, Name};
@@ -95,20 +94,25 @@ fn leaf_shares<L: Allocator, A: Allocator, B: Allocator>(
     Ok(shares)
 }
 
-/// The shares of the leaves of a tree, in their order, by fair grants.
+/// The shares of the leaves of a tree, in their order, by fair grants. No user wants more than `MAX_WANT` octets in one
+/// way, so only memory can lack.
 pub(crate) fn granted_shares<L: Allocator, A: Allocator + Clone>(
     alloc: A,
     limits: &Limits<L>,
     order: &[(u8, Ask)],
     tree: Tree<A>,
-) -> Result<Vec<TransferShare, A>, Unplanned>
+) -> Result<Vec<TransferShare, A>, AllocError>
     requires tree { IsTickTree limits.now 0 (map ask_in order.now) (seen tree) }
+    requires wants { HasLargeUser limits.now.share_by (map ask_in order.now) → ⊥ }
     ensures shares { IfOk result
         (λ shares. AreGrantedShares limits.now order.now (seen tree) shares.items) }
-    ensures fault { IfErr result IsTreeFault }
 {
     let asks = asks_alone(alloc.clone()?, order)?;
-    let sealed = share_tree(alloc.clone()?, limits.share_by(), &asks, tree)?;
+    let sealed = match share_tree(alloc.clone()?, limits.share_by(), &asks, tree) {
+        Ok(sealed) => sealed,
+        Err(FairFault::Memory) => return Err(AllocError),
+        Err(FairFault::Unshared) => unreachable!(),
+    };
     let shares = leaf_shares(
         alloc,
         limits,

@@ -5,6 +5,7 @@ use Rattle.line_rates.specs.declared.ask.Way.{Way}
 use Rattle.line_rates.specs.declared.ask.Way.TheVariants.{Down, Up}
 use Rattle.round_pace.specs.declared.credit.Credit.{Credit}
 use Rattle.round_pace.specs.declared.rows.TransferRows.{TransferRows}
+use Rattle.round_pace.specs.Rows.{has_floor}
 use Rattle.round_cadence.specs.declared.beat.Beat.{Beat}
 use Rattle.round_cadence.specs.declared.beat.WayBeats.{WayBeats}
 use Rattle.round_cadence.specs.Intervals.{next_opening}
@@ -108,4 +109,4 @@ settled_rows way user rows tick c le =
     (at_soon tick rows.session way user c.sessions parts.4)
 
 pub rows_soon : (way : Way) (user : ℕ) (rows : TransferRows) (tick : ℕ) (c : Beats) → opens_of way user rows c ≤ tick + 32 → opens_of way user rows (settle_of way user rows tick c) ≤ tick + 32
-rows_soon way user rows tick c le = align_soon rows.has_floor way user rows (tick + 32) (settled_of way user rows tick c) (settled_rows way user rows tick c le)
+rows_soon way user rows tick c le = align_soon (has_floor rows) way user rows (tick + 32) (settled_of way user rows tick c) (settled_rows way user rows tick c le)

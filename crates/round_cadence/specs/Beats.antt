@@ -7,7 +7,7 @@ use Rattle.round_pace.specs.declared.credit.Credit.{Credit}
 use Rattle.round_cadence.specs.declared.beat.TheConstants.{SHARER_PARTS}
 use Rattle.round_cadence.specs.declared.beat.Beat.{Beat}
 use Rattle.round_cadence.specs.declared.beat.WayBeats.{WayBeats}
-use Rattle.round_cadence.specs.declared.intervals.TheConstants.{WORTH}
+use Rattle.round_cadence.specs.declared.intervals.TheConstants.{HALF_ASK, WORTH}
 use Rattle.round_cadence.specs.Intervals.{interval_of, next_opening}
 
 -- a row that has had no round
@@ -18,6 +18,9 @@ new_beat = record {
   granted = 0;
   greatest = 0;
   kept = 0;
+  whole = 0;
+  largest = 0;
+  floor = 0;
   worth = WORTH;
   is_asked = false;
 }
@@ -30,6 +33,9 @@ added grant worth b = record {
   granted = min (b.granted + grant) (2 ^ 64 - 1);
   greatest = max b.greatest grant;
   kept = b.kept;
+  whole = min (b.whole + grant) (2 ^ 64 - 1);
+  largest = max b.largest grant;
+  floor = b.floor;
   worth = if b.is_asked then max b.worth worth else worth;
   is_asked = true;
 }
@@ -40,13 +46,16 @@ sharer_parts crowd = SHARER_PARTS / max 1 (min crowd SHARER_PARTS)
 
 -- a beat after a grant of the current round to a transfer whose session has a guarantee, which may
 -- be far above those of others: it is one of a crowd that is a sharer
-abbrev pub kept : ℕ → ℕ → Beat → Beat
-kept worth crowd b = record {
+abbrev pub kept : ℕ → ℕ → ℕ → ℕ → Beat → Beat
+kept grant floor worth crowd b = record {
   opens = b.opens;
   sharers = b.sharers;
   granted = b.granted;
   greatest = b.greatest;
   kept = min (b.kept + sharer_parts crowd) (2 ^ 64 - 1);
+  whole = min (b.whole + grant) (2 ^ 64 - 1);
+  largest = max b.largest grant;
+  floor = max b.floor floor;
   worth = if b.is_asked then max b.worth worth else worth;
   is_asked = true;
 }
@@ -60,6 +69,9 @@ asked worth b = record {
   granted = b.granted;
   greatest = b.greatest;
   kept = b.kept;
+  whole = b.whole;
+  largest = b.largest;
+  floor = b.floor;
   worth = min b.worth worth;
   is_asked = true;
 }
@@ -82,9 +94,27 @@ sharers_after b = max (parts_of b) (b.sharers - div_up b.sharers 8)
 abbrev pub is_drained : Credit → Bool
 is_drained c = not (nat_eq c.rate 0) && nat_le c.left (min (c.rate / 1_000) WORTH)
 
+-- These octets, or those of which the largest grant of the round would be half of what a transfer
+-- asks for at most, if they are fewer: more than it asks for it is not granted.
+abbrev pub within_ask : Beat → ℕ → ℕ
+within_ask b octets = if nat_eq b.largest 0 then octets
+    else min octets (min (b.whole * HALF_ASK) (2 ^ 64 - 1) / b.largest)
+
+-- These octets, or those that the rate earns while the greatest guarantee earns half of what a
+-- transfer asks for at most, if they are fewer.
+abbrev pub within_floor : Beat → ℕ → ℕ → ℕ
+within_floor b rate octets = if nat_eq b.floor 0 then octets
+    else min octets (min (rate * HALF_ASK) (2 ^ 64 - 1) / b.floor)
+
+-- the greatest guarantee after a round: an eighth less, until its transfer asks again
+abbrev pub floor_after : Beat → ℕ
+floor_after b = b.floor - div_up b.floor 8
+
 -- the interval after a round, in which each sharer earns what one of them is to have
 abbrev pub interval_after : Credit → Beat → ℕ
-interval_after c b = interval_of c.rate (min (b.worth * sharers_after b) (2 ^ 64 - 1))
+interval_after c b =
+    interval_of c.rate
+    (within_floor b c.rate (within_ask b (min (b.worth * sharers_after b) (2 ^ 64 - 1))))
 
 abbrev pub opens_after : ℕ → Credit → Beat → ℕ
 opens_after tick c b =
@@ -99,6 +129,9 @@ settled tick c b = if b.is_asked then record {
   granted = 0;
   greatest = 0;
   kept = 0;
+  whole = 0;
+  largest = 0;
+  floor = floor_after b;
   worth = WORTH;
   is_asked = false;
 } else b
@@ -111,6 +144,9 @@ capped most b = record {
   granted = b.granted;
   greatest = b.greatest;
   kept = b.kept;
+  whole = b.whole;
+  largest = b.largest;
+  floor = b.floor;
   worth = b.worth;
   is_asked = b.is_asked;
 }
@@ -132,18 +168,28 @@ change Up f b = record { down = b.down; up = f b.up }
 -- codes, by which proofs distinguish values
 abbrev pub beat_code : Coded Beat
 beat_code =
-    code_by ((ℕ × ℕ) × ((ℕ × (ℕ × ℕ)) × (ℕ × Bool)))
+    code_by ((ℕ × ℕ) × ((ℕ × (ℕ × ℕ)) × ((ℕ × ℕ) × (ℕ × (ℕ × Bool)))))
     (coded× (coded× coded_ℕ coded_ℕ)
-    (coded× (coded× coded_ℕ (coded× coded_ℕ coded_ℕ)) (coded× coded_ℕ coded_bool)))
-    (λ b. ((b.opens, b.sharers), ((b.granted, (b.greatest, b.kept)), (b.worth, b.is_asked))))
+    (coded× (coded× coded_ℕ (coded× coded_ℕ coded_ℕ))
+    (coded× (coded× coded_ℕ coded_ℕ) (coded× coded_ℕ (coded× coded_ℕ coded_bool)))))
+    (λ b. (
+      (b.opens, b.sharers),
+      (
+        (b.granted, (b.greatest, b.kept)),
+        ((b.whole, b.largest), (b.floor, (b.worth, b.is_asked))),
+      ),
+    ))
     (λ p. record {
       opens = p.0.0;
       sharers = p.0.1;
       granted = p.1.0.0;
       greatest = p.1.0.1.0;
       kept = p.1.0.1.1;
-      worth = p.1.1.0;
-      is_asked = p.1.1.1;
+      whole = p.1.1.0.0;
+      largest = p.1.1.0.1;
+      floor = p.1.1.1.0;
+      worth = p.1.1.1.1.0;
+      is_asked = p.1.1.1.1.1;
     })
     (λ _. refl)
 

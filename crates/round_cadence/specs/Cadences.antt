@@ -6,6 +6,7 @@ use Rattle.line_rates.specs.declared.ask.Way.{Way}
 use Rattle.line_rates.specs.declared.ask.Way.TheVariants.{Down, Up}
 use Rattle.round_cadence.specs.declared.intervals.TheConstants.{MOST_WORTH, WORTH, WORTH_UP}
 use Rattle.round_pace.specs.declared.rows.TransferRows.{TransferRows}
+use Rattle.round_pace.specs.Rows.{has_floor}
 use Rattle.round_cadence.specs.declared.beat.Beat.{Beat}
 use Rattle.round_cadence.specs.declared.beat.WayBeats.{WayBeats}
 use Rattle.round_cadence.specs.Beats.{new_beat, new_beats, added, kept, asked, capped, settled, in_way, change, beat_code, beats_code as way_beats_code}
@@ -68,15 +69,16 @@ change_for way f (Some number) beats = change_at way f number beats
 abbrev pub session_worth : Ask → ℕ
 session_worth a = min (worth_of a.way) (a.want / 4)
 
--- a beat after a grant of the current round to an ask, whose session has a guarantee or not
-abbrev pub added_to : Bool → ℕ → ℕ → ℕ → Beat → Beat
-added_to true grant crowd worth b = kept worth crowd b
-added_to false grant crowd worth b = added grant worth b
+-- a beat after a grant of the current round to an ask, whose session has a guarantee or, by a floor
+-- of 0, none
+abbrev pub added_to : ℕ → ℕ → ℕ → ℕ → Beat → Beat
+added_to floor grant crowd worth b =
+    if nat_eq floor 0 then added grant worth b else kept grant floor worth crowd b
 
 -- a beat of a row that is shared among crowds, after a grant of the current round to an ask of one
 abbrev pub crowd_added : Ask → TransferRows → ℕ → ℕ → Beat → Beat
 crowd_added a rows grant crowd b =
-    added_to rows.has_floor grant crowd (crowd_worth a.way crowd) b
+    added_to rows.floor grant crowd (crowd_worth a.way crowd) b
 
 -- The beats after a grant of the current round to an ask, which shares its part of the line with a
 -- crowd. Among the user's own transfers each has a part; each session has its rate to itself.
@@ -85,7 +87,7 @@ add_to a rows grant crowd c = record {
   server = crowd_added a rows grant crowd c.server;
   ways = change a.way (crowd_added a rows grant crowd) c.ways;
   groups = change_for a.way (crowd_added a rows grant crowd) rows.group_number c.groups;
-  users = change_at a.way (added_to rows.has_floor grant 1 (worth_of a.way)) a.user c.users;
+  users = change_at a.way (added_to rows.floor grant 1 (worth_of a.way)) a.user c.users;
   sessions = change_at a.way (asked (session_worth a)) a.user c.sessions;
 }
 
@@ -132,7 +134,7 @@ settled_of way user rows tick c = record {
 -- the same, and aligned with a guarantee
 abbrev pub settle_of : Way → ℕ → TransferRows → ℕ → Beats → Beats
 settle_of way user rows tick c =
-    align_if rows.has_floor way user rows (settled_of way user rows tick c)
+    align_if (has_floor rows) way user rows (settled_of way user rows tick c)
 
 -- a code, by which proofs distinguish values
 abbrev pub beats_code : Coded Beats

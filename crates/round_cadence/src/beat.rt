@@ -2,9 +2,9 @@
 
 ghost use Rattle.std.specs.Prelude.{◌≡◌, ◌≤◌, ◌+◌, false, true};
 ghost use Rattle.round_cadence.specs.declared.intervals.TheConstants.{LONGEST};
-ghost use Rattle.round_cadence.specs.Beats.{new_beat, new_beats, added, sharer_parts, kept, asked, parts_of, sharers_after, is_drained, opens_after, capped, settled, in_way, change};
+ghost use Rattle.round_cadence.specs.Beats.{new_beat, new_beats, added, sharer_parts, kept, asked, parts_of, sharers_after, within_ask, within_floor, floor_after, is_drained, opens_after, capped, settled, in_way, change};
 
-use crate::intervals::{WORTH, interval, next_opening};
+use crate::intervals::{HALF_ASK, WORTH, interval, next_opening};
 use line_rates::Way;
 use round_pace::Credit;
 
@@ -26,6 +26,13 @@ pub struct Beat {
     /// Sharers of the current round whose sessions have a guarantee, in 64ths: the asks that share a part of the row are
     /// one sharer. Their grants are not among these.
     pub kept: u64,
+    /// Octets granted within the row in the current round, to transfers with a guarantee too.
+    pub whole: u64,
+    /// The greatest of all these grants.
+    pub largest: u64,
+    /// The greatest guarantee of a session with asks within the row, in octets a second: an eighth less with each round,
+    /// since its transfer may miss some.
+    pub floor: u64,
     /// The octets that one of these transfers is to have in a round: the most of those that share the row, the least of
     /// those that have its rate to themselves.
     pub worth: u64,
@@ -67,6 +74,9 @@ impl Beat {
             granted: 0,
             greatest: 0,
             kept: 0,
+            whole: 0,
+            largest: 0,
+            floor: 0,
             worth: WORTH,
             is_asked: false,
         }
@@ -82,6 +92,9 @@ impl Beat {
             granted: self.granted.saturating_add(grant),
             greatest: self.greatest.max(grant),
             kept: self.kept,
+            whole: self.whole.saturating_add(grant),
+            largest: self.largest.max(grant),
+            floor: self.floor,
             worth: if self.is_asked {
                 self.worth.max(worth)
             } else {
@@ -91,13 +104,17 @@ impl Beat {
         }
     }
 
-    /// Adds a grant of the current round to a transfer whose session has a guarantee: it may be far above those of others.
-    /// It is one of a crowd of such transfers that share a part of the row, and are one sharer together.
-    pub fn keep(self, worth: u64, crowd: u64) -> Beat
-        ensures kept { result ≡ kept worth crowd self }
+    /// Adds a grant of the current round to a transfer whose session has this guarantee: it may be far above those of
+    /// others, and is no measure of them. It is one of a crowd of such transfers that share a part of the row, and are one
+    /// sharer together.
+    pub fn keep(self, grant: u64, floor: u64, worth: u64, crowd: u64) -> Beat
+        ensures kept { result ≡ kept grant floor worth crowd self }
     {
         let mut beat = self.add(0, worth);
         beat.kept = self.kept.saturating_add(sharer_parts(crowd));
+        beat.whole = self.whole.saturating_add(grant);
+        beat.largest = self.largest.max(grant);
+        beat.floor = self.floor.max(floor);
         beat
     }
 
@@ -112,6 +129,9 @@ impl Beat {
             granted: self.granted,
             greatest: self.greatest,
             kept: self.kept,
+            whole: self.whole,
+            largest: self.largest,
+            floor: self.floor,
             worth: self.worth.min(worth),
             is_asked: true,
         }
@@ -127,6 +147,35 @@ impl Beat {
         sharers.max(self.sharers.saturating_sub(self.sharers.div_ceil(8)))
     }
 
+    // These octets of an interval, or those of which the largest grant would be half of what a transfer asks for at most, if
+    // they are fewer: an interval earns less than twice as much, and more than it asks for no transfer is granted.
+    fn within_ask(self, octets: u64) -> u64
+        ensures within { result ≡ within_ask self octets }
+    {
+        if self.largest == 0 {
+            return octets;
+        }
+        octets.min(self.whole.saturating_mul(HALF_ASK) / self.largest)
+    }
+
+    // These octets of an interval, or those that the rate earns while the greatest guarantee earns half of what a transfer
+    // asks for at most, if they are fewer: its transfer may have missed the round.
+    fn within_floor(self, rate: u64, octets: u64) -> u64
+        ensures within { result ≡ within_floor self rate octets }
+    {
+        if self.floor == 0 {
+            return octets;
+        }
+        octets.min(rate.saturating_mul(HALF_ASK) / self.floor)
+    }
+
+    // The greatest guarantee after the current round.
+    fn floor_after(self) -> u64
+        ensures floor { result ≡ floor_after self }
+    {
+        self.floor.saturating_sub(self.floor.div_ceil(8))
+    }
+
     // The first tick in which the row is open after the current round.
     fn opens_after(self, credit: Credit, tick: u64) -> u64
         ensures opens { result ≡ opens_after tick credit self }
@@ -135,7 +184,8 @@ impl Beat {
         if !is_drained(credit) {
             return 0;
         }
-        let octets = self.worth.saturating_mul(self.sharers_after());
+        let octets = self.within_ask(self.worth.saturating_mul(self.sharers_after()));
+        let octets = self.within_floor(credit.rate, octets);
         next_opening(tick, interval(credit.rate, octets))
     }
 
@@ -169,6 +219,9 @@ impl Beat {
             granted: 0,
             greatest: 0,
             kept: 0,
+            whole: 0,
+            largest: 0,
+            floor: self.floor_after(),
             worth: WORTH,
             is_asked: false,
         }
@@ -212,19 +265,19 @@ impl WayBeats {
         }
     }
 
-    /// Adds a grant of the current round to a transfer whose session has a guarantee, one of a crowd, to the beat of a
+    /// Adds a grant of the current round to a transfer whose session has this guarantee, one of a crowd, to the beat of a
     /// direction.
-    pub fn keep(self, way: Way, worth: u64, crowd: u64) -> WayBeats
-        ensures kept { result ≡ change way (kept worth crowd) self }
+    pub fn keep(self, way: Way, grant: u64, floor: u64, worth: u64, crowd: u64) -> WayBeats
+        ensures kept { result ≡ change way (kept grant floor worth crowd) self }
     {
         match way {
             Way::Down => WayBeats {
-                down: self.down.keep(worth, crowd),
+                down: self.down.keep(grant, floor, worth, crowd),
                 up: self.up,
             },
             Way::Up => WayBeats {
                 down: self.down,
-                up: self.up.keep(worth, crowd),
+                up: self.up.keep(grant, floor, worth, crowd),
             },
         }
     }

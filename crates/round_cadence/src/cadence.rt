@@ -3,6 +3,7 @@
 ghost use Rattle.std.specs.Prelude.{◌≡◌, ◌≤◌, ◌+◌, replicate, IfOk};
 ghost use Rattle.round_cadence.specs.declared.intervals.TheConstants.{LONGEST};
 ghost use Rattle.round_cadence.specs.Beats.{new_beats, asked, capped, change, settled};
+ghost use Rattle.round_pace.specs.Rows.{has_floor};
 ghost use Rattle.round_cadence.specs.Closed.{closed_by, closed_group, closed_line};
 ghost use Rattle.round_cadence.specs.Cadences.{worth_of, crowd_worth, session_worth, new_cadence, opens_at, opens_for, added_to, soonest, aligned, change_at, change_for, opens_of, add_to, align_if, settled_of, settle_of};
 
@@ -87,11 +88,11 @@ fn opens_at(beats: &[WayBeats], number: u32, way: Way) -> u64
     }
 }
 
-// A grant of the current round: whether the session of its ask has a guarantee, its octets, how many asks share the part
-// of the row that the ask has, and the octets that the part is to have in a round.
+// A grant of the current round: the guarantee of the session of its ask, its octets, how many asks share the part of the
+// row that the ask has, and the octets that the part is to have in a round.
 #[derive(Clone, Copy)]
 struct Share {
-    has_floor: bool,
+    floor: u64,
     grant: u64,
     crowd: u64,
     worth: u64,
@@ -99,29 +100,29 @@ struct Share {
 
 // A beat after a grant of the current round.
 fn added_to(beat: Beat, share: Share) -> Beat
-    ensures added { result ≡ added_to share.has_floor share.grant share.crowd share.worth beat }
+    ensures added { result ≡ added_to share.floor share.grant share.crowd share.worth beat }
 {
-    if share.has_floor {
-        beat.keep(share.worth, share.crowd)
-    } else {
+    if share.floor == 0 {
         beat.add(share.grant, share.worth)
+    } else {
+        beat.keep(share.grant, share.floor, share.worth, share.crowd)
     }
 }
 
 fn ways_added_to(beats: WayBeats, way: Way, share: Share) -> WayBeats
     ensures added { result
-        ≡ change way (added_to share.has_floor share.grant share.crowd share.worth) beats }
+        ≡ change way (added_to share.floor share.grant share.crowd share.worth) beats }
 {
-    if share.has_floor {
-        beats.keep(way, share.worth, share.crowd)
-    } else {
+    if share.floor == 0 {
         beats.add(way, share.grant, share.worth)
+    } else {
+        beats.keep(way, share.grant, share.floor, share.worth, share.crowd)
     }
 }
 
 fn add_at<A: Allocator>(beats: &mut Vec<WayBeats, A>, number: u32, way: Way, share: Share)
     ensures added { beats.new.items ≡ change_at way
-        (added_to share.has_floor share.grant share.crowd share.worth) number beats.old.items }
+        (added_to share.floor share.grant share.crowd share.worth) number beats.old.items }
 {
     let place = number as usize;
     if place < beats.len() {
@@ -255,7 +256,7 @@ impl<A: Allocator> Cadence<A> {
         ensures added { self.new ≡ add_to ask rows.now grant crowd self.old }
     {
         let share = Share {
-            has_floor: rows.has_floor,
+            floor: rows.floor,
             grant,
             crowd,
             worth: crowd_worth(ask.way, crowd),
@@ -310,9 +311,9 @@ impl<A: Allocator> Cadence<A> {
 
     // Aligns the rows of a transfer with a guarantee.
     fn align_if(&mut self, way: Way, user: u32, rows: &TransferRows)
-        ensures aligned { self.new ≡ align_if rows.now.has_floor way user rows.now self.old }
+        ensures aligned { self.new ≡ align_if (has_floor rows.now) way user rows.now self.old }
     {
-        if rows.has_floor {
+        if rows.has_floor() {
             self.align(way, user, rows);
         }
     }

@@ -13,8 +13,12 @@ pub const WORTH: u64 = 4_096;
 pub const WORTH_UP: u64 = 256;
 
 /// The most octets that a round is to have for a part of a row, if several transfers share the part: those that one
-/// transfer asks for at most. A part that has a single transfer is then granted in whole.
+/// transfer asks for at most.
 pub const MOST_WORTH: u64 = 65_536;
+
+/// Half of the octets that a transfer asks for at most: what the next interval of a row is to give to the largest grant of
+/// its last round. An interval is a power of two of ticks and earns up to twice as much, for which that transfer still asks.
+pub const HALF_ASK: u64 = 32_768;
 
 /// The longest interval, in ticks of 2 ms.
 pub const LONGEST: u64 = 32;

@@ -9,6 +9,7 @@ use Rattle.share_world.specs.Shares.{AreFitRates, IsFairPlan}
 use Rattle.share_world.proofs.Small.{no_other_fault}
 use Rattle.limit_tree.specs.declared.fault.TreeFault.{TreeFault}
 use Rattle.limit_tree.specs.declared.fault.TreeFault.TheVariants.{TooDeep, TooManyLeaves, WantTooLarge, LimitTooLarge, FloorTooLarge, FloorsOverLimit}
+use Rattle.fair_terms.specs.Wants.{HasLargeUser}
 use Rattle.line_rates.specs.declared.ask.Ask.{Ask}
 use Rattle.line_rates.specs.FloorSums.{FloorsFit}
 use Rattle.line_rates.specs.Rates.{Rates}
@@ -97,7 +98,7 @@ module _ (A : Type 0) (rates : Rates) (moment : ℕ) (last : Option ℕ) (issued
   refuses false (reason.NotYet n) e yet later book same h = absurd (yet n refl)
   refuses false reason.BookFull e yet later book same h = (ready later e, passes rates moment last issued asks ls k once (subst (PassesMost rates (moment / 100) asks) (sym same) h.1))
   refuses false reason.Memory e yet later book same h = ready later e
-  refuses false reason.Unshared e yet later book same h = (ready later e, h.1)
+  refuses false reason.Unshared e yet later book same h = (ready later e, subst (λ (xs : List Asker). HasLargeUser rates.share_by (map ask_in xs)) (sym k.asks_are) h.1)
   refuses false (reason.Plan (FloorsOverLimit n)) e yet later book same h = of_floors n h.1 (ready later e)
   refuses false (reason.Plan TooDeep) e yet later book same h = absurd (other TooDeep tt h.1 e)
   refuses false (reason.Plan TooManyLeaves) e yet later book same h = absurd (other TooManyLeaves tt h.1 e)

@@ -1,5 +1,5 @@
 -- The rows of a transfer: the credits of the rates that it is within.
-use Rattle.std.specs.Prelude.{ℕ, Bool, false, ◌&&◌, ◌||◌, not, nat_eq, nat_le, List, Option, Some, None}
+use Rattle.std.specs.Prelude.{ℕ, Bool, ◌&&◌, ◌||◌, not, nat_eq, nat_le, List, Option, Some, None}
 use Rattle.std.specs.FinMap as finite
 use Rattle.line_rates.specs.declared.ask.Way.{Way}
 use Rattle.line_rates.specs.declared.ask.Way.TheVariants.{Down, Up}
@@ -45,13 +45,12 @@ abbrev pub floor_of : Way → UserRate → ℕ
 floor_of Down row = row.session_down_floor
 floor_of Up row = row.session_up_floor
 
--- each session of the user has a guarantee, which is earned from one round to the next
-abbrev pub has_row_floor : Way → Option UserPace → Bool
-has_row_floor way None = false
-has_row_floor way (Some u) = not (nat_eq (floor_of way u.row) 0)
+abbrev pub row_floor : Way → Option UserPace → ℕ
+row_floor way None = 0
+row_floor way (Some u) = floor_of way u.row
 
-abbrev pub has_floor : Way → List UserPace → ℕ → Bool
-has_floor way users user = has_row_floor way (finite.get (by_number pace_number users) user)
+abbrev pub user_floor : Way → List UserPace → ℕ → ℕ
+user_floor way users user = row_floor way (finite.get (by_number pace_number users) user)
 
 -- the credits that a user's transfer is within
 abbrev pub rows_of : Way → ℕ → Paced → TransferRows
@@ -62,17 +61,21 @@ rows_of way user p = record {
   user = user_credit way p.users user;
   session = session_credit way p.users user;
   group_number = group_of p.users user;
-  has_floor = has_floor way p.users user;
+  floor = user_floor way p.users user;
 }
 
 -- a rate has at least this number of octets left; 0 is no limit
 abbrev pub has_left : Credit → ℕ → Bool
 has_left c octets = nat_eq c.rate 0 || nat_le octets c.left
 
+-- sessions of the user have a guarantee, which is earned from one round to the next
+abbrev pub has_floor : TransferRows → Bool
+has_floor r = not (nat_eq r.floor 0)
+
 -- each rate has, that of a session too, and sessions have no guarantee
 abbrev pub have_left : TransferRows → ℕ → Bool
 have_left r octets =
-    not r.has_floor && has_left r.server octets && has_left r.way octets
+    not (has_floor r) && has_left r.server octets && has_left r.way octets
     && has_left r.group octets && has_left r.user octets && has_left r.session octets
 
 -- none of the rates is a limit

@@ -18,7 +18,7 @@ use crate::paced::{
     take_if_up, take_users,
 };
 use crate::quiet::begin_second;
-use crate::rows::{TransferRows, group_credit, has_floor, session_credit, user_credit};
+use crate::rows::{TransferRows, group_credit, session_credit, user_credit, user_floor};
 use line_rates::{GroupRate, Limits, Name, UserRate, Way};
 use std::alloc::{AllocError, Allocator, Global};
 use std::marker::Model;
@@ -326,7 +326,7 @@ impl<A: Allocator> Pace<A> {
             user: user_credit(&self.users, user, way),
             session: session_credit(&self.users, user, way),
             group_number,
-            has_floor: has_floor(&self.users, user, way),
+            floor: user_floor(&self.users, user, way),
         }
     }
 }

@@ -3,7 +3,7 @@
 ghost use Rattle.std.specs.Prelude.{◌≡◌};
 ghost use Rattle.line_rates.specs.Stated.{IsRising};
 ghost use Rattle.round_pace.specs.Paced.{group_key, pace_number, no_credit};
-ghost use Rattle.round_pace.specs.Rows.{floor_of, user_credit, session_credit, group_credit, has_left, have_left, are_free, has_floor};
+ghost use Rattle.round_pace.specs.Rows.{floor_of, user_credit, session_credit, group_credit, has_left, have_left, are_free, has_floor, user_floor};
 
 use crate::credit::Credit;
 use crate::paced::{GroupPace, UserPace, credit_of, find_group, find_user};
@@ -25,9 +25,9 @@ pub struct TransferRows {
     pub session: Credit,
     /// The number of the user's group, if they are in one.
     pub group_number: Option<u32>,
-    /// True if each session of the user has a guarantee of this direction, which is earned from one round to the next and
-    /// not kept.
-    pub has_floor: bool,
+    /// The guarantee of each session of the user for this direction, in octets a second; 0 is none. It is earned from one
+    /// round to the next and not kept.
+    pub floor: u64,
 }
 
 // Returns whether a rate has at least this number of octets left; 0 is no limit.
@@ -38,13 +38,20 @@ fn has_left(credit: Credit, octets: u64) -> bool
 }
 
 impl TransferRows {
+    /// Returns whether sessions of the user have a guarantee of this direction.
+    pub fn has_floor(&self) -> bool
+        ensures floor { result ≡ has_floor self.now }
+    {
+        self.floor != 0
+    }
+
     /// Returns whether each of the rates, that of a session too, has at least this number of octets left, and sessions of
     /// the user have no guarantee: if all asks of a round want no more than that together, the transfer is granted all that
     /// it asks for.
     pub fn have_left(&self, octets: u64) -> bool
         ensures left { result ≡ have_left self.now octets }
     {
-        !self.has_floor
+        !self.has_floor()
             && has_left(self.server, octets)
             && has_left(self.way, octets)
             && has_left(self.group, octets)
@@ -117,13 +124,13 @@ pub(crate) fn group_credit(groups: &[GroupPace], group: Option<u32>, way: Way) -
     }
 }
 
-/// Returns whether each session of a user has a guarantee of one way.
-pub(crate) fn has_floor(users: &[UserPace], user: u32, way: Way) -> bool
+/// The guarantee that each session of a user has for one way; 0 is none.
+pub(crate) fn user_floor(users: &[UserPace], user: u32, way: Way) -> u64
     requires rising { IsRising pace_number users.now }
-    ensures floor { result ≡ has_floor way users.now user }
+    ensures floor { result ≡ user_floor way users.now user }
 {
     match find_user(users, user) {
-        Some(place) => floor_of(users[place].row, way) != 0,
-        None => false,
+        Some(place) => floor_of(users[place].row, way),
+        None => 0,
     }
 }

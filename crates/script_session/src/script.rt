@@ -28,7 +28,7 @@ const HOME: [u8; 4] = [127, 0, 0, 1];
 /// its replies. Each passive port is `port`; a download is read to its end and dropped, an upload brings no octets.
 /// However the session ends, the floors are unchanged.
 ///
-/// `ReadFault`: a read failed, or 4,294,967,295 reads were made, each of at most 4,096 octets, and each but the last of
+/// `ReadFault`: a read failed, or 4,294,967,295 reads were made, each of at most 512 octets, and each but the last of
 /// one at least. `WriteFault`: the writer refused a reply.
 pub fn serve_text<F: Allocator + Clone, R: TextReader, W: TextWriter>(
     alloc: Global,

@@ -9,6 +9,7 @@ use crate::logins::Logins;
 use crate::session_sign::SessionSign;
 use crate::terms::SharedTerms;
 use crate::ticket::SessionTicket;
+use client_door::DoorBell;
 use client_patience::Patience;
 use event_word::{EventCount, SharedEventCount};
 use ftp_terms::LineText;
@@ -43,7 +44,7 @@ pub struct House<S: Store<Global>, H: Drop, B: PartsName> {
     pub ports: Mutex<RestingPorts>,
     /// The connections, and the limits to further ones.
     pub registry: Mutex<Admissions>,
-    /// For each connection, by its number, the session and whether it is to end.
+    /// For each connection, by its number, the session, whether it is to end, and its bell.
     pub signs: Vec<SessionSign>,
     /// The users who are logged in.
     pub logins: Mutex<Logins>,
@@ -77,6 +78,19 @@ impl<S: Store<Global>, H: Drop, B: PartsName> House<S, H, B> {
         match self.signs.get(key) {
             Some(sign) => sign.is_to_end(),
             None => false,
+        }
+    }
+
+    /// The bell of the session of a connection, which is made by the first call; none if the machine lends no descriptor.
+    pub fn bell_of(&self, key: usize) -> Option<&DoorBell> {
+        self.signs.get(key)?.bell()
+    }
+
+    /// Rings the bell of the session of a connection, if it has one: the end of its transfer is there.
+    pub fn ring(&self, key: usize) {
+        match self.signs.get(key) {
+            Some(sign) => sign.ring(),
+            None => {}
         }
     }
 

@@ -1,6 +1,6 @@
 //! Signals between rounds and a lane, beside the desk.
 
-ghost use Rattle.std.specs.Prelude.{◌≡◌, ◌+◌, ◌-◌, ◌^◌, None, IfSome, false, min, true};
+ghost use Rattle.std.specs.Prelude.{◌≡◌, ◌+◌, ◌-◌, ◌^◌, None, Some, IfSome, false, if◌then◌else◌, min, true};
 
 use crate::transfer_name::TransferName;
 use event_word::EventCount;
@@ -31,6 +31,10 @@ pub struct LaneSign {
     plenty: AtomicU64,
     // 1 if no rate is a limit of an upload, otherwise 0
     free: AtomicU64,
+    // 2 if the session of the transfer has a guarantee, 1 if it has none, 0 until a round has seen it
+    floor: AtomicU64,
+    // 1 if rounds wait for the next ask of the transfer, otherwise 0
+    awaited: AtomicU64,
 }
 
 // The number of rounds refused in a row, after one more round.
@@ -56,6 +60,25 @@ fn session_word(session: Option<u32>) -> u64
     }
 }
 
+// The word of whether a session has a guarantee.
+fn floor_word(has_floor: bool) -> u64
+    ensures word { result ≡ (if has_floor then 2 else 1) }
+{
+    if has_floor { 2 } else { 1 }
+}
+
+// Returns whether a session has a guarantee, by its word.
+fn floor_in(word: u64) -> Option<bool>
+    ensures unseen { word ≡ 0 → result ≡ None }
+    ensures none { word ≡ 1 → result ≡ Some false }
+    ensures some { word ≡ 2 → result ≡ Some true }
+{
+    match word {
+        0 => None,
+        word => Some(word == 2),
+    }
+}
+
 impl LaneSign {
     /// A sign without answers and without a transfer.
     pub fn new() -> LaneSign {
@@ -69,6 +92,8 @@ impl LaneSign {
             whole: AtomicU64::new(0),
             plenty: AtomicU64::new(0),
             free: AtomicU64::new(0),
+            floor: AtomicU64::new(0),
+            awaited: AtomicU64::new(0),
         }
     }
 
@@ -112,6 +137,28 @@ impl LaneSign {
         self.free.load(Ordering::SeqCst) == 1
     }
 
+    /// Sets whether the session of the transfer has a guarantee, as its first round has seen.
+    pub fn set_floor(&self, has_floor: bool) {
+        self.floor.store(floor_word(has_floor), Ordering::SeqCst);
+    }
+
+    /// Returns whether the session of the transfer has a guarantee, if a round has seen it. A reload does not change this:
+    /// it is of the transfer's first round.
+    pub fn has_floor(&self) -> Option<bool> {
+        floor_in(self.floor.load(Ordering::SeqCst))
+    }
+
+    /// Sets whether rounds wait for the next ask of the transfer.
+    pub fn set_awaited(&self, is_awaited: bool) {
+        self.awaited.store(u64::from(is_awaited), Ordering::SeqCst);
+    }
+
+    /// Returns whether rounds wait for the next ask of the transfer: its session has a guarantee, and it has not asked since
+    /// the last round, which it was in.
+    pub fn is_awaited(&self) -> bool {
+        self.awaited.load(Ordering::SeqCst) == 1
+    }
+
     /// Returns whether the lane's transfer is to end for lack of memory: [`MOST_REFUSED`] rounds in a row were refused.
     pub fn is_starved(&self) -> bool {
         self.refused.load(Ordering::SeqCst) >= MOST_REFUSED
@@ -124,6 +171,8 @@ impl LaneSign {
         self.moved.store(0, Ordering::SeqCst);
         self.whole.store(0, Ordering::SeqCst);
         self.plenty.store(0, Ordering::SeqCst);
+        self.floor.store(0, Ordering::SeqCst);
+        self.awaited.store(0, Ordering::SeqCst);
         if session.is_some() {
             self.transfers.fetch_add(1, Ordering::SeqCst);
         }

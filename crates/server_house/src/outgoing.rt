@@ -6,11 +6,18 @@ ghost use Rattle.server_house.specs.Sockets.{fault_in};
 use mio::net::TcpStream as PendingStream;
 use std::io;
 use std::net::{Net, SocketAddr, TcpStream};
+use std::os::fd::{AsRawFd, RawFd};
 
 /// A connection that was begun.
 #[derive(Drop)]
 pub struct Outgoing {
     stream: PendingStream,
+}
+
+impl AsRawFd for Outgoing {
+    fn as_raw_fd(&self) -> RawFd {
+        self.stream.as_raw_fd()
+    }
 }
 
 /// The progress of a connection that was begun.

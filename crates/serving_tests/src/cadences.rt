@@ -61,7 +61,7 @@ fn rows_of(rate: u64, left: u64, user: Credit) -> TransferRows {
         user,
         session: OPEN,
         group_number: None,
-        has_floor: false,
+        floor: 0,
     }
 }
 
@@ -131,20 +131,29 @@ fn beats_count_sharers(rt: HostRuntime) {
     holds(&rt, beat.sharers == 9 && beat.opens == 15);
     beat = beat.add(4_000, WORTH).settle(left(2_001), 15);
     holds(&rt, beat.sharers == 7 && beat.opens == 0); // more than a thousandth is left
-    beat = beat.keep(WORTH, 1).settle(left(0), 16);
+    beat = beat.keep(500, 500, WORTH, 1).settle(left(0), 16);
     holds(&rt, beat.sharers == 6 && beat.opens == 23); // 8 ticks earn 4,096 octets for each of 6
     beat = beat
         .add(500, WORTH)
         .add(500, WORTH_UP)
-        .keep(WORTH, 1)
-        .keep(WORTH_UP, 1);
+        .keep(0, 0, WORTH, 1)
+        .keep(900, 800, WORTH_UP, 1);
+    holds(
+        &rt,
+        beat.whole == 1_900 && beat.largest == 900 && beat.floor == 800,
+    );
     beat = beat.settle(left(0), 0);
+    holds(&rt, beat.floor == 700);
     holds(&rt, beat.sharers == 5); // an eighth fewer: two equal grants and two guarantees are four
     let first = Beat::new()
-        .keep(WORTH, 1)
+        .keep(0, 0, WORTH, 1)
         .add(500, WORTH)
         .settle(left(0), 0);
     holds(&rt, first.sharers == 2 && first.kept == 0);
+    holds(
+        &rt,
+        first.whole == 0 && first.largest == 0 && first.floor == 0,
+    );
     holds(&rt, first.cap(0) == first && first.cap(2).opens == 2); // at the latest then
     let beats = WayBeats::new().add(Way::Up, 10, WORTH_UP);
     let beats = beats.settle(Way::Up, left(0), 0);
@@ -153,7 +162,7 @@ fn beats_count_sharers(rt: HostRuntime) {
     let beat = Beat::new().ask(WORTH).ask(WORTH_UP).settle(left(0), 0);
     holds(&rt, beat.sharers == 1 && beat.opens == 1); // 1 tick earns 256 octets
     let beats = WayBeats::new()
-        .keep(Way::Up, WORTH_UP, 1)
+        .keep(Way::Up, 0, 0, WORTH_UP, 1)
         .settle(Way::Up, left(0), 0);
     holds(&rt, beats.cap(Way::Up, 1).beat(Way::Up).opens == 1);
     let beats = WayBeats::new().ask(Way::Down, WORTH);
@@ -162,8 +171,8 @@ fn beats_count_sharers(rt: HostRuntime) {
     holds(&rt, beats.beat(Way::Down).opens == 3); // 2 ticks earn 4,096 octets
 }
 
-// The rows of a transfer whose session has this credit, within the server's rate.
-fn session_rows(server: Credit, session: Credit, has_floor: bool) -> TransferRows {
+// The rows of a transfer whose session has this credit and this guarantee, within the server's rate.
+fn session_rows(server: Credit, session: Credit, floor: u64) -> TransferRows {
     TransferRows {
         server,
         way: OPEN,
@@ -171,7 +180,7 @@ fn session_rows(server: Credit, session: Credit, has_floor: bool) -> TransferRow
         user: OPEN,
         session,
         group_number: None,
-        has_floor,
+        floor,
     }
 }
 
@@ -196,24 +205,24 @@ fn opens_after(
     cadence.opens(way, user, rows)
 }
 
-/// The rate of each of 64 sessions, whether they have a guarantee, the tick of the round that drained it, and the next in
+/// The rate of each of 64 sessions, their guarantee, the tick of the round that drained it, and the next in
 /// which they are open.
-static SESSIONS: [(u64, bool, u64, u64); 9] = [
-    (31_250, false, 0, 31),
-    (31_250, false, 40, 63),
-    (31_250, false, 63, 95),
-    (31_250, true, 40, 63),
-    (2_000_000, false, 0, 1),
-    (2_000_000, false, 1, 3),
-    (15_000_000, false, 1, 2),
-    (0, false, 40, 0),
-    (0, true, 40, 0),
+static SESSIONS: [(u64, u64, u64, u64); 9] = [
+    (31_250, 0, 0, 31),
+    (31_250, 0, 40, 63),
+    (31_250, 0, 63, 95),
+    (31_250, 500, 40, 63),
+    (2_000_000, 0, 0, 1),
+    (2_000_000, 0, 1, 3),
+    (15_000_000, 0, 1, 2),
+    (0, 0, 40, 0),
+    (0, 500, 40, 0),
 ];
 
 #[test]
 fn sessions_have_a_beat_in_common(rt: HostRuntime) {
-    for (rate, has_floor, tick, opens) in &SESSIONS {
-        let rows = session_rows(OPEN, drained(*rate), *has_floor);
+    for (rate, floor, tick, opens) in &SESSIONS {
+        let rows = session_rows(OPEN, drained(*rate), *floor);
         let next = opens_after(&rt, Way::Down, &rows, *tick, 2);
         holds(&rt, next == *opens);
         holds(&rt, opens_after(&rt, Way::Down, &rows, *tick, 1) == 0); // of another user
@@ -221,16 +230,16 @@ fn sessions_have_a_beat_in_common(rt: HostRuntime) {
     let mut cadence = Cadence::new(rt.alloc(), 3, 0).expect(&rt, "memory");
     let mut small = asked(2, Way::Down);
     small.want = 1_024;
-    let rows = session_rows(OPEN, drained(100_000), false);
+    let rows = session_rows(OPEN, drained(100_000), 0);
     cadence.add(small, &rows, 200, 1);
     cadence.settle(Way::Down, 2, &rows, 0);
     holds(&rt, cadence.opens(Way::Down, 2, &rows) == 1); // 2 ticks earn 256 octets, a quarter of what it wants
-    let slow = session_rows(OPEN, drained(31_250), false);
+    let slow = session_rows(OPEN, drained(31_250), 0);
     holds(&rt, opens_after(&rt, Way::Up, &slow, 0, 2) == 7); // 8 ticks earn 256 octets
     // beside it, the server's rate is shared by 64 in 32 ticks, whether they have a guarantee or not
-    let rows = session_rows(left(0), drained(31_250), false);
+    let rows = session_rows(left(0), drained(31_250), 0);
     holds(&rt, opens_after(&rt, Way::Down, &rows, 0, 1) == 31);
-    let rows = session_rows(left(0), drained(31_250), true);
+    let rows = session_rows(left(0), drained(31_250), 500);
     holds(&rt, opens_after(&rt, Way::Down, &rows, 0, 1) == 31);
 }
 
@@ -240,7 +249,7 @@ fn opens_beside(
     rt: &(impl Abort + AllocGlobal),
     rate: u64,
     transfers: u64,
-    floors: (bool, bool),
+    floors: (u64, u64),
 ) -> u64 {
     let mut cadence = Cadence::new(rt.alloc(), 3, 0).expect(rt, "memory");
     let rows = session_rows(drained(rate), OPEN, floors.0);
@@ -253,17 +262,17 @@ fn opens_beside(
     cadence.opens(Way::Down, 1, &rows)
 }
 
-/// The rate of a server, the transfers of user 2, whether those of user 1 and of user 2 have a guarantee, and the next tick
+/// The rate of a server, the transfers of user 2, the guarantees of those of user 1 and of user 2, and the next tick
 /// in which the rate is open.
-static CROWDS: [(u64, u64, (bool, bool), u64); 8] = [
-    (2_048_000, 1, (false, false), 1), // 2 parts of 4,096 octets
-    (2_048_000, 8, (false, false), 15), // of 8 times as many
-    (2_048_000, 60, (false, false), 31), // of 65,536
-    (4_096_000, 60, (false, false), 15),
-    (65_536_000, 60, (false, false), 1),
-    (4_096_000, 60, (false, true), 15), // 60 with a guarantee are one sharer
-    (4_096_000, 60, (true, true), 15),
-    (4_096_000, 1, (true, true), 1),
+static CROWDS: [(u64, u64, (u64, u64), u64); 8] = [
+    (2_048_000, 1, (0, 0), 1), // 2 parts of 4,096 octets
+    (2_048_000, 8, (0, 0), 15), // of 8 times as many
+    (2_048_000, 60, (0, 0), 15), // of 32,768: the one transfer asks for 65,536 at most
+    (4_096_000, 60, (0, 0), 7),
+    (65_536_000, 60, (0, 0), 1),
+    (4_096_000, 60, (0, 500), 7), // 60 with a guarantee are one sharer
+    (4_096_000, 60, (500, 500), 7),
+    (4_096_000, 1, (500, 500), 1),
 ];
 
 #[test]
@@ -282,12 +291,47 @@ fn transfers_of_a_user_share_a_part(rt: HostRuntime) {
     holds(&rt, crowd_of(ShareBy::Users, &asks, asks[2]) == 1);
 }
 
+/// The guarantee of a transfer beside 60 others on a line of 4 MiB a second, how many rounds it has missed, and the next
+/// tick in which the line is open.
+static LARGE_PARTS: [(u64, usize, u64); 6] = [
+    (0, 0, 31),
+    (419_430, 0, 31), // a tenth
+    (1_048_576, 0, 15), // a quarter
+    (3_145_728, 0, 7), // three quarters
+    (3_145_728, 3, 31), // after rounds in 0, 7, 15 and 23
+    (3_145_728, 4, 47),
+];
+
+// Holds a round of 60 transfers without a guarantee on that line in a tick; returns the next in which it is open.
+fn hold_beside(cadence: &mut Cadence, tick: u64) -> u64 {
+    let rows = session_rows(drained(4_194_304), OPEN, 0);
+    for _ in 0..60 {
+        cadence.add(asked(2, Way::Down), &rows, 1_000, 1);
+    }
+    cadence.settle(Way::Down, 2, &rows, tick);
+    cadence.opens(Way::Down, 2, &rows)
+}
+
+#[test]
+fn a_large_part_is_within_an_ask(rt: HostRuntime) {
+    for (floor, missed, opens) in &LARGE_PARTS {
+        let mut cadence = Cadence::new(rt.alloc(), 3, 0).expect(&rt, "memory");
+        let rows = session_rows(drained(4_194_304), OPEN, *floor);
+        cadence.add(asked(1, Way::Down), &rows, 1_000, 1);
+        let mut next = hold_beside(&mut cadence, 0);
+        for _ in 0..*missed {
+            next = hold_beside(&mut cadence, next);
+        }
+        holds(&rt, next == *opens);
+    }
+}
+
 /// The rows of a transfer with a guarantee open no later than those that they are within.
 #[test]
 fn rows_with_a_guarantee_are_aligned(rt: HostRuntime) {
-    for (has_floor, opens) in &[(false, 31), (true, 3)] {
+    for (floor, opens) in &[(0, 31), (500, 3)] {
         let mut cadence = Cadence::new(rt.alloc(), 3, 0).expect(&rt, "memory");
-        let rows = session_rows(left(0), drained(31_250), *has_floor);
+        let rows = session_rows(left(0), drained(31_250), *floor);
         cadence.add(asked(2, Way::Down), &rows, 62, 1);
         cadence.settle(Way::Down, 2, &rows, 1); // the server's 2 ticks, the session's 32
         holds(&rt, cadence.opens(Way::Down, 2, &rows) == *opens);
@@ -297,14 +341,14 @@ fn rows_with_a_guarantee_are_aligned(rt: HostRuntime) {
 #[test]
 fn sessions_have_enough_left(rt: HostRuntime) {
     let seven = Credit { rate: 50, left: 7 };
-    let rows = session_rows(OPEN, seven, false);
+    let rows = session_rows(OPEN, seven, 0);
     holds(&rt, rows.have_left(7) && !rows.have_left(8));
     holds(
         &rt,
-        !rows.are_free() && session_rows(OPEN, OPEN, true).are_free(),
+        !rows.are_free() && session_rows(OPEN, OPEN, 500).are_free(),
     );
-    holds(&rt, session_rows(OPEN, OPEN, false).have_left(u64::MAX));
-    holds(&rt, !session_rows(OPEN, OPEN, true).have_left(0)); // a guarantee
+    holds(&rt, session_rows(OPEN, OPEN, 0).have_left(u64::MAX));
+    holds(&rt, !session_rows(OPEN, OPEN, 500).have_left(0)); // a guarantee
 }
 
 // A group with a rate of downloads, and a user in it with rates of uploads and a guarantee of downloads.
@@ -354,7 +398,7 @@ fn rows_are_those_of_a_transfer(rt: HostRuntime) {
                 left: 10,
             },
     );
-    holds(&rt, rows.group_number == Some(1) && rows.has_floor);
+    holds(&rt, rows.group_number == Some(1) && rows.floor == 500);
     holds(&rt, rows.session == OPEN);
     let rows = pace.rows_of(Way::Up, 3);
     holds(&rt, rows.way == OPEN && rows.group == OPEN);
@@ -374,11 +418,11 @@ fn rows_are_those_of_a_transfer(rt: HostRuntime) {
                 left: 25,
             },
     );
-    holds(&rt, rows.group_number == Some(1) && !rows.has_floor);
+    holds(&rt, rows.group_number == Some(1) && !rows.has_floor());
     holds(&rt, rows.have_left(20) && !rows.have_left(21));
     let rows = pace.rows_of(Way::Down, 4);
     holds(&rt, rows.group == OPEN && rows.user == OPEN);
-    holds(&rt, rows.group_number.is_none() && !rows.has_floor);
+    holds(&rt, rows.group_number.is_none() && rows.floor == 0);
 }
 
 // The rows of a user in group 1, with this credit of both.
@@ -390,7 +434,7 @@ fn grouped(credit: Credit) -> TransferRows {
         user: credit,
         session: OPEN,
         group_number: Some(1),
-        has_floor: false,
+        floor: 0,
     }
 }
 
@@ -437,7 +481,7 @@ fn has_room(heap: &LocalHeap) -> bool {
 fn beats_are_made_once_there_is_memory(rt: HostRuntime) -> Result<(), Fail> {
     let heap = LocalHeap::new(rt.alloc(), HEAP)?;
     let mut refused = 0usize;
-    for room in 1..64usize {
+    for room in 1..96usize {
         let rest = leave_hole(&rt, &heap, room * 16)?;
         if has_room(&heap) {
             break;
@@ -446,6 +490,6 @@ fn beats_are_made_once_there_is_memory(rt: HostRuntime) -> Result<(), Fail> {
         drop(rest);
         holds(&rt, has_room(&heap));
     }
-    holds(&rt, 2 <= refused && refused < 63);
+    holds(&rt, 2 <= refused && refused < 95);
     Ok(())
 }

@@ -2,7 +2,8 @@
 
 use crate::expect::holds;
 use client_door::{
-    Arrival, ClientDoor, DoorBell, Heard, LONGEST_STAY, WaitingRoom, arrival_of, heard_by,
+    Arrival, ClientDoor, DoorBell, Heard, LONGEST_STAY, WaitingRoom, arrival_of, await_answer,
+    await_either, heard_by,
 };
 use server_house::{listen, socket_address};
 use std::io;
@@ -43,7 +44,22 @@ fn a_door_and_its_bell(rt: HostRuntime) {
     bell.ring();
     let _late = TcpStream::connect(&rt, at).expect(&rt, "a connection");
     holds(&rt, is_bell(door.next(&bell, 1_000)));
-    holds(&rt, is_bell(door.next(&bell, 1_000))); // once rung, it has always been rung
+    holds(&rt, is_bell(door.next(&bell, 1_000))); // it stays rung
+    bell.quiet();
+    holds(&rt, is_client(door.next(&bell, 1_000)));
+}
+
+#[test]
+fn a_wait_beside_a_bell(rt: HostRuntime) {
+    let at = free_address(&rt);
+    let bell = DoorBell::rung().expect(&rt, "a counter");
+    let listener = listen(&rt, at).expect(&rt, "a port");
+    holds(&rt, await_either(&listener, &bell, 1_000) == Heard::Ring);
+    bell.quiet();
+    holds(&rt, await_either(&listener, &bell, 0) == Heard::Silence);
+    let near = TcpStream::connect(&rt, at).expect(&rt, "a connection");
+    holds(&rt, await_either(&listener, &bell, 1_000) == Heard::Knock);
+    holds(&rt, await_answer(&near, &bell, 1_000) == Heard::Knock);
 }
 
 // A silent client waits in the room, and leaves after two seconds.

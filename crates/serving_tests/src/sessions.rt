@@ -1,6 +1,7 @@
 //! The sessions of users, and those that are to end.
 
 use crate::expect::holds;
+use client_door::{Heard, await_either};
 use server_house::{Logins, SessionSign, asked_session};
 use std::process::Abort;
 
@@ -32,6 +33,22 @@ fn a_session_is_to_end(rt: HostRuntime) {
     holds(&rt, !sign.ask_end(17));
     sign.arrive(0);
     holds(&rt, sign.ask_end(0) && sign.is_to_end());
+}
+
+#[test]
+fn a_session_has_a_bell(rt: HostRuntime) {
+    let sign = SessionSign::new();
+    sign.ring(); // nobody has a bell yet
+    let bell = sign.bell().expect(&rt, "a counter");
+    holds(&rt, await_either(bell, bell, 0) == Heard::Ring);
+    bell.quiet();
+    holds(&rt, await_either(bell, bell, 0) == Heard::Silence);
+    sign.ring();
+    holds(&rt, await_either(bell, bell, 0) == Heard::Ring);
+    bell.quiet();
+    sign.arrive(3);
+    holds(&rt, sign.ask_end(3));
+    holds(&rt, await_either(bell, bell, 0) == Heard::Ring);
 }
 
 #[test]

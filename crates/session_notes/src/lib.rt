@@ -12,7 +12,7 @@
 //!
 //! Names and paths are in quotation marks, with all but plain characters escaped, so that nothing a client sends can
 //! start a line of its own. The number is that of the connection: no two simultaneous connections have the same. No
-//! note contains a password, or the text of a refused line.
+//! note contains a password; a declined command is noted with its line.
 #![tactic(auto)]
 
 mod courses;

@@ -5,9 +5,9 @@ use Rattle.line_rates.specs.FloorSums.{FloorsFit}
 use Rattle.line_rates.specs.Rates.{Rates, rate_of}
 use Rattle.line_rates.specs.declared.ask.Name.{Name}
 use Rattle.line_rates.specs.declared.rate.TheConstants.{MAX_RATE}
-use Rattle.line_rates.specs.declared.share_by.ShareBy.TheVariants as share
 use Rattle.line_rates.specs.TickTree.{Asker, IsPlan, ask_in}
 use Rattle.fair_terms.specs.Fair.{IsFair}
+use Rattle.fair_terms.specs.Wants.{HasLargeUser}
 use Rattle.limit_tree.specs.Sharing.{LimitTree}
 use Rattle.std.specs.Prelude.{map}
 use Rattle.world_terms.specs.declared.event.LaneState.TheVariants as state
@@ -44,7 +44,7 @@ pub record IsFairPlan (rates : Rates) (tick : ℕ) (asks : List Asker) (t : Limi
 -- why no fair grants were found for these asks in a tick
 abbrev pub IsUnshared : Rates → ℕ → List Asker → StepFault → Type 0
 IsUnshared rates tick asks fault.FloorsOver = FloorsFit rates tick (map ask_in asks) → ⊥
-IsUnshared rates tick asks fault.Unshared = rates.share_by ≡ share.Users
+IsUnshared rates tick asks fault.Unshared = HasLargeUser rates.share_by (map ask_in asks)
 IsUnshared rates tick asks fault.Memory = ⊤
 IsUnshared rates tick asks f = ⊥
 

@@ -1,7 +1,7 @@
 //! Fair shares of a tick, among sessions and among users, as worked by hand.
 
-use fair_shares::{FairFault, share_tree};
-use line_rates::{Ask, Limits, ShareBy, UserRate, Way, tree_of};
+use ask_shares::{NotShared, share_asks};
+use line_rates::{Ask, Limits, ShareBy, UserRate, Way};
 use std::process::Abort;
 use std::test::Fail;
 
@@ -72,7 +72,7 @@ fn shared(
     rt: &(impl Abort + AllocGlobal),
     row: &Row,
     share_by: ShareBy,
-) -> Result<Vec<u64>, FairFault> {
+) -> Result<Vec<u64>, NotShared> {
     let alloc = rt.alloc();
     let mut users = Vec::new(alloc);
     users
@@ -89,16 +89,17 @@ fn shared(
         .expect(rt, "memory");
     let limits = Limits::of(row.rate, 0, 0, Vec::new(alloc), users).expect(rt, "limits");
     let mut asks = Vec::new(alloc);
-    let mut askers = Vec::new(alloc);
     for (place, (user, way)) in row.asks.iter().enumerate() {
-        let lane = u8::try_from(place).expect(rt, "few asks");
-        let ask = ask(*user, u32::from(lane), *way);
-        asks.push(ask).expect(rt, "memory");
-        askers.push((lane, ask)).expect(rt, "memory");
+        let session = u32::try_from(place).expect(rt, "few asks");
+        asks.push(ask(*user, session, *way)).expect(rt, "memory");
     }
-    let plan = tree_of(alloc, &limits, 0, &askers).expect(rt, "a plan");
-    let sealed = share_tree(alloc, share_by, &asks, plan.tree)?;
-    Ok(Vec::from_slice(alloc, sealed.grants())?)
+    assert!(rt; asks.len() <= 64);
+    let shares = share_asks(alloc, &limits.shared_by(share_by), 0, &asks)?;
+    let mut grants = Vec::new(alloc);
+    for share in &shares {
+        grants.push(share.grant).expect(rt, "memory");
+    }
+    Ok(grants)
 }
 
 #[test]
@@ -115,21 +116,27 @@ fn among_sessions_and_users(rt: HostRuntime) {
 fn a_user_wants_too_much(rt: HostRuntime) -> Result<(), Fail> {
     let alloc = rt.alloc();
     let limits = Limits::of(1_000, 0, 0, Vec::new(alloc), Vec::new(alloc))?;
+    let limits = limits.shared_by(ShareBy::Users);
     let large = Ask {
         want: 3_000_000_000,
         ..ask(8, 1, Way::Down)
     };
-    let asks = [
-        ask(7, 0, Way::Down),
+    let more = Ask {
+        session: 2,
+        ..large
+    };
+    // of two users, or in two directions, as much may be wanted
+    let apart = [
         large,
+        Ask { user: 7, ..more },
         Ask {
-            session: 2,
-            ..large
+            way: Way::Up,
+            ..more
         },
     ];
-    let askers = [(0, asks[0]), (1, asks[1]), (2, asks[2])];
-    let plan = tree_of(alloc, &limits, 0, &askers)?;
-    let shared = share_tree(alloc, ShareBy::Users, &asks, plan.tree);
-    assert!(&rt; matches!(shared, Err(FairFault::Unshared)));
+    let shares = share_asks(alloc, &limits, 0, &apart)?;
+    assert!(&rt; shares.len() == 3);
+    let shared = share_asks(alloc, &limits, 0, &[ask(7, 0, Way::Down), large, more]);
+    assert!(&rt; matches!(shared, Err(NotShared::Unshared)));
     Ok(())
 }

@@ -33,9 +33,22 @@ const OFFICE: Shape = Branch(
     ],
 );
 
+/// Bob, cy, ann and dan with a transfer each: bob and cy in a group that has 13 octets, ann with 4, dan with a guarantee.
+const ONE_EACH: Shape = Branch(
+    Some(30),
+    &[
+        Branch(
+            Some(13),
+            &[Branch(None, &[Leaf(50, 0)]), Branch(None, &[Leaf(50, 0)])],
+        ),
+        Branch(Some(4), &[Leaf(50, 0)]),
+        Branch(None, &[Leaf(50, 11)]),
+    ],
+);
+
 /// A tree, the users' branches, the users of its leaves, and the grants. Worked by hand: the users' totals first, least
 /// first, and then each user's leaves; what is left over goes to the first that may have it.
-static SHARED: [(Shape, &[u32], &[u32], &[u64]); 6] = [
+static SHARED: [(Shape, &[u32], &[u32], &[u64]); 7] = [
     (
         Branch(Some(12), &ONE_AND_THREE),
         &[1, 3],
@@ -69,6 +82,8 @@ static SHARED: [(Shape, &[u32], &[u32], &[u64]); 6] = [
         &[0, 0, 0, 1, 1, 2],
         &[4, 3, 3, 4, 5, 11],
     ),
+    // One leaf each: bob has the group's odd octet, and dan what the line has left.
+    (ONE_EACH, &[2, 4, 6, 8], &[0, 1, 2, 3], &[7, 6, 4, 13]),
     // Everything fits.
     (
         Branch(Some(400), &ONE_AND_THREE),

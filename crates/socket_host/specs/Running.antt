@@ -19,6 +19,8 @@ use Rattle.socket_host.specs.declared.running.Prepared.{Prepared}
 use Rattle.socket_host.specs.declared.running.Prepared.TheVariants as prepared
 use Rattle.socket_host.specs.declared.running.Running.{Running}
 use Rattle.socket_host.specs.declared.running.Running.TheVariants as running
+use Rattle.socket_host.specs.declared.waiting.Beside.{Beside}
+use Rattle.socket_host.specs.declared.waiting.Beside.TheVariants.{Look, Read}
 use Rattle.transfer_ticket.specs.Tickets.{asking, begun, tried}
 use Rattle.transfer_ticket.specs.declared.view.TicketView.{TicketView}
 use Rattle.transfer_ticket.specs.declared.view.TicketView.TheVariants.{Away, Missed, Idle, Busy, Runs}
@@ -273,10 +275,23 @@ module _ {R K : Type 0} where
   Settles (running.Over reported) event moved =
       (event ≡ Some (TransferEnded reported.end reported.sink)) × (moved ≡ reported.moved)
 
-  -- true if there is something to report; either value for a moving transfer
-  abbrev pub RestsOn : Running R K → Bool → Type 0
-  RestsOn running.Nothing result = result ≡ false
-  RestsOn (running.Awaited port job since) result = result ≡ false
-  RestsOn (running.Connecting outgoing job since) result = result ≡ false
-  RestsOn (running.Moving connection is_aborted) result = ⊤
-  RestsOn (running.Over reported) result = result ≡ true
+  -- a session looks at its data side if there is something to report, and otherwise reads its
+  -- client; either of a moving transfer
+  abbrev pub RestsOn : Running R K → Beside → Type 0
+  RestsOn running.Nothing next = next ≡ Read
+  RestsOn (running.Awaited port job since) next = next ≡ Read
+  RestsOn (running.Connecting outgoing job since) next = next ≡ Read
+  RestsOn (running.Moving connection is_aborted) next = ⊤
+  RestsOn (running.Over reported) next = next ≡ Look
+
+  -- it waits for its end, for its client's connection, or for the answer of its client's port
+  abbrev pub is_awaiting : Running R K → Bool
+  is_awaiting running.Nothing = false
+  is_awaiting (running.Awaited port job since) = true
+  is_awaiting (running.Connecting outgoing job since) = true
+  is_awaiting (running.Moving connection is_aborted) = true
+  is_awaiting (running.Over reported) = false
+
+  -- the same; any of a transfer that waits
+  abbrev pub RestsBeside : Running R K → Beside → Type 0
+  RestsBeside run next = (is_awaiting run ≡ true) ⊎ RestsOn run next

@@ -1,5 +1,5 @@
 -- The octets of a read and of a last reply, and the errors of a read that only found nothing.
-use Rattle.std.specs.Prelude.{◌++◌, nat_lt, ◌&&◌, ◌||◌, not, if◌then◌else◌, ℕ, Bool, true, false, List, [], ◌∷◌, Option, Some, None, codes, take}
+use Rattle.std.specs.Prelude.{◌++◌, nat_eq, nat_lt, ◌&&◌, ◌||◌, not, if◌then◌else◌, ℕ, Bool, true, false, List, [], ◌∷◌, Option, Some, None, codes, take}
 use Rattle.std.specs.declared.alloc.Global.{Global}
 use Rattle.std.specs.declared.io.ErrorKind.{ErrorKind}
 use Rattle.std.specs.declared.io.ErrorKind.TheVariants.{WouldBlock, TimedOut, Interrupted}
@@ -26,6 +26,17 @@ is_pause _ = false
 abbrev pub time_out_of : Bool → ℕ → ℕ
 time_out_of true silences = 1
 time_out_of false silences = if nat_lt silences 50 then 200 else 2000
+
+-- an octet ends its line only if it is LF
+abbrev pub is_open_after : Option ℕ → Bool
+is_open_after None = false
+is_open_after (Some octet) = not (nat_eq octet 10)
+
+-- the longest wait for a client beside what its transfer waits for, in milliseconds: one within a
+-- line, otherwise 200
+abbrev pub beside_of : Bool → ℕ
+beside_of true = 1
+beside_of false = 200
 
 -- the last reply to a client that has passed a limit of time
 abbrev pub time_out_reply : TimeOut → List ℕ

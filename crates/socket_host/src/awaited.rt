@@ -1,6 +1,6 @@
 //! The client whom a session's passive ports are for.
 
-ghost use Rattle.std.specs.Prelude.{◌≡◌, IfSome, None, Some};
+ghost use Rattle.std.specs.Prelude.{◌≡◌, IfSome, None, Some, is_none};
 ghost use Rattle.socket_host.specs.Causes.{absence};
 
 use crate::ports::early_of;
@@ -72,6 +72,14 @@ impl AwaitedClient {
                 None
             }
         }
+    }
+
+    /// Returns whether the last look for a connection met no error of the machine: after one the connection may still wait,
+    /// so that a wait for it would end at once.
+    pub(crate) fn is_well(&self) -> bool
+        ensures well { result ≡ is_none self.now.fault }
+    {
+        self.fault.is_none()
     }
 
     /// The reason for the end of a transfer whose client has not come: the machine's error, if the last look had one.

@@ -1,9 +1,9 @@
 //! The socket of a control connection.
 
-ghost use Rattle.std.specs.Prelude.{◌<◌, ◌≡◌, ◌≤◌, IfOk, length, take};
+ghost use Rattle.std.specs.Prelude.{◌<◌, ◌≡◌, ◌≤◌, ◌-◌, IfOk, length, slice_get, take};
 ghost use Rattle.control_session.specs.Calls.{reads_within};
 ghost use Rattle.line_mender.specs.Mended.{after_all, after_silence, ending_of, kept};
-ghost use Rattle.socket_host.specs.Texts.{is_pause, octets_in, time_out_of};
+ghost use Rattle.socket_host.specs.Texts.{beside_of, is_open_after, is_pause, octets_in, time_out_of};
 
 use crate::replying::write_reply;
 use control_session::Piece;
@@ -12,6 +12,7 @@ use server_house::{ServerShutdown, address_octets};
 use std::io;
 use std::io::{ErrorKind, Read};
 use std::net::{Shutdown, TcpStream};
+use std::os::fd::{AsRawFd, RawFd};
 use std::time::Duration;
 
 /// The time-out of a read while nothing runs, in milliseconds.
@@ -25,6 +26,13 @@ const SILENCES: u32 = 50;
 
 /// The time-out of a read while something runs, in milliseconds.
 const QUICK: u64 = 1;
+
+/// The longest wait for a client beside what its transfer waits for, in milliseconds: as of a read while nothing runs, so
+/// that the end of the server is seen as soon.
+const BESIDE: u16 = 200;
+
+/// The same within a line, of which the end may have been lost as urgent data: a read that finds nothing restores it.
+const BRIEFLY: u16 = 1;
 
 /// The time-out of one write to a peer that does not read, in milliseconds.
 const STANDSTILL: u64 = 1_000;
@@ -46,6 +54,14 @@ pub struct ControlSocket {
     wait: u64,
     // number of reads in a row that found nothing, while nothing ran
     silences: u32,
+    // the last read ended within a line
+    is_open: bool,
+}
+
+impl AsRawFd for ControlSocket {
+    fn as_raw_fd(&self) -> RawFd {
+        self.stream.as_raw_fd()
+    }
 }
 
 // The time-out of a read, in milliseconds, by the number of reads in a row that found nothing.
@@ -56,6 +72,30 @@ fn time_out_of(is_quick: bool, silences: u32) -> u64
         return QUICK;
     }
     if silences < SILENCES { IDLE } else { SILENT }
+}
+
+// Returns whether a line is open after an octet, the last that was read.
+fn is_open_after(last: Option<u8>) -> bool
+    ensures open { result ≡ is_open_after last }
+{
+    match last {
+        Some(octet) => octet != LF,
+        None => false,
+    }
+}
+
+// Returns whether octets that were read end within a line.
+fn is_open(read: &[u8]) -> bool
+    ensures open { result ≡ is_open_after (slice_get read.now (length read.now - 1)) }
+{
+    is_open_after(read.last().copied())
+}
+
+// The longest wait for a client beside what its transfer waits for, in milliseconds.
+fn beside_of(is_open: bool) -> u16
+    ensures wait { result ≡ beside_of is_open }
+{
+    if is_open { BRIEFLY } else { BESIDE }
 }
 
 /// Returns whether a read only found nothing, or a write no room.
@@ -79,7 +119,22 @@ impl ControlSocket {
             mender: Mender::new(),
             wait: IDLE,
             silences: 0,
+            is_open: false,
         }
+    }
+
+    /// Returns whether the last read ended within a line.
+    pub(crate) fn is_within_line(&self) -> bool
+        ensures open { result ≡ self.now.is_open }
+    {
+        self.is_open
+    }
+
+    /// The longest wait for the client beside what its transfer waits for, in milliseconds.
+    pub(crate) fn longest_wait(&self) -> u16
+        ensures wait { result ≡ beside_of self.now.is_open }
+    {
+        beside_of(self.is_open)
     }
 
     // Sets the time-out of reads, only if it changes: it is a system call.
@@ -145,11 +200,13 @@ impl ControlSocket {
             Ok(0) => Ok(Piece::AtEnd),
             Ok(count) => {
                 self.count_silence(false);
+                self.is_open = is_open(&buffer[..count]);
                 Ok(self.mend(buffer, count))
             }
             Err(error) => {
                 if is_pause(error.kind()) {
                     self.count_silence(!is_quick);
+                    self.is_open = false;
                     Ok(self.take_silence(buffer))
                 } else {
                     Err(error)

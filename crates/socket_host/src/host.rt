@@ -27,7 +27,7 @@ use crate::refusals::{ending_refusal, is_refused};
 use crate::side::SocketSide;
 use crate::standing::Standing;
 use crate::unguaranteed::{Entrant, entrant_of, reason_for, tell_unguaranteed};
-use crate::waiting::{is_due, is_life, passed_limit};
+use crate::waiting::{Beside, is_due, is_life, passed_limit};
 use client_patience::{TimeOut, Waits};
 use control_session::{Host, Leaving, NoStep, Piece, Session, close_by, end_by, step_by};
 use event_word::micros;
@@ -570,6 +570,16 @@ where
             .write(time_out_reply(why), &self.side.house.ending);
     }
 
+    // Notes a sign of life.
+    fn hear(&mut self)
+        ensures standing { self.new.standing ≡ self.old.standing }
+        ensures side { self.new.side ≡ self.old.side }
+    {
+        let now = micros(self.rt);
+        self.waits.hear(now);
+        self.watch.hear(now);
+    }
+
     // Reads once, and notes a sign of life.
     fn read_some(&mut self, buffer: &mut [u8]) -> io::Result<Piece>
         requires room { 0 < length buffer.old }
@@ -580,9 +590,7 @@ where
         let is_busy = self.side.is_busy();
         let piece = self.socket.read(is_busy, buffer)?;
         if is_life(is_busy, piece) {
-            let now = micros(self.rt);
-            self.waits.hear(now);
-            self.watch.hear(now);
+            self.hear();
         }
         Ok(piece)
     }
@@ -720,8 +728,13 @@ where
             return Ok(Piece::AtEnd);
         }
         self.tend_port();
-        if self.side.rest() {
-            return Ok(Piece::Nothing);
+        match self.side.rest_beside(&self.socket) {
+            Beside::Look => return Ok(Piece::Nothing),
+            Beside::Rest => {
+                self.hear();
+                return Ok(Piece::Nothing);
+            }
+            Beside::Read => {}
         }
         let (is_busy, now) = (self.side.is_busy(), micros(self.rt));
         if let Some(why) = passed_limit(&self.waits, self.side.house.patience, is_busy, now) {

@@ -8,10 +8,11 @@
 //! comes.
 //!
 //! [`serve_session`] runs a client's whole session, from the greeting to the end. A read waits at most 200 ms, or until
-//! a running transfer has ended. A client that passes a limit of time is told so, and is gone for the session (`client_patience`).
+//! a running transfer has ended: its lane rings the bell of the session. A client that passes a limit of time is told so, and is gone for the session (`client_patience`).
 #![tactic(auto)]
 
 mod awaited;
+mod beside;
 mod control;
 mod declining;
 mod host;

@@ -35,8 +35,8 @@ pub fn sessions_are_long()
     ensures reads { MOST_READS ≡ 4294967295 }
 {}
 
-/// Size of one read of what comes after the end.
-const LAST_PIECE: usize = 512;
+/// Size of one read of what comes after the end: four of them are more than most clients send ahead of the last reply.
+const LAST_PIECE: usize = 4_096;
 
 /// A host with the settings of its session, which keeps the users of the login and charges whoever was logged in last. A
 /// call whose type argument has several lifetimes may take no settings, so the functions below have one type parameter

@@ -6,16 +6,19 @@ ghost use Rattle.session_table.specs.declared.inputs.End.TheVariants.{Aborted, N
 ghost use Rattle.session_table.specs.declared.inputs.Input.TheVariants.{DataReady};
 ghost use Rattle.socket_host.specs.Causes.{AbortCause, GoesCause, LookCause, StartCause, TakenCause, cause_of};
 ghost use Rattle.socket_host.specs.Keeping.{GoesKeeps, Keeps, LookKeeps, StartKeeps, may_keep, without_port};
-ghost use Rattle.socket_host.specs.Running.{Aborts, GoesOn, IsAwaited, IsConnecting, IsHandedOver, IsMovedBy, IsNoTarget, Looks, RestsOn, Settles, Starts, TakesEnd, event_of, is_busy, is_moving, over, pause_after, port_in};
+ghost use Rattle.socket_host.specs.Running.{Aborts, GoesOn, IsAwaited, IsConnecting, IsHandedOver, IsMovedBy, IsNoTarget, Looks, RestsBeside, RestsOn, Settles, Starts, TakesEnd, event_of, is_busy, is_moving, over, pause_after, port_in};
 ghost use Rattle.transfer_ticket.specs.Tickets as ticket;
 ghost use Rattle.transfer_ticket.specs.Views.{owner_view};
 ghost use Rattle.transfer_ticket.specs.declared.view.TicketView.TheVariants.{Idle};
 
 use crate::awaited::AwaitedClient;
+use crate::beside::wait_beside;
+use crate::control::ControlSocket;
 use crate::keeping::KeptPort;
 use crate::ports::{LeasedPort, SharedPorts, give_back, open_port};
 use crate::run::{SessionRun, Taken};
 use crate::running::{Prepared, Running, is_brief, is_upload, over};
+use crate::waiting::{Beside, after_rest};
 use event_word::{has_passed, micros};
 use ftp_wire::HostPort;
 use lent_parts::PartsName;
@@ -41,8 +44,8 @@ const PATIENCE: u64 = 60_000_000;
 /// The time for a client's port to answer, in microseconds.
 const CONNECTING: u64 = 5_000_000;
 
-/// The longest wait for the end of a moving transfer before the session reads its control connection, in milliseconds.
-/// The end wakes it at once.
+/// The longest wait for the end of a moving transfer alone, in milliseconds: of a session that does not read, or has no
+/// bell. The end wakes it at once.
 const LOOK: u64 = 50;
 
 /// The time in which a data connection usually comes, in microseconds: the session looks for it each millisecond.
@@ -668,23 +671,41 @@ where
         !matches!(&self.run.running, Running::Nothing)
     }
 
-    /// Waits briefly for the end of a moving transfer, or for a data connection that is late. Returns whether there is
-    /// something to report.
-    pub fn rest(&self) -> bool
+    /// Waits briefly for the end of a moving transfer, or for a data connection that is late, and not for the client.
+    /// Returns what the session does then: it looks at its data side if there is something to report.
+    fn rest(&self) -> Beside
         ensures over { RestsOn self.now.run.running result }
     {
         match &self.run.running {
-            Running::Moving { .. } => self.run.owner.rest(self.rt, Duration::from_millis(LOOK)),
-            Running::Over(_) => true,
-            Running::Nothing => false,
+            Running::Moving { .. } => {
+                after_rest(self.run.owner.rest(self.rt, Duration::from_millis(LOOK)))
+            }
+            Running::Over(_) => Beside::Look,
+            Running::Nothing => Beside::Read,
             Running::Awaited { since, .. } | Running::Connecting { since, .. } => {
                 let now = micros(self.rt);
                 if has_passed(*since, now, USUAL) {
                     let pause = pause_after(now.saturating_sub(*since));
                     thread::sleep(self.rt, Duration::from_millis(pause));
                 }
-                false
+                Beside::Read
             }
+        }
+    }
+
+    /// Waits for the client, or for what its transfer waits for, at most 200 ms, and as `rest` if it cannot wait for both.
+    /// Returns what the session does then.
+    pub(crate) fn rest_beside(&self, client: &ControlSocket) -> Beside
+        ensures over { RestsBeside self.now.run.running result }
+    {
+        let bell = if self.is_busy() {
+            self.house.bell_of(self.session as usize)
+        } else {
+            None
+        };
+        match wait_beside(&self.run.running, client, bell, self.client.is_well()) {
+            Some(next) => next,
+            None => self.rest(),
         }
     }
 

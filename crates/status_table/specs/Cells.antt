@@ -1,8 +1,12 @@
 -- The cells of a line.
-use Rattle.std.specs.Prelude.{◌-◌, ◌*◌, ◌/◌, ◌%◌, ◌^◌, ℕ, Bool, List, [], ◌∷◌, ◌++◌, ◌&&◌, codes, false, if◌then◌else◌, length, drop, min, map, nat_eq, nat_le, nat_lt, not}
+use Rattle.std.specs.Prelude.{◌-◌, ◌*◌, ◌/◌, ◌%◌, ◌^◌, ℕ, Bool, List, ◌++◌, ◌&&◌, ◌||◌, codes, encode_utf8, false, if◌then◌else◌, min, nat_eq, nat_le, nat_lt, not}
 use Rattle.std.specs.Fmt.{decimal, digits, format_spec, styled_text}
 use Rattle.std.specs.List.{flat_map}
 use Rattle.std.specs.Str.{chars}
+use Rattle.ucd_category.specs.GeneralCategory.{general_category}
+use Rattle.ucd_category.specs.GeneralCategoryGroup.{in_group}
+use Rattle.ucd_category.specs.declared.GeneralCategory.{GeneralCategory}
+use Rattle.ucd_category.specs.declared.GeneralCategoryGroup.TheVariants.{Other, Separator}
 
 -- ---- characters
 
@@ -10,37 +14,35 @@ use Rattle.std.specs.Str.{chars}
 abbrev pub is_printable : ℕ → Bool
 is_printable c = nat_le 32 c && nat_le c 126
 
--- A character: as it is if it is printable and no backslash, otherwise its number in hexadecimal
+-- letters, marks, numbers, punctuation and symbols: all of Unicode's groups of categories but
+-- Separator and Other, which has the characters of control, of format and of private use, and those
+-- that are not assigned
+abbrev pub is_visible : GeneralCategory → Bool
+is_visible kind = not (in_group Other kind) && not (in_group Separator kind)
+
+-- a character that a screen shows
+abbrev pub is_shown : ℕ → Bool
+is_shown c = is_printable c || is_visible (general_category c)
+
+-- A character: as it is if it is shown and no backslash, otherwise its number in hexadecimal
 -- digits, as `\u{1b}`.
 abbrev pub shown_char : ℕ → List ℕ
 shown_char c =
-    if is_printable c && not (nat_eq c 92) then c ∷ []
+    if is_shown c && not (nat_eq c 92) then encode_utf8 c
     else codes "\\u{" ++ digits 16 false c ++ codes "}"
 
 abbrev pub shown_text : List ℕ → List ℕ
 shown_text text = flat_map shown_char (chars text)
 
--- an octet as a screen may show it: a printable character, or a question mark
+-- a character as a screen may show it: itself, or a question mark
 abbrev pub plain : ℕ → ℕ
-plain octet = if is_printable octet then octet else 63
-
--- ---- columns
-
--- a text at the left of a column of this width, cut to its width but for a blank
-abbrev pub left : ℕ → List ℕ → List ℕ
-left width text = styled_text (format_spec 32 1 0 width (width - 1)) text
-
--- a text at the right of a column
-abbrev pub right : ℕ → List ℕ → List ℕ
-right width text = styled_text (format_spec 32 3 0 width (2 ^ 64 - 1)) text
-
--- the end of a text that is longer than a width, after three dots; otherwise the whole text
-abbrev pub tail : ℕ → List ℕ → List ℕ
-tail width text =
-    if nat_le (length text) width then map plain text
-    else codes "..." ++ map plain (drop (length text - (width - 3)) text)
+plain c = if is_shown c then c else 63
 
 -- ---- amounts
+
+-- a text of ASCII at the right of a column
+abbrev pub right : ℕ → List ℕ → List ℕ
+right width text = styled_text (format_spec 32 3 0 width (2 ^ 64 - 1)) text
 
 -- the hundredths of a unit that are left of a number
 abbrev pub hundredths : ℕ → ℕ → ℕ

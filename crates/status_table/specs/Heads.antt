@@ -5,8 +5,9 @@ use Rattle.std.specs.Fmt.{decimal}
 use Rattle.server_status.specs.declared.status.Direction.TheVariants.{Down, Up}
 use Rattle.server_status.specs.declared.status.GroupStatus.{GroupStatus}
 use Rattle.server_status.specs.declared.status.Status.{Status}
-use Rattle.status_table.specs.Cells.{amount, left, limit_text, shown_text}
+use Rattle.status_table.specs.Cells.{amount, limit_text, shown_text}
 use Rattle.status_table.specs.Rates.{both_total, group_total, idle_sessions, line_total, waiting}
+use Rattle.status_table.specs.Widths.{left}
 
 -- hours and minutes
 abbrev pub up_text : ℕ → List ℕ

@@ -5,3 +5,4 @@ pub mod Lines
 pub mod Looks
 pub mod Rates
 pub mod Tables
+pub mod Widths

@@ -12,9 +12,10 @@ use Rattle.server_status.specs.declared.status.Status.{Status}
 use Rattle.server_status.specs.declared.status.TransferStatus.{TransferStatus}
 use Rattle.status_table.specs.declared.held.Limit.{Limit}
 use Rattle.status_table.specs.declared.held.Limit.TheVariants.{Server, Direction, Group, User, Session, Client}
-use Rattle.status_table.specs.Cells.{amount, left, limit_text, percent, right, shown_text, tail}
+use Rattle.status_table.specs.Cells.{amount, limit_text, percent, right, shown_text}
 use Rattle.status_table.specs.Held.{held_text, holder_of, limit_name, same_limit, way_text}
 use Rattle.status_table.specs.Rates.{most, rate_since, rounds_since, same_way}
+use Rattle.status_table.specs.Widths.{left, tail}
 
 -- the lesser of two limits; 0 is none
 abbrev pub lesser : ℕ → ℕ → ℕ

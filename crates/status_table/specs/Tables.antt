@@ -1,5 +1,5 @@
 -- The table of the transfers of a server, as a screen of lines.
-use Rattle.std.specs.Prelude.{◌≡◌, ◌≤◌, ◌+◌, ◌-◌, ◌*◌, ℕ, Bool, List, Option, Some, None, [], ◌∷◌, ◌++◌, codes, if◌then◌else◌, length, map, min, nat_le, nat_lt, string_bytes, take, String, Vec}
+use Rattle.std.specs.Prelude.{◌≡◌, ◌≤◌, ◌+◌, ◌-◌, ◌*◌, ℕ, Bool, List, Option, Some, None, [], ◌∷◌, ◌++◌, All, codes, encode_utf8_all, if◌then◌else◌, length, map, min, nat_le, nat_lt, string_bytes, take, String, Vec}
 use Rattle.std.specs.Borrow.{Bor}
 use Rattle.std.specs.Fmt.{decimal}
 use Rattle.std.specs.declared.alloc.Global.{Global}
@@ -12,17 +12,21 @@ use Rattle.server_status.specs.declared.status.SharedAmong.{SharedAmong}
 use Rattle.server_status.specs.declared.status.SharedAmong.TheVariants.{Sessions, Users}
 use Rattle.server_status.specs.declared.status.Status.{Status}
 use Rattle.server_status.specs.declared.status.TransferStatus.{TransferStatus}
-use Rattle.status_table.specs.Cells.{plain}
 use Rattle.status_table.specs.Heads.{group_line, head_line, idle_line, totals_line}
 use Rattle.status_table.specs.Held.{level_line, lowest}
 use Rattle.status_table.specs.Lines.{held_line, is_mate, rate_line, session_line, user_line}
 use Rattle.status_table.specs.Rates.{idle_sessions, rank}
+use Rattle.status_table.specs.Widths.{line_front, width}
 use Rattle.status_table.specs.declared.table.TheConstants.{COLUMNS}
 
--- A line as the screen has it: at most `COLUMNS` octets, each a printable character of ASCII, and
--- its end.
+-- A line as the screen has it: as much of it as is at most `COLUMNS` wide, with a question mark for
+-- each character that a screen does not show, and its end.
 abbrev pub ended : List ℕ → List ℕ
-ended line = map plain (take COLUMNS line) ++ 10 ∷ []
+ended line = encode_utf8_all (line_front COLUMNS line) ++ 10 ∷ []
+
+-- no line is wider than the screen
+abbrev pub AreNarrow : List (List ℕ) → Type 0
+AreNarrow lines = All (λ line. width (line_front COLUMNS line) ≤ COLUMNS) lines
 
 -- lines, one after another
 abbrev pub joined : List (List ℕ) → List ℕ
@@ -183,5 +187,6 @@ pub record IsTable (earlier before : Option (Bor Status)) (now : Status) (rows :
   pub shown : List (Bor TransferStatus)
   pub all : IsPermutation now.transfers.items (map (λ t. t.now) shown)
   pub ordered : IsNonDecreasingBy (λ t. rank before now t.now) shown
+  pub narrow : AreNarrow (take rows (screen_lines earlier before now shown rows))
   pub few : length (take rows (screen_lines earlier before now shown rows)) ≤ rows
   pub lines : text ≡ joined (take rows (screen_lines earlier before now shown rows))

@@ -1,31 +1,39 @@
 //! The cells of a line.
 
-ghost use Rattle.std.specs.Prelude.{◌≡◌, ◌++◌, ◌∷◌, ◌<◌, ◌≤◌, [], OnOk, IfOk, map, string_bytes};
-ghost use Rattle.std.specs.Str.{chars};
-ghost use Rattle.status_table.specs.Cells.{amount, is_printable, left, limit_text, percent, plain, right, scaled, shown_char, shown_text, tail};
+ghost use Rattle.std.specs.Prelude.{◌≡◌, ◌++◌, ◌<◌, ◌≤◌, OnOk, IfOk, string_bytes};
+ghost use Rattle.status_table.specs.Cells.{amount, is_shown, is_visible, limit_text, percent, plain, right, scaled, shown_char, shown_text};
 
 use server_status::Rate;
 use std::alloc::{AllocError, Global};
+use ucd_category::{GeneralCategory, GeneralCategoryGroup};
 
-fn is_printable(character: u32) -> bool
-    ensures printable { result ≡ is_printable character }
+fn is_visible(kind: GeneralCategory) -> bool
+    ensures visible { result ≡ is_visible kind }
 {
-    32 <= character && character <= 126
+    !GeneralCategoryGroup::Other.contains(kind) && !GeneralCategoryGroup::Separator.contains(kind)
 }
 
-/// Appends a character: as it is if it is printable and no backslash, otherwise its number.
+/// Returns whether a screen shows a character: a printable one of ASCII, another letter, mark, number, sign of
+/// punctuation or symbol.
+fn is_shown(character: char) -> bool
+    ensures shown { result ≡ is_shown character }
+{
+    matches!(character, ' '..='~') || is_visible(GeneralCategory::for_char(character))
+}
+
+/// Appends a character: as it is if it is shown and no backslash, otherwise its number.
 fn push_shown(text: &mut String, character: char) -> Result<(), AllocError>
     ensures shown { OnOk result
         (string_bytes text.new ≡ string_bytes text.old ++ shown_char character) }
 {
-    if is_printable(character as u32) && character != '\\' {
+    if is_shown(character) && character != '\\' {
         text.push(character)
     } else {
         write!(text, "\\u{{{:x}}}", character as u32)
     }
 }
 
-/// The printable characters of a name that anybody may have chosen.
+/// A name that anybody may have chosen, as a screen shows it.
 pub(crate) fn shown(alloc: Global, name: &str) -> Result<String, AllocError>
     ensures shown { IfOk result (λ text. string_bytes text ≡ shown_text name.now) }
 {
@@ -36,46 +44,11 @@ pub(crate) fn shown(alloc: Global, name: &str) -> Result<String, AllocError>
     Ok(text)
 }
 
-fn plain(octet: u8) -> u8
-    ensures plain { result ≡ plain octet }
+/// A character as a screen may show it: itself, or a question mark.
+pub(crate) fn plain(character: char) -> char
+    ensures plain { result ≡ plain character }
 {
-    if is_printable(u32::from(octet)) {
-        octet
-    } else {
-        b'?'
-    }
-}
-
-fn push_plain(text: &mut String, octet: u8) -> Result<(), AllocError>
-    ensures appended { OnOk result
-        (string_bytes text.new ≡ string_bytes text.old ++ plain octet ∷ []) }
-{
-    text.push(char::from(plain(octet)))
-}
-
-/// Appends octets, each that is not printable as a question mark.
-pub(crate) fn push_octets(text: &mut String, octets: &[u8]) -> Result<(), AllocError>
-    ensures appended { OnOk result
-        (string_bytes text.new ≡ string_bytes text.old ++ map plain octets.now) }
-{
-    for octet in octets {
-        push_plain(text, *octet)?;
-    }
-    Ok(())
-}
-
-/// Appends the end of a text that is longer than a width, after three dots; otherwise the whole text.
-pub(crate) fn push_tail(line: &mut String, text: &str, width: usize) -> Result<(), AllocError>
-    requires wide { 3 ≤ width }
-    ensures appended { OnOk result
-        (string_bytes line.new ≡ string_bytes line.old ++ tail width text.now) }
-{
-    let octets = text.as_bytes();
-    if octets.len() <= width {
-        return push_octets(line, octets);
-    }
-    line.push_str("...")?;
-    push_octets(line, &octets[octets.len() - (width - 3)..])
+    if is_shown(character) { character } else { '?' }
 }
 
 pub(crate) fn push_word(line: &mut String, word: &str) -> Result<(), AllocError>

@@ -1,12 +1,14 @@
 //! The head of a table, and the lines of groups.
 
 ghost use Rattle.std.specs.Prelude.{◌≡◌, ◌++◌, OnOk, codes, string_bytes};
-ghost use Rattle.status_table.specs.Cells.{left, shown_text};
+ghost use Rattle.status_table.specs.Cells.{shown_text};
 ghost use Rattle.status_table.specs.Rates.{both_total, group_total, line_total};
 ghost use Rattle.status_table.specs.Heads.{clients_text, counts_of, counts_text, group_line, group_rates, head_line, idle_line, idle_number, is_full, labelled, promised_text, totals_line, up_text, used_text};
+ghost use Rattle.status_table.specs.Widths.{left};
 
 use crate::cells::{push_amount, push_limit, push_word, shown};
 use crate::rates::{both_total, group_total, idle_sessions, line_total, waiting};
+use crate::widths::push_left;
 use server_status::{Direction, GroupStatus, Rate, Status};
 use std::alloc::{AllocError, Global};
 
@@ -154,7 +156,7 @@ fn push_name(alloc: Global, line: &mut String, name: &str) -> Result<(), AllocEr
         (string_bytes line.new ≡ string_bytes line.old ++ left 17 (shown_text name.now)) }
 {
     let name = shown(alloc, name)?;
-    write!(line, "{name:<17.16}")
+    push_left(alloc, line, name.as_str(), 17)
 }
 
 /// Appends what the users of a group get together in one direction.

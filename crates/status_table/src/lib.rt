@@ -12,6 +12,7 @@ mod lines;
 mod looks;
 mod rates;
 mod table;
+mod widths;
 
 pub use looks::looks_lines;
 pub use server_status::Status;

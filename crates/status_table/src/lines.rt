@@ -3,13 +3,15 @@
 ghost use Rattle.std.specs.Prelude.{◌≡◌, ◌++◌, OnOk, IfOk, codes, string_bytes};
 ghost use Rattle.std.specs.Fmt.{decimal};
 ghost use Rattle.std.specs.Net.Text.{ipv4_text};
-ghost use Rattle.status_table.specs.Cells.{amount, left, limit_text, right, shown_text};
+ghost use Rattle.status_table.specs.Cells.{amount, limit_text, right, shown_text};
 ghost use Rattle.status_table.specs.Held.{held_text, way_text};
 ghost use Rattle.status_table.specs.Lines.{clock_text, done_text, held_line, held_number, held_numbers, inner_numbers, is_held_by, is_late, is_mate, late_text, lesser, mates_rate, name_cell, number_of, outer_numbers, path_text, rate_line, session_line, sixty, some_text, user_line, whom_cells};
+ghost use Rattle.status_table.specs.Widths.{left};
 
-use crate::cells::{percent, push_amount, push_bound, push_limit, push_rate, push_tail, shown};
+use crate::cells::{percent, push_amount, push_bound, push_limit, push_rate, shown};
 use crate::held::{Limit, held_cell, holder_of, limit_name, same_limit, way_text};
 use crate::rates::{rate_since, rounds_since, same_way};
+use crate::widths::{push_left, push_tail};
 use server_status::{Rate, SessionStatus, Status, TransferStatus};
 use std::alloc::{AllocError, Global};
 use std::net::Ipv4Addr;
@@ -32,7 +34,7 @@ fn push_session(alloc: Global, line: &mut String, session: u64) -> Result<(), Al
         (string_bytes line.new ≡ string_bytes line.old ++ left 7 (codes "#" ++ decimal session)) }
 {
     let cell = format!(in alloc; "#{session}")?;
-    write!(line, "{cell:<7.6}")
+    push_left(alloc, line, cell.as_str(), 7)
 }
 
 fn push_user(alloc: Global, line: &mut String, user: &str) -> Result<(), AllocError>
@@ -40,7 +42,7 @@ fn push_user(alloc: Global, line: &mut String, user: &str) -> Result<(), AllocEr
         (string_bytes line.new ≡ string_bytes line.old ++ left 11 (shown_text user.now)) }
 {
     let cell = shown(alloc, user)?;
-    write!(line, "{cell:<11.10}")
+    push_left(alloc, line, cell.as_str(), 11)
 }
 
 fn push_group(alloc: Global, line: &mut String, transfer: &TransferStatus) -> Result<(), AllocError>
@@ -48,10 +50,10 @@ fn push_group(alloc: Global, line: &mut String, transfer: &TransferStatus) -> Re
         (string_bytes line.new ≡ string_bytes line.old ++ name_cell 9 transfer.now.group) }
 {
     let Some(group) = &transfer.group else {
-        return write!(line, "{:<9.8}", "-");
+        return push_left(alloc, line, "-", 9);
     };
     let cell = shown(alloc, group.as_str())?;
-    write!(line, "{cell:<9.8}")
+    push_left(alloc, line, cell.as_str(), 9)
 }
 
 fn push_address(alloc: Global, line: &mut String, peer: [u8; 4]) -> Result<(), AllocError>
@@ -60,7 +62,7 @@ fn push_address(alloc: Global, line: &mut String, peer: [u8; 4]) -> Result<(), A
 {
     let address = Ipv4Addr::from(peer);
     let cell = format!(in alloc; "{address}")?;
-    write!(line, "{cell:<16.15}")
+    push_left(alloc, line, cell.as_str(), 16)
 }
 
 /// Appends the session, the user, the group, the address and the direction.
@@ -72,7 +74,7 @@ fn push_whom(alloc: Global, line: &mut String, transfer: &TransferStatus) -> Res
     push_user(alloc, line, transfer.user.as_str())?;
     push_group(alloc, line, transfer)?;
     push_address(alloc, line, transfer.peer)?;
-    write!(line, "{:<5.4}", way_text(transfer.direction))
+    push_left(alloc, line, way_text(transfer.direction), 5)
 }
 
 /// Appends the first line of a transfer, without its end.
@@ -126,7 +128,7 @@ fn push_held(
         ≡ string_bytes line.old ++ left 36 (held_text before.entry transfer.now)) }
 {
     let cell = held_cell(alloc, before, transfer)?;
-    write!(line, "{cell:<36.35}")
+    push_left(alloc, line, cell.as_str(), 36)
 }
 
 /// Appends the path, shortened from the left; a listing has none.
@@ -138,7 +140,7 @@ fn push_path(alloc: Global, line: &mut String, transfer: &TransferStatus) -> Res
         return line.push_str("a listing");
     };
     let cell = shown(alloc, path.as_str())?;
-    push_tail(line, cell.as_str(), 28)
+    push_tail(alloc, line, cell.as_str(), 28)
 }
 
 /// Appends the second line of a transfer, without its end.
@@ -366,7 +368,7 @@ fn push_owner(
 {
     push_user(alloc, line, transfer.user.as_str())?;
     push_group(alloc, line, transfer)?;
-    write!(line, "{:<5.4}", way_text(transfer.direction))?;
+    push_left(alloc, line, way_text(transfer.direction), 5)?;
     push_count(alloc, line, mates_number(now, transfer))
 }
 
@@ -433,7 +435,7 @@ fn push_who(alloc: Global, line: &mut String, session: &SessionStatus) -> Result
         (string_bytes line.new ≡ string_bytes line.old ++ name_cell 11 session.now.user) }
 {
     let Some(user) = &session.user else {
-        return write!(line, "{:<11.10}", "-");
+        return push_left(alloc, line, "-", 11);
     };
     push_user(alloc, line, user.as_str())
 }

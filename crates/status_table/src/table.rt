@@ -8,25 +8,16 @@ ghost use Rattle.status_table.specs.Lines.{session_line, user_line};
 ghost use Rattle.status_table.specs.Rates.{idle_sessions, rank};
 ghost use Rattle.status_table.specs.Tables.{IsTable, all_fit, body_lines, ended, entries, entry_lines, firsts, group_lines, has_mate, headed, joined, level_lines, names_lines, rest_line, rest_lines, screen_lines, session_lines, sharers_lines, shown_groups, shown_users, summed_lines, texts, top_lines, user_names, users_fit, whole_lines};
 
-use crate::cells::push_octets;
 use crate::heads::{push_group, push_head, push_idle, push_totals};
 use crate::held::{level_line, lowest};
 use crate::lines::{is_mate, push_rates, push_reasons, session_line, user_line};
 use crate::rates::{idle_sessions, rank};
+use crate::widths::push_front;
 use server_status::{Direction, GroupStatus, SessionStatus, SharedAmong, Status, TransferStatus};
 use std::alloc::{AllocError, Global};
 
-/// Most characters of a line.
+/// Most columns of a line.
 const COLUMNS: usize = 80;
-
-/// The octets of a line that the screen has room for.
-fn front(line: &str) -> &[u8]
-    ensures front { result.now ≡ take COLUMNS line.now }
-{
-    let octets = line.as_bytes();
-    let end = octets.len().min(COLUMNS);
-    &octets[..end]
-}
 
 fn push_end(screen: &mut String) -> Result<(), AllocError>
     ensures appended { OnOk result
@@ -35,12 +26,12 @@ fn push_end(screen: &mut String) -> Result<(), AllocError>
     screen.push('\n')
 }
 
-/// Appends a line, cut to 80 octets, each that is not printable as a question mark.
-fn push_ended(screen: &mut String, line: &str) -> Result<(), AllocError>
+/// Appends a line, cut to 80 columns, with a question mark for each character that a screen does not show.
+fn push_ended(alloc: Global, screen: &mut String, line: &str) -> Result<(), AllocError>
     ensures appended { OnOk result
         (string_bytes screen.new ≡ string_bytes screen.old ++ ended line.now) }
 {
-    push_octets(screen, front(line))?;
+    push_front(alloc, screen, line, COLUMNS)?;
     push_end(screen)
 }
 
@@ -51,7 +42,7 @@ fn joined(alloc: Global, lines: &[String]) -> Result<String, AllocError>
 {
     let mut screen = String::new(alloc);
     for line in lines {
-        push_ended(&mut screen, line.as_str())?;
+        push_ended(alloc, &mut screen, line.as_str())?;
     }
     Ok(screen)
 }
@@ -532,7 +523,7 @@ fn first_lines(alloc: Global, lines: &[String], rows: usize) -> Result<String, A
     joined(alloc, &lines[..count])
 }
 
-/// The table of the transfers of a status, in at most `rows` lines of at most 80 characters: what each gets since the
+/// The table of the transfers of a status, in at most `rows` lines of at most 80 columns: what each gets since the
 /// statuses of a second and of ten seconds before, or since its begin, and what holds it back. If not all transfers fit,
 /// those of a user in a direction have one line together. Fails if memory runs out.
 pub fn table_lines(

@@ -4,6 +4,7 @@ use crate::expect::holds;
 use change_report::{ChangeFault, reload_report};
 use config_file::{Fault, KeyFault, TableName, read_tables, rows_of};
 use config_report::{Lookout, Sight, is_nearly_memory, report, report_json, warning_texts};
+use line_rates::ShareBy;
 use rate_columns::{write_megabits, write_megabits_column, write_rate_column};
 use server_config::{Config, ConfigFault, migrate};
 use std::alloc::AllocError;
@@ -84,10 +85,10 @@ fn change_report(rt: &(impl Abort + AllocGlobal)) -> Result<(), ChangeFault> {
 }
 
 fn config_report(rt: &(impl Abort + AllocGlobal)) -> Result<(), ConfigFault> {
-    let machine = ORDERLY;
-    let text = report(rt.alloc(), "ftpd.toml", SMALL.as_bytes(), &machine)?; // a server and the user `ann`
+    let (machine, by) = (ORDERLY, ShareBy::Sessions);
+    let text = report(rt.alloc(), by, "ftpd.toml", SMALL.as_bytes(), &machine)?; // a server and the user `ann`
     holds(rt, text.as_str().starts_with("listens on 127.0.0.1:2121\n"));
-    let text = report_json(rt.alloc(), "ftpd.toml", SMALL.as_bytes(), &machine)?; // the same for programs
+    let text = report_json(rt.alloc(), by, "ftpd.toml", SMALL.as_bytes(), &machine)?; // the same for programs
     holds(rt, text.as_str().contains("\"port\":2121"));
     Ok(())
 }

@@ -2,8 +2,15 @@
 
 ghost use Rattle.std.specs.Prelude.{IsTrue};
 
-use grant_ledger::{Book, SettledNumbers, Tally, settle};
+use grant_ledger::{Book, BookName, SettledNumbers, Tally, settle};
+use line_rates::Limits;
 use std::process::Abort;
+
+/// The name of the books of a worker's tests.
+#[derive(Drop)]
+pub(crate) struct OfTest {}
+
+impl BookName for OfTest {}
 
 /// Stops the test if this is false.
 pub(crate) fn holds(rt: &impl Abort, fact: bool)
@@ -27,4 +34,9 @@ pub(crate) fn settles(
         back,
     };
     holds(rt, settle(book, tally).numbers() == wanted);
+}
+
+/// Limits with the server's rate alone; a rate of 0 limits nothing.
+pub(crate) fn limits(rt: &(impl Abort + AllocGlobal), rate: u64) -> Limits {
+    Limits::of(rate, 0, 0, Vec::new(rt.alloc()), Vec::new(rt.alloc())).expect(rt, "limits")
 }

@@ -1,11 +1,18 @@
 //! Tests of books, grants and tallies, of text on the wire, of pumps, of transfers between data connections and the
-//! files of a store, and of ports and registries, by public calls alone.
+//! files of a store, of ports and registries, of the board on which transfers wait, and of a worker's turns and whole jobs, by
+//! public calls alone.
 #![tactic(auto)]
 
 #[cfg(test)]
+mod boards;
+#[cfg(test)]
 mod books;
 #[cfg(test)]
+mod counted;
+#[cfg(test)]
 mod downloads;
+#[cfg(test)]
+mod ends;
 #[cfg(test)]
 mod expect;
 #[cfg(test)]
@@ -15,6 +22,12 @@ mod files;
 #[cfg(test)]
 mod grants;
 #[cfg(test)]
+mod house;
+#[cfg(test)]
+mod jobs;
+#[cfg(test)]
+mod parts;
+#[cfg(test)]
 mod ports;
 #[cfg(test)]
 mod registries;
@@ -23,6 +36,12 @@ mod rooms;
 #[cfg(test)]
 mod shortages;
 #[cfg(test)]
+mod threads;
+#[cfg(test)]
+mod turns;
+#[cfg(test)]
 mod uploads;
 #[cfg(test)]
 mod wires;
+#[cfg(test)]
+mod worker_shortages;

@@ -40,6 +40,12 @@ alike-of outline has kinds tree are reshaped = record {
   each = λ k p got. let r = reshaped.each k p got in (r.0, r.1, are.each k p r.0.kind got r.2, r.3, r.4);
 }
 
+-- a node of the tree for a node
+pub alike-at : (outline tree : List Place) (has : ℕ → Place → NodeKind → Type 0) (k : ℕ) (p q : Place) → AreAlike outline has tree → slice_get outline k ≡ Some p → slice_get tree k ≡ Some q → has k p q.kind × (q.first ≡ p.first) × (q.leaves ≡ p.leaves)
+alike-at outline tree has k p q alike got got_q =
+    let e = alike.each k p got in
+    subst (λ (x : Place). has k p x.kind × (x.first ≡ p.first) × (x.leaves ≡ p.leaves)) (same-node tree k e.0 q e.1 got_q) (e.2, e.3, e.4)
+
 -- a branch of the tree, and the node that it is of the shape of
 pub record IsPaired (outline : List Place) (has : ℕ → Place → NodeKind → Type 0) (k : ℕ) (a : SharedBranch) : Type 0 where
   pub place : Place
@@ -131,7 +137,7 @@ leaf-place (p ∷ ps) i less = elim (cases_Bool (is_leaf_kind p.kind)) [
 owned-set : (owners : List ℕ) (p : Place) (b : SharedBranch) → ((i : ℕ) → b.holds i ≡ leaf_range p.first p.leaves i) → IsOwned owners p → IsInside b.holds (leaves_of owners (slice_index owners p.first))
 owned-set owners p b holds owned i held = owned.own i (sym (holds i) ∙ held)
 
-set-owned : (owners : List ℕ) (p : Place) (b : SharedBranch) (u i : ℕ) → ((j : ℕ) → b.holds j ≡ leaf_range p.first p.leaves j) → IsTrue (b.holds i) → IsInside b.holds (leaves_of owners u) → IsOwned owners p
+pub set-owned : (owners : List ℕ) (p : Place) (b : SharedBranch) (u i : ℕ) → ((j : ℕ) → b.holds j ≡ leaf_range p.first p.leaves j) → IsTrue (b.holds i) → IsInside b.holds (leaves_of owners u) → IsOwned owners p
 set-owned owners p b u i holds held inside =
     let at = in_range p.first p.leaves i (sym (holds i) ∙ held) in
     let first : IsTrue (leaf_range p.first p.leaves p.first) = leaf_range-inside p.first p.leaves p.first (omega arith) (omega (arith, at.0, at.1)) in
@@ -141,14 +147,14 @@ set-owned owners p b u i holds held inside =
       own = λ j in_p. subst (λ (w : ℕ). IsTrue (leaves_of owners w j)) (sym owner) (inside j (holds j ∙ in_p));
     }
 
-branch-limit : (x y : Option ℕ) → Branch x ≡ Branch y → x ≡ y
+pub branch-limit : (x y : Option ℕ) → Branch x ≡ Branch y → x ≡ y
 branch-limit x y e = cc
 
 -- a branch of the tree itself
-abbrev own_branch : Option ℕ → Place → SharedBranch
+abbrev pub own_branch : Option ℕ → Place → SharedBranch
 own_branch limit p = record { limit = limit; holds = leaf_range p.first p.leaves }
 
-is-own : (outline : List Place) (k : ℕ) (p : Place) (limit : Option ℕ) → slice_get outline k ≡ Some p → p.kind ≡ Branch limit → IsBranch (limits outline) k (own_branch limit p)
+pub is-own : (outline : List Place) (k : ℕ) (p : Place) (limit : Option ℕ) → slice_get outline k ≡ Some p → p.kind ≡ Branch limit → IsBranch (limits outline) k (own_branch limit p)
 is-own outline k p limit got kind = ap (option_and_then (λ (x : Place). branch_of x.kind x.first x.leaves)) got ∙ ap (λ (x : NodeKind). branch_of x p.first p.leaves) kind
 
 pub inner-keeps : (owners : List ℕ) → KeepsKinds (IsInnerKind owners)
@@ -206,11 +212,30 @@ inner-tree outline tree owners alike = record {
       (back.0, back.1, branch-limit back.0.limit b.limit (back.2.inner owned ∙ at.kind), λ j. back.3 j ∙ sym (at.holds j));
 }
 
-pub outer-tree : (outline tree : List Place) (owners most floors : List ℕ) → IsFlat outline → IsFlat tree → AreAlike outline (IsOuterKind owners most floors) tree → IsOuterTree (limits outline) owners most floors (limits tree)
-outer-tree outline tree owners most floors flat flat_tree alike = record {
+-- the node of a leaf
+leaf-node : (outline : List Place) (i : ℕ) → IsShaped outline → i < length (limits outline).wants → (k : ℕ) × (p : Place) × (slice_get outline k ≡ Some p) × (p.first ≡ i) × (is_leaf_kind p.kind ≡ true)
+leaf-node outline i shaped l =
+    let at = leaf-place outline i (omega (arith, l, length-wants_in outline)) in
+    (at.0, at.1, at.2, (shaped at.0 at.1 at.2).first ∙ at.4, at.3)
+
+-- what a leaf of the tree tells
+alike-told : (outline tree : List Place) (has : ℕ → Place → NodeKind → Type 0) (i k want floor : ℕ) (p : Place) → IsShaped tree → (alike : AreAlike outline has tree) → (got : slice_get outline k ≡ Some p) → p.first ≡ i → (alike.each k p got).0.kind ≡ Leaf want floor → (slice_index (limits tree).wants i ≡ want) × (slice_index (limits tree).floors i ≡ floor)
+alike-told outline tree has i k want floor p shaped alike got first kind =
+    let e = alike.each k p got in
+    subst (λ (x : ℕ). (slice_index (limits tree).wants x ≡ want) × (slice_index (limits tree).floors x ≡ floor)) (e.3 ∙ first) (leaf_numbers tree k e.0 want floor shaped e.1 kind)
+
+-- a leaf that is not the first of its user wants nothing, and has no floor
+pub outer-other : (outline tree : List Place) (owners most floors : List ℕ) → IsShaped outline → IsShaped tree → AreAlike outline (IsOuterKind owners most floors) tree → (i : ℕ) → i < length (limits outline).wants → (IsHead owners i → ⊥) → (slice_index (limits tree).wants i ≡ 0) × (slice_index (limits tree).floors i ≡ 0)
+outer-other outline tree owners most floors shaped shaped_tree alike i l not_head =
+    let at = leaf-node outline i shaped l in
+    let e = alike.each at.0 at.1 at.2 in
+    alike-told outline tree (IsOuterKind owners most floors) i at.0 0 0 at.1 shaped_tree alike at.2 at.3 (e.2.other at.4 (λ head. not_head (subst (λ (x : ℕ). IsHead owners x) at.3 head)))
+
+pub outer-tree : (outline tree : List Place) (owners most floors : List ℕ) → IsFlat outline → IsShaped tree → AreAlike outline (IsOuterKind owners most floors) tree → IsOuterTree (limits outline) owners most floors (limits tree)
+outer-tree outline tree owners most floors flat shaped_tree alike = record {
   leaves = length-wants_in tree ∙ (counts ∙ sym (length-wants_in outline));
   head = λ i l head. numbers i l (λ leaf at. leaf.head at (subst (λ (x : ℕ). IsHead owners x) (sym (place i l).3) head));
-  other = λ i l not_head. (other i l not_head).0;
+  other = λ i l not_head. (outer-other outline tree owners most floors flat.shaped shaped_tree alike i l not_head).0;
   from = λ k limit a is is_limit.
       let pair = alike-branch outline tree has k a alike is in
       let p = pair.place in
@@ -241,34 +266,33 @@ outer-tree outline tree owners most floors flat flat_tree alike = record {
         let same : e.0 ≡ q = same-node tree k e.0 q e.1 got_q in
         subst (λ (x : Place). is_leaf_kind x.kind ≡ is_leaf_kind p.kind) same (e.2.alike))
 
-    -- the node of a leaf
     place : (i : ℕ) → i < length (limits outline).wants → (k : ℕ) × (p : Place) × (slice_get outline k ≡ Some p) × (p.first ≡ i) × (is_leaf_kind p.kind ≡ true)
-    place i l =
-        let at = leaf-place outline i (omega (arith, l, length-wants_in outline)) in
-        (at.0, at.1, at.2, (flat.shaped at.0 at.1 at.2).first ∙ at.4, at.3)
-
-    told : (i : ℕ) (l : i < length (limits outline).wants) (want floor : ℕ) → (alike.each (place i l).0 (place i l).1 (place i l).2).0.kind ≡ Leaf want floor → (slice_index (limits tree).wants i ≡ want) × (slice_index (limits tree).floors i ≡ floor)
-    told i l want floor kind =
-        let at = place i l in
-        let e = alike.each at.0 at.1 at.2 in
-        subst (λ (x : ℕ). (slice_index (limits tree).wants x ≡ want) × (slice_index (limits tree).floors x ≡ floor)) (e.3 ∙ at.3) (leaf_numbers tree at.0 e.0 want floor flat_tree.shaped e.1 kind)
+    place i l = leaf-node outline i flat.shaped l
 
     numbers : (i : ℕ) (l : i < length (limits outline).wants) → ((leaf : has (place i l).0 (place i l).1 (alike.each (place i l).0 (place i l).1 (place i l).2).0.kind) → is_leaf_kind (place i l).1.kind ≡ true → (alike.each (place i l).0 (place i l).1 (place i l).2).0.kind ≡ Leaf (slice_index most (slice_index owners (place i l).1.first)) (slice_index floors (slice_index owners (place i l).1.first))) → (slice_index (limits tree).wants i ≡ slice_index most (slice_index owners i)) × (slice_index (limits tree).floors i ≡ slice_index floors (slice_index owners i))
     numbers i l kind =
         let at = place i l in
         let e = alike.each at.0 at.1 at.2 in
         subst (λ (x : ℕ). (slice_index (limits tree).wants i ≡ slice_index most (slice_index owners x)) × (slice_index (limits tree).floors i ≡ slice_index floors (slice_index owners x))) at.3
-        (told i l (slice_index most (slice_index owners at.1.first)) (slice_index floors (slice_index owners at.1.first)) (kind e.2 at.4))
-
-    other : (i : ℕ) (l : i < length (limits outline).wants) → (IsHead owners i → ⊥) → (slice_index (limits tree).wants i ≡ 0) × (slice_index (limits tree).floors i ≡ 0)
-    other i l not_head =
-        let at = place i l in
-        let e = alike.each at.0 at.1 at.2 in
-        told i l 0 0 (e.2.other at.4 (λ head. not_head (subst (λ (x : ℕ). IsHead owners x) at.3 head)))
+        (alike-told outline tree has i at.0 (slice_index most (slice_index owners at.1.first)) (slice_index floors (slice_index owners at.1.first)) at.1 shaped_tree alike at.2 at.3 (kind e.2 at.4))
 
 -- some user's branch has this number
 abbrev is_user : List ℕ → ℕ → Bool
 is_user users k = any_below (length users) (λ u. nat_eq (slice_index users u) k)
+
+-- a node is the branch of a user, or of none
+pub user-at : (users : List ℕ) (k : ℕ) → ((u : ℕ) × (u < length users) × (slice_index users u ≡ k)) ⊎ ((u : ℕ) → u < length users → slice_index users u ≡ k → ⊥)
+user-at users k = elim (cases_Bool (is_user users k)) [
+  | inl some ↦ let at = any-found (length users) (λ u. nat_eq (slice_index users u) k) some in inl (at.0, at.1, eqb-true (slice_index users at.0) k at.2)
+  | inr none ↦ inr (λ u less is. false≢true (sym none ∙ any-from (length users) (λ v. nat_eq (slice_index users v) k) u less (eq-eqb (slice_index users u) k is)))
+]
+
+-- the leaves of a user's branch
+pub user-range : (outline : List Place) (users owners : List ℕ) (k : ℕ) (p : Place) → AreUsers outline users owners → slice_get outline k ≡ Some p → (u : ℕ) → u < length users → slice_index users u ≡ k → (i : ℕ) → leaves_of owners u i ≡ leaf_range p.first p.leaves i
+user-range outline users owners k p us got u less at i =
+    let n = us.node u less in
+    let same : n.place ≡ p = same-node outline k n.place p (ap (λ (m : ℕ). slice_get outline m) (sym at) ∙ n.found) got in
+    subst (λ (x : Place). leaves_of owners u i ≡ leaf_range x.first x.leaves i) same (n.holds i)
 
 pub tight-tree : (outline tree : List Place) (users owners totals : List ℕ) → AreUsers outline users owners → AreAlike outline (IsTightKind users totals) tree → IsTightOf (limits outline) (length users) owners totals (limits tree)
 tight-tree outline tree users owners totals us alike = record {
@@ -276,7 +300,7 @@ tight-tree outline tree users owners totals us alike = record {
   floors = told-alike leaf_floor outline tree has no-floor (tight-keeps users totals) leaf alike;
   from = λ k b is.
       let pair = alike-branch outline tree has k b alike is in
-      elim (decide k) [
+      elim (user-at users k) [
         | inl found ↦ inr (found.0, found.1, user_branch k b pair found.0 found.1 found.2)
         | inr none ↦ inl (sym (old k pair.place pair.found none) ∙ is)
       ];
@@ -293,8 +317,8 @@ tight-tree outline tree users owners totals us alike = record {
       );
   kept = λ k b is.
       let at = branch_place outline k b is in
-      elim (decide k) [
-        | inl found ↦ inr (found.0, found.1, λ i. at.holds i ∙ sym (user_range k at.place at.found found.0 found.1 found.2 i))
+      elim (user-at users k) [
+        | inl found ↦ inr (found.0, found.1, λ i. at.holds i ∙ sym (user-range outline users owners k at.place us at.found found.0 found.1 found.2 i))
         | inr none ↦ inl (old k at.place at.found none ∙ is)
       ];
 }
@@ -305,22 +329,10 @@ tight-tree outline tree users owners totals us alike = record {
     leaf : (k : ℕ) (p : Place) (kind : NodeKind) → slice_get outline k ≡ Some p → has k p kind → is_leaf_kind p.kind ≡ true → kind ≡ p.kind
     leaf k p kind got is is_leaf = is.other (λ u less at. false≢true (sym (knows-of outline users owners k p us got u less at).0 ∙ is_leaf))
 
-    decide : (k : ℕ) → ((u : ℕ) × (u < length users) × (slice_index users u ≡ k)) ⊎ ((u : ℕ) → u < length users → slice_index users u ≡ k → ⊥)
-    decide k = elim (cases_Bool (is_user users k)) [
-      | inl some ↦ let at = any-found (length users) (λ u. nat_eq (slice_index users u) k) some in inl (at.0, at.1, eqb-true (slice_index users at.0) k at.2)
-      | inr none ↦ inr (λ u less is. false≢true (sym none ∙ any-from (length users) (λ v. nat_eq (slice_index users v) k) u less (eq-eqb (slice_index users u) k is)))
-    ]
-
-    user_range : (k : ℕ) (p : Place) → slice_get outline k ≡ Some p → (u : ℕ) → u < length users → slice_index users u ≡ k → (i : ℕ) → leaves_of owners u i ≡ leaf_range p.first p.leaves i
-    user_range k p got u less at i =
-        let n = us.node u less in
-        let same : n.place ≡ p = same-node outline k n.place p (ap (λ (m : ℕ). slice_get outline m) (sym at) ∙ n.found) got in
-        subst (λ (x : Place). leaves_of owners u i ≡ leaf_range x.first x.leaves i) same (n.holds i)
-
     user_branch : (k : ℕ) (b : SharedBranch) → (pair : IsPaired outline has k b) → (u : ℕ) → u < length users → slice_index users u ≡ k → IsUserBranch owners totals u b
     user_branch k b pair u less at = record {
       limit = branch-limit b.limit (Some (slice_index totals u)) (pair.pair.user u less at);
-      holds = λ i. pair.holds i ∙ sym (user_range k pair.place pair.found u less at i);
+      holds = λ i. pair.holds i ∙ sym (user-range outline users owners k pair.place us pair.found u less at i);
     }
 
     old : (k : ℕ) (p : Place) → slice_get outline k ≡ Some p → ((u : ℕ) → u < length users → slice_index users u ≡ k → ⊥) → (limits tree).branch k ≡ (limits outline).branch k

@@ -1,4 +1,8 @@
 pub mod Reshaping
+pub mod Faultless
+pub mod WholeUsers
+pub mod SoundKinds
+pub mod SmallUsers
 pub mod Kinded
 pub mod Sets
 pub mod InnerStage
@@ -6,4 +10,5 @@ pub mod OuterStage
 pub mod TightStage
 pub mod Alike
 pub mod Added
+pub mod OwnLeaves
 pub mod Grown

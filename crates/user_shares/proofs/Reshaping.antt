@@ -7,8 +7,15 @@ use Rattle.limit_tree.specs.declared.place.NodeKind.{NodeKind}
 use Rattle.limit_tree.specs.declared.place.NodeKind.TheVariants.{Branch, Leaf}
 use Rattle.limit_tree.specs.declared.place.Place.{Place}
 use Rattle.limit_tree.specs.declared.node.Node.{Node}
-use Rattle.limit_tree.specs.Outline.{is_leaf_kind, behind, branch_over, deeper, leaf_alone, leaf_count, places}
+use Rattle.limit_tree.specs.Sharing.{sum_over}
+use Rattle.limit_tree.specs.Depths.{depths_by, HaveDepths}
+use Rattle.limit_tree.specs.Outline.{is_leaf_kind, behind, branch_over, deeper, leaf_alone, leaf_count, leaf_range, limits, places}
 use Rattle.limit_tree.specs.Flat.{IsRow, IsShaped, IsTreeAt}
+use Rattle.limit_tree.proofs.DepthsByKids.{have-depths}
+use Rattle.limit_tree.proofs.Leaves.{floors_in, length-floors_in}
+use Rattle.limit_tree.proofs.Nested.{ordered-tree, summed-tree}
+use Rattle.limit_tree.proofs.Shapes.{shaped-tree}
+use Rattle.limit_tree.proofs.Sound.{sum_over-range}
 use Rattle.limit_tree.proofs.Places.{own_leaves, leaf_count-append, leaf_count-cons}
 use Rattle.limit_tree.proofs.Hops.{row-last}
 use Rattle.std.proofs.lemmas.List.{take-map, length-map}
@@ -45,14 +52,14 @@ shapes-more (first ∷ trees) tree =
     (sym (append_assoc (shapes (places first)) (shapes (nodes_of trees)) (shapes (places tree))) ∙
     ap (λ s. s ++ shapes (places tree)) (sym (shapes-pair (places first) (nodes_of trees) c))))
 
-pub reshaped-at : (ps : List Place) (kinds : List NodeKind) (k : ℕ) (p : Place) (kind : NodeKind) → slice_get ps k ≡ Some p → slice_get kinds k ≡ Some kind → slice_get (reshaped ps kinds) k ≡ Some (record { kind = kind; leaves = p.leaves })
+pub reshaped-at : (ps : List Place) (kinds : List NodeKind) (k : ℕ) (p : Place) (kind : NodeKind) → slice_get ps k ≡ Some p → slice_get kinds k ≡ Some kind → slice_get (reshaped ps kinds) k ≡ Some (record { kind = kind; leaves = p.leaves; kids = p.kids })
 reshaped-at [] kinds k p kind got is = absurd (cc)
 reshaped-at (x ∷ ps) [] k p kind got is = absurd (cc)
 reshaped-at (x ∷ ps) (y ∷ kinds) zero p kind got is =
     let same_p : x ≡ p = cc in
     let same_k : y ≡ kind = cc in
-    let first : Some (record { kind = y; leaves = x.leaves }) ≡ Some (record { kind = kind; leaves = x.leaves }) = ap (λ (z : NodeKind). Some (record { kind = z; leaves = x.leaves })) same_k in
-    first ∙ ap (λ (z : Place). Some (record { kind = kind; leaves = z.leaves })) same_p
+    let first : Some (record { kind = y; leaves = x.leaves; kids = x.kids }) ≡ Some (record { kind = kind; leaves = x.leaves; kids = x.kids }) = ap (λ (z : NodeKind). Some (record { kind = z; leaves = x.leaves; kids = x.kids })) same_k in
+    first ∙ ap (λ (z : Place). Some (record { kind = kind; leaves = z.leaves; kids = z.kids })) same_p
 reshaped-at (x ∷ ps) (y ∷ kinds) (suc k) p kind got is = reshaped-at ps kinds k p kind got is
 
 -- number of leaves among shapes
@@ -80,7 +87,7 @@ counted-reshaped (p ∷ ps) (kind ∷ kinds) zero has = refl
 counted-reshaped (p ∷ ps) (kind ∷ kinds) (suc k) has =
     let own : own_leaves kind ≡ own_leaves p.kind = ap (λ (b : Bool). cond b 1 0) (has.alike 0 p kind refl refl) in
     let rest = counted-reshaped ps kinds k (has-tail p ps kind kinds has) in
-    omega (arith, own, rest, counted-cons (record { kind = kind; leaves = p.leaves }) (take k (reshaped ps kinds)), leaf_count-cons p (take k ps))
+    omega (arith, own, rest, counted-cons (record { kind = kind; leaves = p.leaves; kids = p.kids }) (take k (reshaped ps kinds)), leaf_count-cons p (take k ps))
 
 -- the leaves of a tree end where its nodes do
 abbrev EndsRight : List Place → ℕ → Type 0
@@ -123,17 +130,20 @@ pub reshaped-leaf : (ps : List Place) (kinds : List NodeKind) (at : ℕ) (p : Pl
 reshaped-leaf ps kinds at p want floor shaped has got is =
     let old = leaf-kind p.kind (sym (has.alike at p (Leaf want floor) got is)) in
     let one = (shaped at p got).leaf old.0 old.1 old.2 in
-    let here : slice_get (reshaped ps kinds) at ≡ Some (record { kind = Leaf want floor; leaves = 1 }) = reshaped-at ps kinds at p (Leaf want floor) got is ∙ ap (λ (n : ℕ). Some (record { kind = Leaf want floor; leaves = n })) one.1 in
-    sym (take-next (reshaped ps kinds) at (record { kind = Leaf want floor; leaves = 1 }) here) ∙ ap (λ n. take (at + n) (reshaped ps kinds)) (sym one.0)
+    let here : slice_get (reshaped ps kinds) at ≡ Some (record { kind = Leaf want floor; leaves = 1; kids = 0 }) =
+    reshaped-at ps kinds at p (Leaf want floor) got is ∙
+    (ap (λ (n : ℕ). Some (record { kind = Leaf want floor; leaves = n; kids = p.kids })) one.1 ∙
+    ap (λ (n : ℕ). Some (record { kind = Leaf want floor; leaves = 1; kids = n })) one.2) in
+    sym (take-next (reshaped ps kinds) at (record { kind = Leaf want floor; leaves = 1; kids = 0 }) here) ∙ ap (λ n. take (at + n) (reshaped ps kinds)) (sym one.0)
 
 -- a branch over trees of the shapes of those below a branch
-pub reshaped-branch : (ps : List Place) (kinds : List NodeKind) (at : ℕ) (p : Place) (limit : Option ℕ) (count : ℕ) (below : List Place) → IsShaped ps → HasKinds ps kinds → slice_get ps at ≡ Some p → slice_get kinds at ≡ Some (Branch limit) → take (at + 1) (reshaped ps kinds) ++ shapes below ≡ take (at + p.nodes) (reshaped ps kinds) → take at (reshaped ps kinds) ++ shapes (branch_over limit count below ∷ map deeper below) ≡ take (at + p.nodes) (reshaped ps kinds)
-reshaped-branch ps kinds at p limit count below shaped has got is all =
+pub reshaped-branch : (ps : List Place) (kinds : List NodeKind) (at : ℕ) (p : Place) (limit : Option ℕ) (count : ℕ) (below : List Place) → IsShaped ps → HasKinds ps kinds → slice_get ps at ≡ Some p → slice_get kinds at ≡ Some (Branch limit) → count ≡ p.kids → take (at + 1) (reshaped ps kinds) ++ shapes below ≡ take (at + p.nodes) (reshaped ps kinds) → take at (reshaped ps kinds) ++ shapes (branch_over limit count below ∷ map deeper below) ≡ take (at + p.nodes) (reshaped ps kinds)
+reshaped-branch ps kinds at p limit count below shaped has got is kids all =
     let t = reshaped ps kinds in
     let tree = shaped at p got in
     let old = branch-kind p.kind (sym (has.alike at p (Branch limit) got is)) in
     let own : own_leaves p.kind ≡ 0 = ap own_leaves old.1 in
-    let x : Shape = record { kind = Branch limit; leaves = leaf_count below } in
+    let x : Shape = record { kind = Branch limit; leaves = leaf_count below; kids = count } in
     let counts : counted (take (at + 1) t) + counted (shapes below) ≡ counted (take (at + p.nodes) t) = sym (counted-append (take (at + 1) t) (shapes below)) ∙ ap counted all in
     let leaves : leaf_count below ≡ p.leaves = omega (
       arith,
@@ -148,7 +158,10 @@ reshaped-branch ps kinds at p limit count below shaped has got is all =
       leaf_count-append (take at ps) (p ∷ []),
       leaf_count-cons p [],
     ) in
-    let here : slice_get t at ≡ Some x = reshaped-at ps kinds at p (Branch limit) got is ∙ ap (λ (n : ℕ). Some (record { kind = Branch limit; leaves = n })) (sym leaves) in
+    let here : slice_get t at ≡ Some x =
+    reshaped-at ps kinds at p (Branch limit) got is ∙
+    (ap (λ (n : ℕ). Some (record { kind = Branch limit; leaves = n; kids = p.kids })) (sym leaves) ∙
+    ap (λ (n : ℕ). Some (record { kind = Branch limit; leaves = leaf_count below; kids = n })) (sym kids)) in
     ap (λ s. take at t ++ x ∷ s) (shapes-deeper below) ∙
     (sym (append_assoc (take at t) (x ∷ []) (shapes below)) ∙
     (ap (λ s. s ++ shapes below) (sym (take-next t at x here)) ∙ all))
@@ -163,14 +176,14 @@ reshaped-more ps kinds first at last trees new tree before here is =
     (ap (λ s. s ++ shapes (places tree)) before ∙ here)))
 
 -- one tree more, from those of its kids
-pub reshaped-node : {A : Type 0} (ps : List Place) (kinds : List NodeKind) (at : ℕ) (p : Place) (kind : NodeKind) (kids : List (Node A)) (node : Node A) → IsShaped ps → HasKinds ps kinds → slice_get ps at ≡ Some p → slice_get kinds at ≡ Some kind → ((begin last past : ℕ) → IsRow ps (at + 1) begin p.kids last past → take (at + 1) (reshaped ps kinds) ++ shapes (nodes_of kids) ≡ take last (reshaped ps kinds)) → places node ≡ node_places kind kids → take at (reshaped ps kinds) ++ shapes (places node) ≡ take (at + p.nodes) (reshaped ps kinds)
-reshaped-node ps kinds at p (Leaf want floor) kids node shaped has got is below made =
+pub reshaped-node : {A : Type 0} (ps : List Place) (kinds : List NodeKind) (at : ℕ) (p : Place) (kind : NodeKind) (kids : List (Node A)) (node : Node A) → IsShaped ps → HasKinds ps kinds → slice_get ps at ≡ Some p → slice_get kinds at ≡ Some kind → length kids ≡ p.kids → ((begin last past : ℕ) → IsRow ps (at + 1) begin p.kids last past → take (at + 1) (reshaped ps kinds) ++ shapes (nodes_of kids) ≡ take last (reshaped ps kinds)) → places node ≡ node_places kind kids → take at (reshaped ps kinds) ++ shapes (places node) ≡ take (at + p.nodes) (reshaped ps kinds)
+reshaped-node ps kinds at p (Leaf want floor) kids node shaped has got is count below made =
     ap (λ (qs : List Place). take at (reshaped ps kinds) ++ shapes qs) made ∙ reshaped-leaf ps kinds at p want floor shaped has got is
-reshaped-node ps kinds at p (Branch limit) kids node shaped has got is below made =
+reshaped-node ps kinds at p (Branch limit) kids node shaped has got is count below made =
     let old = branch-kind p.kind (sym (has.alike at p (Branch limit) got is)) in
     let row = (shaped at p got).branch old.0 old.1 in
     ap (λ (qs : List Place). take at (reshaped ps kinds) ++ shapes qs) made ∙
-    reshaped-branch ps kinds at p limit (length kids) (nodes_of kids) shaped has got is (below p.first (at + p.nodes) (p.first + p.leaves) row)
+    reshaped-branch ps kinds at p limit (length kids) (nodes_of kids) shaped has got is count (below p.first (at + p.nodes) (p.first + p.leaves) row)
 
 -- the kids of a node are a row
 pub kids-row : (ps : List Place) (at : ℕ) (p : Place) → IsShaped ps → slice_get ps at ≡ Some p → HasRow ps (at + 1) p.kids
@@ -210,16 +223,42 @@ shape-at (p ∷ ps) zero s got =
     some_shape x y e = cc
 shape-at (p ∷ ps) (suc k) s got = shape-at ps k s got
 
+-- the numbers of kids, by the shapes
+kids-shapes : (ps : List Place) → map (λ (s : Shape). s.kids) (shapes ps) ≡ map (λ (p : Place). p.kids) ps
+kids-shapes [] = refl
+kids-shapes (p ∷ ps) = ap (λ (ks : List ℕ). p.kids ∷ ks) (kids-shapes ps)
+
+kids-reshaped : (ps : List Place) (kinds : List NodeKind) → length kinds ≡ length ps → map (λ (s : Shape). s.kids) (reshaped ps kinds) ≡ map (λ (p : Place). p.kids) ps
+kids-reshaped [] kinds size = refl
+kids-reshaped (p ∷ ps) [] size = absurd (omega (arith, size))
+kids-reshaped (p ∷ ps) (kind ∷ kinds) size = ap (λ (ks : List ℕ). p.kids ∷ ks) (kids-reshaped ps kinds (omega (arith, size)))
+
+-- the nodes of two lists that tell the same
+told-at : (f : Place → ℕ) (ps qs : List Place) (k : ℕ) (p q : Place) → map f qs ≡ map f ps → slice_get ps k ≡ Some p → slice_get qs k ≡ Some q → f q ≡ f p
+told-at f [] qs k p q same got got_q = absurd (cc)
+told-at f (x ∷ ps) [] k p q same got got_q = absurd (cc)
+told-at f (x ∷ ps) (y ∷ qs) zero p q same got got_q =
+    let one : x ≡ p = cc in
+    let other : y ≡ q = cc in
+    let here : f y ≡ f x = cc in
+    sym (ap f other) ∙ (here ∙ ap f one)
+told-at f (x ∷ ps) (y ∷ qs) (suc k) p q same got got_q =
+    let rest : map f qs ≡ map f ps = cc in
+    told-at f ps qs k p q rest got got_q
+
 -- a tree whose root's tree has the shapes of all nodes
-pub reshaped-all : {A : Type 0} (ps : List Place) (kinds : List NodeKind) (tree : List Place) (root : Node A) → IsFlat ps → IsFlat tree → HasKinds ps kinds → tree ≡ places root → take 0 (reshaped ps kinds) ++ shapes (nodes_of (root ∷ [])) ≡ take (length ps) (reshaped ps kinds) → IsReshaped ps kinds tree
-reshaped-all ps kinds tree root flat flat_tree has is all = record { nodes = size; each = each }
+pub reshaped-all : {A : Type 0} (ps : List Place) (kinds : List NodeKind) (root : Node A) → IsFlat ps → HaveDepths ps → HasKinds ps kinds → take 0 (reshaped ps kinds) ++ shapes (nodes_of (root ∷ [])) ≡ take (length ps) (reshaped ps kinds) → IsReshaped ps kinds (places root)
+reshaped-all ps kinds root flat depths has all = record { nodes = size; shaped = shaped-tree root; each = each; floors = floors }
   where
+    tree : List Place
+    tree = places root
+
     t : List Shape
     t = reshaped ps kinds
 
     same : shapes tree ≡ t
     same =
-        ap shapes (is ∙ sym (append-nil (places root))) ∙
+        ap shapes (sym (append-nil tree)) ∙
         (all ∙ (ap (λ (n : ℕ). take n t) (sym (length-reshaped ps kinds has.nodes)) ∙ take-length t))
 
     size : length tree ≡ length ps
@@ -231,16 +270,28 @@ reshaped-all ps kinds tree root flat flat_tree has is all = record { nodes = siz
         (ap counted (sym (take-map shape_of k tree)) ∙
         (ap (λ (ss : List Shape). counted (take k ss)) same ∙ counted-reshaped ps kinds k has))
 
-    each : (k : ℕ) (p : Place) → slice_get ps k ≡ Some p → (q : Place) × (slice_get tree k ≡ Some q) × (slice_get kinds k ≡ Some q.kind) × (q.first ≡ p.first) × (q.leaves ≡ p.leaves)
+    kids : map (λ (p : Place). p.kids) tree ≡ map (λ (p : Place). p.kids) ps
+    kids = sym (kids-shapes tree) ∙ (ap (λ (ss : List Shape). map (λ (s : Shape). s.kids) ss) same ∙ kids-reshaped ps kinds has.nodes)
+
+    deep : map (λ (p : Place). p.depth) tree ≡ map (λ (p : Place). p.depth) ps
+    deep = have-depths root ∙ (ap (depths_by (0 ∷ [])) kids ∙ sym depths)
+
+    each : (k : ℕ) (p : Place) → slice_get ps k ≡ Some p → (q : Place) × (slice_get tree k ≡ Some q) × (slice_get kinds k ≡ Some q.kind) × (q.first ≡ p.first) × (q.leaves ≡ p.leaves) × (q.depth ≡ p.depth)
     each k p got =
         let kind = some-at kinds k (omega (arith, within-at ps k p got, has.nodes)) in
-        let q = shape-at tree k (record { kind = kind.0; leaves = p.leaves }) (ap (λ (ss : List Shape). slice_get ss k) same ∙ reshaped-at ps kinds k p kind.0 got kind.1) in (
+        let q = shape-at tree k (record { kind = kind.0; leaves = p.leaves; kids = p.kids }) (ap (λ (ss : List Shape). slice_get ss k) same ∙ reshaped-at ps kinds k p kind.0 got kind.1) in (
           q.0,
           q.1,
           kind.1 ∙ ap (λ (x : NodeKind). Some x) (sym q.2),
-          (flat_tree.shaped k q.0 q.1).first ∙ (counts k ∙ sym (flat.shaped k p got).first),
+          (shaped-tree root k q.0 q.1).first ∙ (counts k ∙ sym (flat.shaped k p got).first),
           q.3,
+          told-at (λ (x : Place). x.depth) ps tree k p q.0 deep got q.1,
         )
+
+    floors : (k : ℕ) (q : Place) → slice_get tree k ≡ Some q → q.floors ≡ sum_over (leaf_range q.first q.leaves) (limits tree).floors
+    floors k q got =
+        let range : q.first + q.leaves ≤ length (floors_in (places root)) = omega (arith, (ordered-tree root).bounded k q got, length-floors_in (places root)) in
+        summed-tree root k q got ∙ sym (sum_over-range q.first q.leaves (floors_in (places root)) range)
 
 -- the only tree of a row
 pub lone-root : {A : Type 0} (ps : List Place) (kinds : List NodeKind) (last : ℕ) (trees rest : List (Node A)) (root : Node A) → length trees ≡ 1 → trees ≡ rest ++ root ∷ [] → take 0 (reshaped ps kinds) ++ shapes (nodes_of trees) ≡ take last (reshaped ps kinds) → take 0 (reshaped ps kinds) ++ shapes (nodes_of (root ∷ [])) ≡ take last (reshaped ps kinds)

@@ -70,7 +70,7 @@ inner-within t set h tree within = record {
 }
 
 -- within the limits is within those of a set
-within-set : (t : LimitTree) (set : LeafSet) (g : List ℕ) → IsWithin t g → IsWithinSet t set g
+pub within-set : (t : LimitTree) (set : LeafSet) (g : List ℕ) → IsWithin t g → IsWithinSet t set g
 within-set t set g within = record {
   leaves = within.wanted.leaves;
   wants = λ i l. within.wanted.wants i l;

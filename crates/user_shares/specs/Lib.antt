@@ -1,3 +1,4 @@
+pub mod Faults
 pub mod InRow
 pub mod Kinds
 pub mod Nodes

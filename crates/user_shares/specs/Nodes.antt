@@ -18,3 +18,7 @@ pub record AreUsers (outline : List Place) (users owners : List ℕ) : Type 0 wh
   pub each : length owners ≡ length (limits outline).wants
   pub few : (i : ℕ) → i < length owners → slice_index owners i < length users
   pub node : (u : ℕ) → u < length users → IsUserNode outline owners u (slice_index users u)
+
+-- Each leaf is a user of its own, with the number of the leaf.
+abbrev pub AreTheirOwn : List ℕ → Type 0
+AreTheirOwn owners = (i : ℕ) → i < length owners → slice_index owners i ≡ i

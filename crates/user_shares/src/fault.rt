@@ -1,6 +1,5 @@
 //! The reasons for which nothing is shared among users.
 
-use limit_tree::TreeFault;
 use std::alloc::AllocError;
 use thiserror::Error;
 
@@ -13,9 +12,6 @@ pub enum UserShareFault {
     /// The most that a user can have is above the largest want of a tree, `MAX_WANT` octets.
     #[error("a user wants too much")]
     WantTooLarge { user: usize },
-    /// A tree of the same shape, with other limits, has a fault.
-    #[error("{0}")]
-    Tree(TreeFault),
 }
 
 impl From<AllocError> for UserShareFault {
@@ -26,16 +22,5 @@ impl From<AllocError> for UserShareFault {
 
     fn from(_error: AllocError) -> UserShareFault {
         UserShareFault::Memory
-    }
-}
-
-impl From<TreeFault> for UserShareFault {
-    ghost use Rattle.std.specs.Prelude.{◌≡◌};
-    ghost use Rattle.user_shares.specs.declared.fault.UserShareFault.TheVariants.{Tree};
-
-    ghost from_gives = { λ e fault. fault ≡ Tree e };
-
-    fn from(fault: TreeFault) -> UserShareFault {
-        UserShareFault::Tree(fault)
     }
 }

@@ -1,11 +1,11 @@
 //! A tree of the same shape as another, with other limits, wants and floors.
 
-ghost use Rattle.std.specs.Prelude.{◌≡◌, ◌<◌, ℕ, length, slice_get, IfOk, Some};
+ghost use Rattle.std.specs.Prelude.{◌≡◌, ◌<◌, ℕ, length, slice_get, IfOk, None, Some};
 ghost use Rattle.limit_tree.specs.Outline.{places};
+ghost use Rattle.limit_tree.specs.Faults.{tree_fault};
 ghost use Rattle.limit_tree.specs.Flat.{HasRow, IsRow};
-ghost use Rattle.user_shares.specs.Rebuilt.{AreReshaped, HasKinds, IsReshaped, node_places};
+ghost use Rattle.user_shares.specs.Rebuilt.{AreReshaped, AreSoundKinds, HasKinds, IsReshaped, IsSoundOutline, node_places};
 
-use crate::fault::UserShareFault;
 use limit_tree::{Flat, Node, NodeKind, Tree};
 use std::alloc::{AllocError, Allocator};
 
@@ -55,24 +55,33 @@ fn trees_of<A: Allocator, B: Allocator + Clone>(
     Ok(built)
 }
 
-/// The tree of the same shape as another, with these kinds of nodes. O(nodes) time. Returns an error if memory runs out,
-/// or if the numbers of the tree have a fault.
+/// The tree of a node whose numbers have no fault.
+fn tree_over<B: Allocator>(root: Node<B>) -> Tree<B>
+    requires sound { tree_fault (places root) ≡ None }
+    ensures tree { result ≡ places root }
+{
+    match Tree::new(root) {
+        Ok(tree) => tree,
+        Err(_) => unreachable!(),
+    }
+}
+
+/// The tree of the same shape as another, with these kinds of nodes, if such a tree has no fault. O(nodes) time. Returns
+/// an error only if memory runs out.
 pub(crate) fn rebuilt<A: Allocator, B: Allocator + Clone>(
     alloc: &B,
     flat: &Flat<A>,
     kinds: &[NodeKind],
-) -> Result<Tree<B>, UserShareFault>
+) -> Result<Tree<B>, AllocError>
+    requires sound { IsSoundOutline flat.now }
     requires kinds { HasKinds flat.now kinds.now }
+    requires faultless { AreSoundKinds flat.now kinds.now }
     ensures reshaped { IfOk result (λ tree. IsReshaped flat.now kinds.now tree) }
 {
     let _nodes = flat.nodes();
     let mut trees = trees_of(alloc, flat, kinds, 0, 1)?;
     match trees.pop() {
-        Some(root) => {
-            let tree = Tree::new(root)?;
-            tree.nodes_are_a_tree();
-            Ok(tree)
-        }
+        Some(root) => Ok(tree_over(root)),
         None => unreachable!(),
     }
 }

@@ -1,12 +1,14 @@
 //! The three stages by which grants are found.
 
-ghost use Rattle.std.specs.Prelude.{◌≡◌, ◌<◌, ◌≤◌, ◌^◌, ℕ, length, slice_index, sum, IfOk};
+ghost use Rattle.std.specs.Prelude.{◌≡◌, ◌<◌, ◌≤◌, ◌^◌, ℕ, length, slice_index, sum, IfErr, IfNone, IfOk, IfSome};
 ghost use Rattle.limit_tree.specs.Outline.{limits};
-ghost use Rattle.limit_tree.specs.Sharing.{IsWithin};
-ghost use Rattle.grant_certificate.specs.Users.{total_of};
+ghost use Rattle.limit_tree.specs.declared.bounds.TheConstants.{MAX_WANT};
+ghost use Rattle.grant_certificate.specs.Users.{HasUsers};
+ghost use Rattle.user_shares.specs.Faults.{IsUserFault};
 ghost use Rattle.user_shares.specs.Kinds.{AreAlike, HaveRanges, IsInnerKind, IsOuterKind, IsTightKind};
 ghost use Rattle.user_shares.specs.Nodes.{AreUsers};
-ghost use Rattle.user_shares.specs.Stages.{AreFound, AreMost, AreOuterTotals, AreTightGrants, AreTotals};
+ghost use Rattle.user_shares.specs.Rebuilt.{IsSoundOutline};
+ghost use Rattle.user_shares.specs.Stages.{AreFound, AreMost, AreOuterTotals, AreTightGrants, AreTotals, HaveHeads};
 
 use crate::fault::UserShareFault;
 use crate::kinds::{inner_kinds, outer_kinds, tight_kinds};
@@ -75,11 +77,13 @@ fn inner_tree<A: Allocator, B: Allocator + Clone>(
     alloc: &B,
     flat: &Flat<A>,
     owners: &[u32],
-) -> Result<Tree<B>, UserShareFault>
+) -> Result<Tree<B>, AllocError>
+    requires sound { IsSoundOutline flat.now }
     requires owners { length owners.now ≡ length (limits flat.now).wants }
     requires ranges { HaveRanges owners.now }
     ensures alike { IfOk result (λ tree. AreAlike flat.now (IsInnerKind owners.now) tree) }
 {
+    let _nodes = flat.nodes();
     let kinds = inner_kinds(alloc.clone()?, flat, owners)?;
     let tree = rebuilt(alloc, flat, &kinds)?;
     Ok(tree)
@@ -92,14 +96,18 @@ fn outer_tree<A: Allocator, B: Allocator + Clone>(
     owners: &[u32],
     most: &[u64],
     floors: &[u64],
-) -> Result<Tree<B>, UserShareFault>
-    requires owners { length owners.now ≡ length (limits flat.now).wants }
+) -> Result<Tree<B>, AllocError>
+    requires sound { IsSoundOutline flat.now }
+    requires users { HasUsers (limits flat.now) (length most.now) owners.now }
+    requires heads { HaveHeads (length most.now) owners.now }
     requires ranges { HaveRanges owners.now }
-    requires few { (i : ℕ) → i < length owners.now → slice_index owners.now i < length most.now }
-    requires floors { length floors.now ≡ length most.now }
+    requires most { AreMost (limits flat.now) (length most.now) owners.now most.now }
+    requires small { (u : ℕ) → u < length most.now → slice_index most.now u ≤ MAX_WANT }
+    requires floors { AreTotals (length most.now) owners.now (limits flat.now).floors floors.now }
     ensures alike { IfOk result
         (λ tree. AreAlike flat.now (IsOuterKind owners.now most.now floors.now) tree) }
 {
+    let _nodes = flat.nodes();
     let kinds = outer_kinds(alloc.clone()?, flat, owners, most, floors)?;
     let tree = rebuilt(alloc, flat, &kinds)?;
     Ok(tree)
@@ -112,12 +120,14 @@ fn tight_tree<A: Allocator, B: Allocator + Clone>(
     users: &[u32],
     owners: &[u32],
     totals: &[u64],
-) -> Result<Tree<B>, UserShareFault>
+) -> Result<Tree<B>, AllocError>
+    requires sound { IsSoundOutline flat.now }
     requires users { AreUsers flat.now users.now owners.now }
-    requires totals { length totals.now ≡ length users.now }
+    requires totals { AreOuterTotals (limits flat.now) (length users.now) owners.now totals.now }
     ensures alike { IfOk result
         (λ tree. AreAlike flat.now (IsTightKind users.now totals.now) tree) }
 {
+    let _nodes = flat.nodes();
     let kinds = tight_kinds(alloc.clone()?, flat, users, owners, totals)?;
     let tree = rebuilt(alloc, flat, &kinds)?;
     Ok(tree)
@@ -165,7 +175,8 @@ pub(crate) fn most_of<A: Allocator, B: Allocator + Clone>(
     flat: &Flat<A>,
     users: &[u32],
     owners: &[u32],
-) -> Result<Vec<u64, B>, UserShareFault>
+) -> Result<Vec<u64, B>, AllocError>
+    requires sound { IsSoundOutline flat.now }
     requires users { AreUsers flat.now users.now owners.now }
     ensures most { IfOk result
         (λ most. AreMost (limits flat.now) (length users.now) owners.now most.items) }
@@ -178,13 +189,42 @@ pub(crate) fn most_of<A: Allocator, B: Allocator + Clone>(
 }
 
 /// The first user that can have more than the largest want.
-fn first_too_large(most: &[u64]) -> Option<usize> {
+fn first_too_large(most: &[u64]) -> Option<usize>
+    ensures some { IfSome result
+        (λ user. (user < length most.now) × (MAX_WANT < slice_index most.now user)) }
+    ensures none { IfNone result
+        ((u : ℕ) → u < length most.now → slice_index most.now u ≤ MAX_WANT) }
+{
     for user in 0..most.len() {
         if most[user] > MAX_WANT {
             return Some(user);
         }
     }
     None
+}
+
+/// The total of each user, in octets, if no user can have more than the largest want.
+fn totals_by_most<A: Allocator, B: Allocator + Clone>(
+    alloc: &B,
+    flat: &Flat<A>,
+    users: &[u32],
+    owners: &[u32],
+    most: &[u64],
+) -> Result<Vec<u64, B>, AllocError>
+    requires sound { IsSoundOutline flat.now }
+    requires users { AreUsers flat.now users.now owners.now }
+    requires most { AreMost (limits flat.now) (length users.now) owners.now most.now }
+    requires small { (u : ℕ) → u < length most.now → slice_index most.now u ≤ MAX_WANT }
+    ensures totals { IfOk result
+        (λ totals. AreOuterTotals (limits flat.now) (length users.now) owners.now totals.items) }
+{
+    let _bounded = flat.leaves();
+    let _nodes = flat.nodes();
+    let floors = user_floors(alloc, flat, users.len(), owners)?;
+    let tree = outer_tree(alloc, flat, owners, most, &floors)?;
+    tree.nodes_are_a_tree();
+    let totals = totals_in(alloc, &tree, users.len(), owners)?;
+    Ok(totals)
 }
 
 /// The total of each user, in octets.
@@ -195,21 +235,20 @@ pub(crate) fn totals_of<A: Allocator, B: Allocator + Clone>(
     owners: &[u32],
     most: &[u64],
 ) -> Result<Vec<u64, B>, UserShareFault>
+    requires sound { IsSoundOutline flat.now }
     requires users { AreUsers flat.now users.now owners.now }
     requires most { AreMost (limits flat.now) (length users.now) owners.now most.now }
     ensures totals { IfOk result
         (λ totals. AreOuterTotals (limits flat.now) (length users.now) owners.now totals.items) }
+    ensures small { IfOk result
+        (λ _. (u : ℕ) → u < length most.now → slice_index most.now u ≤ MAX_WANT) }
+    ensures fault { IfErr result
+        (IsUserFault (limits flat.now) (length users.now) owners.now) }
 {
-    if let Some(user) = first_too_large(most) {
-        return Err(UserShareFault::WantTooLarge { user });
+    match first_too_large(most) {
+        Some(user) => Err(UserShareFault::WantTooLarge { user }),
+        None => Ok(totals_by_most(alloc, flat, users, owners, most)?),
     }
-    let _bounded = flat.leaves();
-    let _nodes = flat.nodes();
-    let floors = user_floors(alloc, flat, users.len(), owners)?;
-    let tree = outer_tree(alloc, flat, owners, most, &floors)?;
-    tree.nodes_are_a_tree();
-    let totals = totals_in(alloc, &tree, users.len(), owners)?;
-    Ok(totals)
 }
 
 /// The grants within the users' totals, in octets by leaf.
@@ -219,9 +258,10 @@ pub(crate) fn grants_within<A: Allocator, B: Allocator + Clone>(
     users: &[u32],
     owners: &[u32],
     totals: &[u64],
-) -> Result<Vec<u64, B>, UserShareFault>
+) -> Result<Vec<u64, B>, AllocError>
+    requires sound { IsSoundOutline flat.now }
     requires users { AreUsers flat.now users.now owners.now }
-    requires totals { length totals.now ≡ length users.now }
+    requires totals { AreOuterTotals (limits flat.now) (length users.now) owners.now totals.now }
     ensures grants { IfOk result (λ grants. AreTightGrants (limits flat.now) (length users.now)
         owners.now totals.now grants.items) }
 {

@@ -1,9 +1,9 @@
 -- Events: their effects, answers and refusals.
 use Rattle.std.specs.Prelude.{◌≡◌, ◌≢◌, ◌⊎◌, ℕ, ◌+◌, ◌-◌, ◌/◌, ◌<◌, ◌≤◌, List, length, map, slice_get, slice_set, Some, None, true, Result, MatchResult}
+use Rattle.fair_terms.specs.Wants.{HasLargeUser}
 use Rattle.grant_ledger.specs.declared.ledger.TheConstants.{MAX_ISSUED}
 use Rattle.line_rates.specs.FloorSums.{FloorsFit}
 use Rattle.line_rates.specs.Rates.{Rates}
-use Rattle.line_rates.specs.declared.share_by.ShareBy.TheVariants as share
 use Rattle.line_rates.specs.TickTree.{ask_in}
 use Rattle.world_terms.specs.declared.event.LaneState.TheVariants as state
 use Rattle.world_terms.specs.declared.event.Event.{Event}
@@ -101,7 +101,8 @@ RefusesDecide rates w m fault.TooMuch =
     AllPosted w.lanes × IsLater (m / 100) w.last_tick × (has_large_want w.lanes ≡ true)
 RefusesDecide rates w m fault.FloorsOver =
     IsReady w m × (FloorsFit rates (m / 100) (map ask_in (in_round w.lanes)) → ⊥)
-RefusesDecide rates w m fault.Unshared = IsReady w m × (rates.share_by ≡ share.Users)
+RefusesDecide rates w m fault.Unshared =
+    IsReady w m × HasLargeUser rates.share_by (map ask_in (in_round w.lanes))
 RefusesDecide rates w m fault.Memory = IsReady w m
 RefusesDecide rates w m fault.BookFull = IsReady w m × PassesMost rates w m
 RefusesDecide rates w m fault.NoLane = ⊥

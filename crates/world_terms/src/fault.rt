@@ -28,9 +28,9 @@ pub enum StepFault {
     /// The guarantees of the asks do not fit the limits of the tick.
     #[error("guarantees exceed the limits of the tick")]
     FloorsOver,
-    /// The line is shared among users, and no division among them was found that passes the check. This is returned only
-    /// if the asks of a user want more than 4,294,967,295 octets in total.
-    #[error("no division among the users was found")]
+    /// The line is shared among users, and the asks of one of them, in one way, want more than 4,294,967,295 octets in
+    /// total.
+    #[error("the asks of one user want too many octets")]
     Unshared,
 }
 

@@ -1,11 +1,13 @@
-use Rattle.std.proofs.Common.{◌≡◌, ◌<◌, ◌∙◌, List, ℕ, length, map, sym, subst, Some}
+use Rattle.std.proofs.Common.{rules, ◌≡◌, ◌<◌, ◌∙◌, List, ℕ, length, map, sym, subst, Some}
 use Rattle.std.specs.Prelude.{slice_get}
 use Rattle.std.specs.List.{All}
 use Rattle.limit_tree.specs.Outline.{limits}
 use Rattle.line_rates.specs.TickTree.{IsTickTree, ask_in}
 use Rattle.line_rates.specs.declared.ask.Ask.{Ask}
 use Rattle.ask_shares.specs.Leaves.{AreBestLeaves}
+use Rattle.ask_shares.specs.Faults.{IsUnshared}
 use Rattle.ask_shares.proofs.Places.{lanes_within, same_order}
+use Rattle.ask_shares.proofs.Refusing.{unshared_moved}
 use Rattle.ask_shares.proofs.Shared.{ask_shares, names_are_kept, tree_shares}
 use Rattle.ask_shares.proofs.sharing.shares_in.Goals as goal
 
@@ -39,3 +41,13 @@ returns-clause-names g c =
     (tree_shares c.args.limits.now c.args.tick (map ask_in c.requires.plan.2.order) c.args.plan.lanes.items (limits c.args.plan.tree) c.in_ok-shares.shares.items c.requires.plan.2.tree
     (subst (λ (x : List Ask). AreBestLeaves c.args.limits.now c.args.tick x c.args.plan.lanes.items (limits c.args.plan.tree) c.in_ok-shares.shares.items) order_is (subst (λ (ls : List ℕ). AreBestLeaves c.args.limits.now c.args.tick c.deref-2.result.now ls (limits c.args.plan.tree) c.in_ok-shares.shares.items) c.deref-3.ensures.value c.in_ok-shares.ensures.shares)))
     c.sort_by_place.ensures.same
+
+pub returns-in_err-shares-clause-fault : goal.returns-in_err-shares-clause-fault
+returns-in_err-shares-clause-fault g c =
+    let order_is : c.deref-2.result.now ≡ map ask_in c.requires.plan.2.order = c.deref-2.ensures.value
+    ∙ same_order c.args.asks.now c.requires.plan.0 c.requires.plan.2.order c.in_ok-order.order.items c.args.plan.lanes.items c.requires.plan.1 c.requires.plan.2.all c.requires.plan.2.lanes_are
+    (subst (λ (x : List ℕ). map (λ lane. slice_get c.args.asks.now lane) x ≡ map (λ ask. Some ask) c.in_ok-order.order.items) c.deref.ensures.value c.in_ok-order.ensures.order) in
+    let e = c.in_err-shares.field-0.0 in
+    let fault : IsUnshared c.args.limits.now.share_by c.args.asks.now e =
+    unshared_moved c.args.limits.now.share_by c.args.asks.now c.deref-2.result.now c.requires.plan.0 c.requires.plan.2.order e c.requires.plan.1 c.requires.plan.2.all order_is c.in_err-shares.ensures.fault in
+    search (rules, fault)

@@ -9,7 +9,7 @@ use Rattle.command_line.specs.declared.numbers.TheConstants.{ROWS}
 use Rattle.clap.specs.Words.{App, Row, Text, app_of, fault_of, is_simple, is_simple_and_free, first_of, subcommand_of, takes}
 use Rattle.command_line.proofs.AgainstWords.{checks_against, checks_against_json}
 use Rattle.command_line.proofs.Taken.{refused_by_none, ftpd_is_free, ftpd_is_simple, ftpd_checks, ftpd_pictures, ftpd_shares, checks_config, checks_running, migrates, plans, plans_json, reports_json, scripts}
-use Rattle.command_line.proofs.StatedNumbers.{no_port, number_plain, patient, plan_stated, refused_other, refused_stated, serve_stated, some_lines, some_port, top_stated, usual, usual_lines}
+use Rattle.command_line.proofs.StatedNumbers.{config_stated, no_port, number_plain, patient, plan_stated, refused_other, refused_stated, serve_stated, some_lines, some_port, top_stated, usual, usual_lines}
 use Rattle.command_line.proofs.ServeWords.{serves, serves_logged, serves_ready, serves_status, serves_timed, serves_until}
 use Rattle.command_line.proofs.TopWords.{tops, tops_once}
 use Rattle.command_line.proofs.GivenCommand.{check_config_is, check_of_sheets, ftpd_found, logged_is, migrate_is, plan_is, script_is, serve_is, share_of_sheets, status_is, top_is}
@@ -123,70 +123,70 @@ returns-in-Err-stated_numbers-clause-share c = λ word plain are.
     let held = ftpd_shares word plain in
     let simple : is_simple (app_of c.in-Ok.command) ≡ true = ap is_simple c.in-Ok.ensures.ftpd ∙ ftpd_is_simple in
     let entered = c.in-Ok-parsed_or_hinted.ensures.found simple ∙ ap₂ subcommand_of c.in-Ok.ensures.ftpd are ∙ held.entered in
-    refused_other _ (codes "share") held.rows _ refl refl refl entered c.in-Err-stated_numbers.ensures.refused
+    refused_other _ (codes "share") held.rows _ refl refl refl refl entered c.in-Err-stated_numbers.ensures.refused
 
 pub returns-in-Err-stated_numbers-clause-share_svg : goal.returns-in-Err-stated_numbers-clause-share_svg
 returns-in-Err-stated_numbers-clause-share_svg c = λ word plain are.
     let held = ftpd_pictures word plain in
     let simple : is_simple (app_of c.in-Ok.command) ≡ true = ap is_simple c.in-Ok.ensures.ftpd ∙ ftpd_is_simple in
     let entered = c.in-Ok-parsed_or_hinted.ensures.found simple ∙ ap₂ subcommand_of c.in-Ok.ensures.ftpd are ∙ held.entered in
-    refused_other _ (codes "share") held.rows _ refl refl refl entered c.in-Err-stated_numbers.ensures.refused
+    refused_other _ (codes "share") held.rows _ refl refl refl refl entered c.in-Err-stated_numbers.ensures.refused
 
 pub returns-in-Err-stated_numbers-clause-check : goal.returns-in-Err-stated_numbers-clause-check
 returns-in-Err-stated_numbers-clause-check c = λ first second plain also are.
     let held = ftpd_checks first second plain also in
     let simple : is_simple (app_of c.in-Ok.command) ≡ true = ap is_simple c.in-Ok.ensures.ftpd ∙ ftpd_is_simple in
     let entered = c.in-Ok-parsed_or_hinted.ensures.found simple ∙ ap₂ subcommand_of c.in-Ok.ensures.ftpd are ∙ held.entered in
-    refused_other _ (codes "check") held.rows _ refl refl refl entered c.in-Err-stated_numbers.ensures.refused
+    refused_other _ (codes "check") held.rows _ refl refl refl refl entered c.in-Err-stated_numbers.ensures.refused
 
 pub returns-in-Err-stated_numbers-clause-check_config : goal.returns-in-Err-stated_numbers-clause-check_config
 returns-in-Err-stated_numbers-clause-check_config c = λ word plain are.
     let held = checks_config word plain in
     let simple : is_simple (app_of c.in-Ok.command) ≡ true = ap is_simple c.in-Ok.ensures.ftpd ∙ ftpd_is_simple in
     let entered = c.in-Ok-parsed_or_hinted.ensures.found simple ∙ ap₂ subcommand_of c.in-Ok.ensures.ftpd are ∙ held.entered in
-    refused_other _ (codes "check-config") held.rows _ refl refl refl entered c.in-Err-stated_numbers.ensures.refused
+    refused_stated _ _ _ _ _ _ (config_stated _ held.rows entered held.unshared) c.in-Err-stated_numbers.ensures.refused
 
 pub returns-in-Err-stated_numbers-clause-check_config_json : goal.returns-in-Err-stated_numbers-clause-check_config_json
 returns-in-Err-stated_numbers-clause-check_config_json c = λ word plain are.
     let held = reports_json word plain in
     let simple : is_simple (app_of c.in-Ok.command) ≡ true = ap is_simple c.in-Ok.ensures.ftpd ∙ ftpd_is_simple in
     let entered = c.in-Ok-parsed_or_hinted.ensures.found simple ∙ ap₂ subcommand_of c.in-Ok.ensures.ftpd are ∙ held.entered in
-    refused_other _ (codes "check-config") held.rows _ refl refl refl entered c.in-Err-stated_numbers.ensures.refused
+    refused_stated _ _ _ _ _ _ (config_stated _ held.rows entered held.unshared) c.in-Err-stated_numbers.ensures.refused
 
 pub returns-in-Err-stated_numbers-clause-check_against : goal.returns-in-Err-stated_numbers-clause-check_against
 returns-in-Err-stated_numbers-clause-check_against c = λ word other plain also are.
     let held = checks_against word other plain also in
     let simple : is_simple (app_of c.in-Ok.command) ≡ true = ap is_simple c.in-Ok.ensures.ftpd ∙ ftpd_is_simple in
     let entered = c.in-Ok-parsed_or_hinted.ensures.found simple ∙ ap₂ subcommand_of c.in-Ok.ensures.ftpd are ∙ held.entered in
-    refused_other _ (codes "check-config") held.rows _ refl refl refl entered c.in-Err-stated_numbers.ensures.refused
+    refused_stated _ _ _ _ _ _ (config_stated _ held.rows entered held.unshared) c.in-Err-stated_numbers.ensures.refused
 
 pub returns-in-Err-stated_numbers-clause-check_against_json : goal.returns-in-Err-stated_numbers-clause-check_against_json
 returns-in-Err-stated_numbers-clause-check_against_json c = λ word other plain also are.
     let held = checks_against_json word other plain also in
     let simple : is_simple (app_of c.in-Ok.command) ≡ true = ap is_simple c.in-Ok.ensures.ftpd ∙ ftpd_is_simple in
     let entered = c.in-Ok-parsed_or_hinted.ensures.found simple ∙ ap₂ subcommand_of c.in-Ok.ensures.ftpd are ∙ held.entered in
-    refused_other _ (codes "check-config") held.rows _ refl refl refl entered c.in-Err-stated_numbers.ensures.refused
+    refused_stated _ _ _ _ _ _ (config_stated _ held.rows entered held.unshared) c.in-Err-stated_numbers.ensures.refused
 
 pub returns-in-Err-stated_numbers-clause-check_running : goal.returns-in-Err-stated_numbers-clause-check_running
 returns-in-Err-stated_numbers-clause-check_running c = λ word plain are.
     let held = checks_running word plain in
     let simple : is_simple (app_of c.in-Ok.command) ≡ true = ap is_simple c.in-Ok.ensures.ftpd ∙ ftpd_is_simple in
     let entered = c.in-Ok-parsed_or_hinted.ensures.found simple ∙ ap₂ subcommand_of c.in-Ok.ensures.ftpd are ∙ held.entered in
-    refused_other _ (codes "check-config") held.rows _ refl refl refl entered c.in-Err-stated_numbers.ensures.refused
+    refused_stated _ _ _ _ _ _ (config_stated _ held.rows entered held.unshared) c.in-Err-stated_numbers.ensures.refused
 
 pub returns-in-Err-stated_numbers-clause-migrate : goal.returns-in-Err-stated_numbers-clause-migrate
 returns-in-Err-stated_numbers-clause-migrate c = λ word plain are.
     let held = migrates word plain in
     let simple : is_simple (app_of c.in-Ok.command) ≡ true = ap is_simple c.in-Ok.ensures.ftpd ∙ ftpd_is_simple in
     let entered = c.in-Ok-parsed_or_hinted.ensures.found simple ∙ ap₂ subcommand_of c.in-Ok.ensures.ftpd are ∙ held.entered in
-    refused_other _ (codes "migrate") held.rows _ refl refl refl entered c.in-Err-stated_numbers.ensures.refused
+    refused_other _ (codes "migrate") held.rows _ refl refl refl refl entered c.in-Err-stated_numbers.ensures.refused
 
 pub returns-in-Err-stated_numbers-clause-script : goal.returns-in-Err-stated_numbers-clause-script
 returns-in-Err-stated_numbers-clause-script c = λ word plain are.
     let held = scripts word plain in
     let simple : is_simple (app_of c.in-Ok.command) ≡ true = ap is_simple c.in-Ok.ensures.ftpd ∙ ftpd_is_simple in
     let entered = c.in-Ok-parsed_or_hinted.ensures.found simple ∙ ap₂ subcommand_of c.in-Ok.ensures.ftpd are ∙ held.entered in
-    refused_other _ (codes "script") held.rows _ refl refl refl entered c.in-Err-stated_numbers.ensures.refused
+    refused_other _ (codes "script") held.rows _ refl refl refl refl entered c.in-Err-stated_numbers.ensures.refused
 
 pub returns-in-Err-stated_numbers-clause-serve : goal.returns-in-Err-stated_numbers-clause-serve
 returns-in-Err-stated_numbers-clause-serve c = λ word plain are.
@@ -325,7 +325,7 @@ returns-clause-check_config c = λ word plain are.
     subst (λ (on : Bool). IsCheckConfig word false None on c.in-Some.words) held.still
     (subst (λ (other : Option Text). IsCheckConfig word false other (is_flagged (codes "against-running") held.rows) c.in-Some.words) held.alone
     (subst (λ (flag : Bool). IsCheckConfig word flag (first_of (codes "against") held.rows) (is_flagged (codes "against-running") held.rows) c.in-Some.words) held.unflagged
-    (check_config_is _ _ held.rows word entered held.config c.in-Some.ensures.found)))
+    (check_config_is _ _ held.rows word entered held.config held.unshared c.in-Some.ensures.found)))
 
 pub returns-clause-check_config_json : goal.returns-clause-check_config_json
 returns-clause-check_config_json c = λ word plain are.
@@ -335,7 +335,7 @@ returns-clause-check_config_json c = λ word plain are.
     subst (λ (on : Bool). IsCheckConfig word true None on c.in-Some.words) held.still
     (subst (λ (other : Option Text). IsCheckConfig word true other (is_flagged (codes "against-running") held.rows) c.in-Some.words) held.alone
     (subst (λ (flag : Bool). IsCheckConfig word flag (first_of (codes "against") held.rows) (is_flagged (codes "against-running") held.rows) c.in-Some.words) held.flagged
-    (check_config_is _ _ held.rows word entered held.config c.in-Some.ensures.found)))
+    (check_config_is _ _ held.rows word entered held.config held.unshared c.in-Some.ensures.found)))
 
 pub returns-clause-check_against : goal.returns-clause-check_against
 returns-clause-check_against c = λ word other plain also are.
@@ -345,7 +345,7 @@ returns-clause-check_against c = λ word other plain also are.
     subst (λ (on : Bool). IsCheckConfig word false (Some other) on c.in-Some.words) held.still
     (subst (λ (against : Option Text). IsCheckConfig word false against (is_flagged (codes "against-running") held.rows) c.in-Some.words) held.against
     (subst (λ (flag : Bool). IsCheckConfig word flag (first_of (codes "against") held.rows) (is_flagged (codes "against-running") held.rows) c.in-Some.words) held.flag
-    (check_config_is _ _ held.rows word entered held.config c.in-Some.ensures.found)))
+    (check_config_is _ _ held.rows word entered held.config held.unshared c.in-Some.ensures.found)))
 
 pub returns-clause-check_against_json : goal.returns-clause-check_against_json
 returns-clause-check_against_json c = λ word other plain also are.
@@ -355,7 +355,7 @@ returns-clause-check_against_json c = λ word other plain also are.
     subst (λ (on : Bool). IsCheckConfig word true (Some other) on c.in-Some.words) held.still
     (subst (λ (against : Option Text). IsCheckConfig word true against (is_flagged (codes "against-running") held.rows) c.in-Some.words) held.against
     (subst (λ (flag : Bool). IsCheckConfig word flag (first_of (codes "against") held.rows) (is_flagged (codes "against-running") held.rows) c.in-Some.words) held.flag
-    (check_config_is _ _ held.rows word entered held.config c.in-Some.ensures.found)))
+    (check_config_is _ _ held.rows word entered held.config held.unshared c.in-Some.ensures.found)))
 
 pub returns-clause-check_running : goal.returns-clause-check_running
 returns-clause-check_running c = λ word plain are.
@@ -365,7 +365,7 @@ returns-clause-check_running c = λ word plain are.
     subst (λ (on : Bool). IsCheckConfig word false None on c.in-Some.words) held.on
     (subst (λ (other : Option Text). IsCheckConfig word false other (is_flagged (codes "against-running") held.rows) c.in-Some.words) held.alone
     (subst (λ (flag : Bool). IsCheckConfig word flag (first_of (codes "against") held.rows) (is_flagged (codes "against-running") held.rows) c.in-Some.words) held.unflagged
-    (check_config_is _ _ held.rows word entered held.config c.in-Some.ensures.found)))
+    (check_config_is _ _ held.rows word entered held.config held.unshared c.in-Some.ensures.found)))
 
 pub returns-clause-migrate : goal.returns-clause-migrate
 returns-clause-migrate c = λ word plain are.

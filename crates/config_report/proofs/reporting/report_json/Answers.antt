@@ -3,4 +3,4 @@ use Rattle.config_report.proofs.reporting.report_json.Goals as goal
 use Rattle.config_report.specs.declared.reporting.Part.TheVariants.{Json}
 
 pub returns-clause-report : goal.returns-clause-report
-returns-clause-report g c = reported Json (g.L.Lookout.Shows c.args.lookout.now) c.args.path.now c.args.octets.now c.in_ok-config.config c.reported_of.result c.in_ok-config.ensures.config c.reported_of.ensures.report
+returns-clause-report g c = reported Json c.args.share_by (g.L.Lookout.Shows c.args.lookout.now) c.args.path.now c.args.octets.now c.in_ok-config.config c.reported_of.result c.in_ok-config.ensures.config c.reported_of.ensures.report

@@ -118,12 +118,12 @@ returns-in-Ok-clause-top_once g c = λ status lines n plain number are.
 pub returns-in-Err-clause-check_config : goal.returns-in-Err-clause-check_config
 returns-in-Err-clause-check_config g c = λ config plain are.
     let word = second_word c.args.words.now _ _ are in
-    (word.0, word.1, no_print (Report word.0) (g.O.Lookout.Shows c.args.files.now) _ _ _ _ _ _ (c.in-Err.ensures.check_config config plain are) c.report.ensures.reported)
+    (word.0, word.1, no_print (Report word.0 share.Sessions) (g.O.Lookout.Shows c.args.files.now) _ _ _ _ _ _ (c.in-Err.ensures.check_config config plain are) c.report.ensures.reported)
 
 pub returns-in-Err-clause-check_config_json : goal.returns-in-Err-clause-check_config_json
 returns-in-Err-clause-check_config_json g c = λ config plain are.
     let word = second_of_three c.args.words.now _ _ _ are in
-    (word.0, word.1, no_print (ReportJson word.0) (g.O.Lookout.Shows c.args.files.now) _ _ _ _ _ _ (c.in-Err.ensures.check_config_json config plain are) c.report.ensures.reported)
+    (word.0, word.1, no_print (ReportJson word.0 share.Sessions) (g.O.Lookout.Shows c.args.files.now) _ _ _ _ _ _ (c.in-Err.ensures.check_config_json config plain are) c.report.ensures.reported)
 
 pub returns-in-Err-clause-check_against : goal.returns-in-Err-clause-check_against
 returns-in-Err-clause-check_against g c = λ config other plain also are.

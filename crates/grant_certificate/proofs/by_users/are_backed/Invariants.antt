@@ -6,5 +6,5 @@ use Rattle.grant_certificate.proofs.by_users.are_backed.Given as goal
 
 abbrev pub invariant-loop-leaf : goal.invariant-loop-leaf
 invariant-loop-leaf g l =
-    (i : ℕ) → i < l.leaf → IsUnmet (limits l.tree) l.grants i
-    → HasUserNeck (limits l.tree) l.owners l.grants l.entries i
+    (i : ℕ) → i < l.leaf → IsUnmet (limits l.tree) l.of.grants.now i
+    → HasUserNeck (limits l.tree) l.of.owners.now l.of.grants.now l.entries i

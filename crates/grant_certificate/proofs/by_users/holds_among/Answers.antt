@@ -20,16 +20,16 @@ returns-then-not-are_near c =
     record {
       holds = (
         λ told. absurd (false≢true told),
-        λ outer. absurd (greater-near c.args.grants.now c.args.floors.now (slice_index c.args.grants.now c.args.leaf) bad.0 bad.3 (outer.greatest bad.0 bad.1 bad.2)),
+        λ outer. absurd (greater-near c.args.of.grants.now c.args.of.floors.now (slice_index c.args.of.grants.now c.args.leaf) bad.0 bad.3 (outer.greatest bad.0 bad.1 bad.2)),
       );
     }
 
 pub returns : goal.returns
 returns c =
     let p = c.args.place in
-    let totals = c.args.totals in
-    let exact = exact-none c.none_greater.result p.first p.leaves totals.grants.now totals.floors.now (slice_index totals.grants.now c.args.leaf) c.none_greater.ensures.none in
-    let rich = rich-exact c.args.owners.now c.args.grants.now c.args.floors.now totals.grants.now totals.floors.now p.first p.leaves c.args.leaf c.requires.leaf c.requires.inside c.requires.totals c.requires.floor_totals in
+    let of = c.args.of in
+    let exact = exact-none c.none_greater.result p.first p.leaves of.totals.now of.floor_totals.now (slice_index of.totals.now c.args.leaf) c.none_greater.ensures.none in
+    let rich = rich-exact c.args.of.owners.now c.args.of.grants.now c.args.of.floors.now of.totals.now of.floor_totals.now p.first p.leaves c.args.leaf c.requires.leaf c.requires.inside of.granted of.guaranteed in
     record {
       holds = (
         λ told. record {

@@ -1,6 +1,7 @@
 use Rattle.std.proofs.Common.{◌∙◌, ◌++◌, ℕ, List, ap, codes, string_bytes}
-use Rattle.status_table.specs.Cells.{left, shown_text}
+use Rattle.status_table.specs.Cells.{shown_text}
 use Rattle.status_table.specs.Heads.{group_rates, promised_text}
+use Rattle.status_table.specs.Widths.{left}
 use Rattle.status_table.proofs.Screens.{four, on_ok}
 use Rattle.status_table.proofs.heads.push_group.Goals as goal
 

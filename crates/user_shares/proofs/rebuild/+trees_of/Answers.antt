@@ -51,7 +51,7 @@ loop-tree-preserved g t c =
     let shaped = c.nodes-nodes.ensures.flat.shaped in
     let left = c.args.trees - (c.loop-tree._tree + 1) in
     let more : c.args.trees - c.loop-tree._tree ≡ suc left = omega arith in
-    let made = reshaped-node ps kinds at p c.kind_at.result c.in_ok-kids.kids.items c.node_over-node.result shaped c.requires.kinds got c.kind_at.ensures.kind c.in_ok-kids.ensures.reshaped c.node_over-node.ensures.places in
+    let made = reshaped-node ps kinds at p c.kind_at.result c.in_ok-kids.kids.items c.node_over-node.result shaped c.requires.kinds got c.kind_at.ensures.kind c.in_ok-kids.ensures.count c.in_ok-kids.ensures.reshaped c.node_over-node.ensures.places in
     record {
       past = omega (arith, inv.past);
       has = row-next ps at (c.args.trees - c.loop-tree._tree) left p shaped inv.has more got;

@@ -1,13 +1,10 @@
-use Rattle.std.proofs.Common.{arith, ◌≡◌, ◌∙◌, ℕ, List, length, sym, ap, subst}
+use Rattle.std.proofs.Common.{◌∙◌, ℕ, List, length, sym, subst}
 use Rattle.limit_tree.specs.Sharing.{IsWanted}
 use Rattle.limit_tree.specs.Outline.{limits}
 use Rattle.round_allocator.specs.Rounds.{IsNamed}
 use Rattle.user_shares.proofs.Alike.{has-users, have-heads}
 use Rattle.user_shares.proofs.TightStage.{tight-shared, tight-wanted}
 use Rattle.user_shares.proofs.share.share_totals.Goals as goal
-
-pub grants_within-requires-clause-totals : goal.grants_within-requires-clause-totals
-grants_within-requires-clause-totals g c = omega (arith, c.requires.totals.within.wanted.leaves, c.requires.totals.is_outer.each)
 
 pub deepest_entries-requires : goal.deepest_entries-requires
 deepest_entries-requires g c = record { grants = subst (λ (xs : List ℕ). IsWanted (limits c.args.flat.now) xs) (sym c.deref.ensures.value) (tight-wanted (limits c.args.flat.now) (length c.args.users.now) c.args.owners.now c.args.totals.now c.in_ok-grants.grants.items c.in_ok-grants.ensures.grants) }

@@ -22,6 +22,7 @@ returns-in-Ok g c =
         consumed = c.in-Ok.ensures.read;
         no_call = λ e. absurd (omega (arith, e, c.if-most-eq0.false));
         once = λ some. ap (λ (calls : CallCounts). calls.made) c.in-Ok.ensures.counts;
+        lent = λ some. omega (arith, c.read_once.ensures.lent, c.min-limit.ensures);
         reads_failed =
             ap (λ (calls : CallCounts). calls.failed) c.in-Ok.ensures.counts
             ∙ no_read_fault c.give.result c.self.inside.connection.calls.failed c.give.ensures.own.1;

@@ -38,6 +38,7 @@ returns-then-moved-count g c =
             (ap (λ (k : Counted g.row.K.Denot). k.end) same, ap (λ (k : Counted g.row.K.Denot). k.calls) same);
         left = λ h. (c.consume.ensures.left, refl, refl);
         once = inl refl;
+        lent = inl (refl, refl);
         reads_failed = refl;
         writes_failed = c.write_front-moved.ensures.failed fewer;
         more = λ e. absurd (cc e);
@@ -88,6 +89,7 @@ returns g c =
               ap (λ (f : OutFlow g.row.S.Denot g.row.K.Denot). f.reads) same,
             );
         once = c.refill.ensures.once;
+        lent = c.refill.ensures.lent;
         reads_failed = c.refill.ensures.reads_failed;
         writes_failed =
             c.refill.ensures.writes_failed

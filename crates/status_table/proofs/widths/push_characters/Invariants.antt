@@ -1,0 +1,6 @@
+use Rattle.std.proofs.Common.{◌≡◌, ◌++◌, encode_utf8_all, string_bytes, take}
+use Rattle.status_table.proofs.widths.push_characters.Given as goal
+
+abbrev pub invariant-loop-character : goal.invariant-loop-character
+invariant-loop-character l =
+    string_bytes l.text ≡ string_bytes l.fn.text ++ encode_utf8_all (take l.character-index l.characters)

@@ -10,7 +10,7 @@ use Rattle.sheet_text.specs.declared.row.Row.{Row}
 
 -- the mark of a name with an octet more
 abbrev pub marked : ℕ → ℕ → ℕ
-marked mark octet = (mark * 31 % 2 ^ 64 + octet) % 2 ^ 64
+marked mark octet = (mark * 1099511628211 % 2 ^ 64 + octet) % 2 ^ 64
 
 -- the mark of a name
 abbrev pub mark_of : Octets → ℕ

@@ -7,8 +7,9 @@ ghost use Rattle.sheet_text.specs.Named.{mark_of, named, named_further};
 use std::alloc::{AllocError, Allocator};
 use std::collections::BTreeMap;
 
-/// The factor by which a name's mark is multiplied at each octet.
-const FACTOR: u64 = 31;
+/// The factor by which a name's mark is multiplied at each octet: the prime of the hash FNV-1a for 64 bits, with which
+/// names of digits and letters seldom have the same mark.
+const FACTOR: u64 = 1_099_511_628_211;
 
 /// The places of kids by their names. Most nodes of a deep sheet have one kid alone, so the first one needs no map. A
 /// number finds a kid in less time than a name does, so a further kid is found by the mark of its name, or among the

@@ -68,8 +68,9 @@ impl<'t, A: Allocator + Clone> Nodes<'t, A> {
     {
         let _table = self.len();
         order.push(place)?;
-        let mut kids = Vec::new(order.allocator().clone()?);
-        for kid in self.kids_to(rows, place, levels) {
+        let below = self.kids_to(rows, place, levels);
+        let mut kids = Vec::with_capacity(order.allocator().clone()?, below.len())?;
+        for kid in below {
             let node = self.build(rows, *kid, levels - 1, order)?;
             kids.push(node)?;
         }

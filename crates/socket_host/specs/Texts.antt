@@ -1,5 +1,5 @@
 -- The octets of a read and of a last reply, and the errors of a read that only found nothing.
-use Rattle.std.specs.Prelude.{◌++◌, nat_eq, nat_lt, ◌&&◌, ◌||◌, not, if◌then◌else◌, ℕ, Bool, true, false, List, [], ◌∷◌, Option, Some, None, codes, take}
+use Rattle.std.specs.Prelude.{◌++◌, ◌+◌, nat_eq, nat_lt, ◌&&◌, ◌||◌, not, if◌then◌else◌, ℕ, Bool, true, false, List, [], ◌∷◌, Option, Some, None, codes, take}
 use Rattle.std.specs.declared.alloc.Global.{Global}
 use Rattle.std.specs.declared.io.ErrorKind.{ErrorKind}
 use Rattle.std.specs.declared.io.ErrorKind.TheVariants.{WouldBlock, TimedOut, Interrupted}
@@ -33,10 +33,14 @@ is_open_after None = false
 is_open_after (Some octet) = not (nat_eq octet 10)
 
 -- the longest wait for a client beside what its transfer waits for, in milliseconds: one within a
--- line, otherwise 200
-abbrev pub beside_of : Bool → ℕ
-beside_of true = 1
-beside_of false = 200
+-- line, otherwise 200, or 1,000 once nothing came in ten of them in a row
+abbrev pub beside_of : Bool → ℕ → ℕ
+beside_of true rests = 1
+beside_of false rests = if nat_lt rests 10 then 200 else 1000
+
+-- the number of these, counted up to ten
+abbrev pub rests_after : ℕ → ℕ
+rests_after rests = if nat_lt rests 10 then rests + 1 else rests
 
 -- the last reply to a client that has passed a limit of time
 abbrev pub time_out_reply : TimeOut → List ℕ

@@ -3,7 +3,7 @@
 ghost use Rattle.std.specs.Prelude.{◌<◌, ◌≡◌, ◌≤◌, ◌-◌, IfOk, length, slice_get, take};
 ghost use Rattle.control_session.specs.Calls.{reads_within};
 ghost use Rattle.line_mender.specs.Mended.{after_all, after_silence, ending_of, kept};
-ghost use Rattle.socket_host.specs.Texts.{beside_of, is_open_after, is_pause, octets_in, time_out_of};
+ghost use Rattle.socket_host.specs.Texts.{beside_of, is_open_after, is_pause, octets_in, rests_after, time_out_of};
 
 use crate::replying::write_reply;
 use control_session::Piece;
@@ -31,6 +31,12 @@ const QUICK: u64 = 1;
 /// that the end of the server is seen as soon.
 const BESIDE: u16 = 200;
 
+/// The same once nothing came for a while: more seldom, since each wait that ends in vain wakes the session's thread.
+const LONG_BESIDE: u16 = 1_000;
+
+/// Number of such waits in a row in which nothing came, after which they are long: two seconds.
+const RESTS: u32 = 10;
+
 /// The same within a line, of which the end may have been lost as urgent data: a read that finds nothing restores it.
 const BRIEFLY: u16 = 1;
 
@@ -56,6 +62,8 @@ pub struct ControlSocket {
     silences: u32,
     // the last read ended within a line
     is_open: bool,
+    // number of waits beside a transfer, since the last read, in which nothing came; counted up to `RESTS`
+    rests: u32,
 }
 
 impl AsRawFd for ControlSocket {
@@ -91,11 +99,22 @@ fn is_open(read: &[u8]) -> bool
     is_open_after(read.last().copied())
 }
 
-// The longest wait for a client beside what its transfer waits for, in milliseconds.
-fn beside_of(is_open: bool) -> u16
-    ensures wait { result ≡ beside_of is_open }
+// The longest wait for a client beside what its transfer waits for, in milliseconds, within a line or not, and by the number
+// of such waits in which nothing came.
+fn beside_of(is_open: bool, rests: u32) -> u16
+    ensures wait { result ≡ beside_of is_open rests }
 {
-    if is_open { BRIEFLY } else { BESIDE }
+    if is_open {
+        return BRIEFLY;
+    }
+    if rests < RESTS { BESIDE } else { LONG_BESIDE }
+}
+
+// The number of waits in which nothing came, with one more.
+fn rests_after(rests: u32) -> u32
+    ensures rests { result ≡ rests_after rests }
+{
+    if rests < RESTS { rests + 1 } else { rests }
 }
 
 /// Returns whether a read only found nothing, or a write no room.
@@ -120,6 +139,7 @@ impl ControlSocket {
             wait: IDLE,
             silences: 0,
             is_open: false,
+            rests: 0,
         }
     }
 
@@ -132,9 +152,18 @@ impl ControlSocket {
 
     /// The longest wait for the client beside what its transfer waits for, in milliseconds.
     pub(crate) fn longest_wait(&self) -> u16
-        ensures wait { result ≡ beside_of self.now.is_open }
+        ensures wait { result ≡ beside_of self.now.is_open self.now.rests }
     {
-        beside_of(self.is_open)
+        beside_of(self.is_open, self.rests)
+    }
+
+    /// Counts a wait beside a transfer in which nothing came.
+    pub(crate) fn count_rest(&mut self)
+        ensures rests { self.new.rests ≡ rests_after self.old.rests }
+        ensures open { self.new.is_open ≡ self.old.is_open }
+        ensures mender { self.new.mender ≡ self.old.mender }
+    {
+        self.rests = rests_after(self.rests);
     }
 
     // Sets the time-out of reads, only if it changes: it is a system call.
@@ -195,6 +224,7 @@ impl ControlSocket {
         requires room { 0 < length buffer.old }
         ensures bound { IfOk result (λ piece. reads_within piece buffer.new) }
     {
+        self.rests = 0;
         self.set_pace(is_quick);
         match self.stream.read(buffer) {
             Ok(0) => Ok(Piece::AtEnd),

@@ -731,6 +731,7 @@ where
         match self.side.rest_beside(&self.socket) {
             Beside::Look => return Ok(Piece::Nothing),
             Beside::Rest => {
+                self.socket.count_rest();
                 self.hear();
                 return Ok(Piece::Nothing);
             }

@@ -693,7 +693,8 @@ where
         }
     }
 
-    /// Waits for the client, or for what its transfer waits for, at most 200 ms, and as `rest` if it cannot wait for both.
+    /// Waits for the client, or for what its transfer waits for, at most 200 ms, or a second once nothing came for two; and as
+    /// `rest` if it cannot wait for both.
     /// Returns what the session does then.
     pub(crate) fn rest_beside(&self, client: &ControlSocket) -> Beside
         ensures over { RestsBeside self.now.run.running result }

@@ -14,7 +14,7 @@ use Rattle.line_rates.specs.Rates.{Rates}
 use Rattle.line_rates.specs.TickTree.{Asker, IsTickTree, ask_in, lane_in}
 use Rattle.line_rates.specs.declared.ask.Ask.{Ask}
 use Rattle.line_rates.specs.declared.ask.Name.{Name}
-use Rattle.held_names.specs.Held.{IsHeldBy}
+use Rattle.round_tally.specs.Held.{IsHeldBy}
 use Rattle.ask_shares.specs.Leaves.{AreBestLeaves, AreLeafShares, AreNumbered, IsLeafShare, share_place}
 use Rattle.ask_shares.specs.Shares.{AreAskShares, AreTreeShares, KeepNames, share_ask, share_floor, share_grant, share_granted}
 use Rattle.ask_shares.specs.declared.share.AskShare.{AskShare}

@@ -12,7 +12,7 @@ use Rattle.line_rates.specs.TickTree.{IsTickTree}
 use Rattle.line_rates.specs.Ticks.{rate_limit}
 use Rattle.line_rates.specs.declared.ask.Ask.{Ask}
 use Rattle.line_rates.specs.declared.ask.Name.{Name}
-use Rattle.held_names.specs.Held.{IsHeldBy}
+use Rattle.round_tally.specs.Held.{IsHeldBy}
 use Rattle.ask_shares.specs.declared.share.AskShare.{AskShare}
 
 abbrev pub share_ask : AskShare → Ask

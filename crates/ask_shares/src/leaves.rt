@@ -12,9 +12,9 @@ use crate::fault::NotShared;
 use crate::share::AskShare;
 use fair_shares::share_tree;
 use grant_certificate::Sealed;
-use held_names::held_by;
 use limit_tree::Tree;
 use line_rates::{Ask, Limits};
+use round_tally::held_by;
 use std::alloc::{AllocError, Allocator};
 
 // The share of a leaf.

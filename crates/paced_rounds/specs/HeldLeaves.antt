@@ -4,7 +4,7 @@ use Rattle.limit_tree.specs.Sharing.{LimitTree}
 use Rattle.line_rates.specs.declared.ask.Ask.{Ask}
 use Rattle.line_rates.specs.declared.ask.Name.{Name}
 use Rattle.line_rates.specs.Rates.{Rates}
-use Rattle.held_names.specs.Held.{IsHeldBy}
+use Rattle.round_tally.specs.Held.{IsHeldBy}
 use Rattle.grant_ledger.specs.declared.ledger.TheConstants.{MAX_LANES}
 
 -- one name for each leaf, in their order

@@ -9,9 +9,9 @@ ghost use Rattle.paced_rounds.specs.HeldLeaves.{AreHeld};
 use fair_terms::sealed_is_fair;
 use grant_certificate::Sealed;
 use grant_ledger::MAX_LANES;
-use held_names::held_by;
 use lane_desk::{RoundFault, RoundRecord};
 use line_rates::{Ask, Limits, Name};
+use round_tally::held_by;
 use std::alloc::Allocator;
 
 /// The names of the limits that held back the leaves of the last round, if they are wanted: that of a bottleneck for a

@@ -16,7 +16,7 @@ use Rattle.line_rates.specs.Names.{floor_of}
 use Rattle.line_rates.specs.Rates.{Rates, rate_of}
 use Rattle.line_rates.specs.Ticks.{rate_limit}
 use Rattle.line_rates.specs.TickTree.{Asker, IsPlan, IsTickTree, ask_in, bears_at}
-use Rattle.held_names.specs.Held.{IsHeldBy}
+use Rattle.round_tally.specs.Held.{IsHeldBy}
 use Rattle.rate_plan.specs.Asked.{AreAsked, is_same_user, want_by}
 use Rattle.rate_plan.specs.Second.{name_branch}
 use Rattle.rate_plan.specs.Held.{IsHeld}

@@ -5,7 +5,7 @@ use Rattle.fair_terms.specs.Fair.{IsFair}
 use Rattle.line_rates.specs.Names.{floor_of}
 use Rattle.line_rates.specs.Rates.{Rates}
 use Rattle.line_rates.specs.TickTree.{Asker, ask_in}
-use Rattle.held_names.specs.Held.{IsHeldBy}
+use Rattle.round_tally.specs.Held.{IsHeldBy}
 use Rattle.rate_plan.specs.declared.shares.TransferShare.{TransferShare}
 
 -- the share of a leaf

@@ -11,9 +11,9 @@ ghost use Rattle.rate_plan.specs.Admission.{AreAdmitted, IsExceeded, IsFirstRefu
 
 use crate::asks::Transfer;
 use crate::fault::Unplanned;
-use held_names::bears;
 use line_rates::{Ask, Limits, Name, Way};
 use rate_floors::Floors;
+use round_tally::bears;
 use std::alloc::Allocator;
 
 /// The guarantee of each session of a user, in octets per second; 0 for none.

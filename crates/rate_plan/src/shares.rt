@@ -10,9 +10,9 @@ ghost use Rattle.line_rates.specs.TickTree.{IsTickTree, ask_in};
 ghost use Rattle.rate_plan.specs.Shared.{AreGrantedShares, AreTickShares, IsShareOf};
 
 use fair_shares::{FairFault, share_tree};
-use held_names::held_by;
 use limit_tree::Tree;
 use line_rates::{Ask, Limits, Name};
+use round_tally::held_by;
 use std::alloc::{AllocError, Allocator};
 
 /// The share of a transfer in a second, in octets.

@@ -1,4 +1,8 @@
-//! Tallies of the octets that rounds have granted to each transfer, and of what held it back in them.
+//! The limit that holds a transfer back in a round, and tallies of it and of the octets that rounds have granted.
+//!
+//! A leaf of the tree of a tick that has less than it wants has a bottleneck, whose number is its entry in the
+//! certificate of the grants. The branch of that number is that of a name: the server, or the direction, group, user or
+//! session of the leaf's ask. [`held_by`] finds the name; [`bears`] is whether an ask counts under one.
 //!
 //! A lane runs one transfer after another. [`Tallies`] has a tally of the last one of each lane, by a number that the
 //! lane gives it. A grant to a transfer of another number begins a tally, and adds the one before to those of the
@@ -13,8 +17,12 @@
 //! ```
 #![tactic(auto)]
 
+mod bottleneck;
 mod held;
+mod names;
 mod tallies;
 
+pub use bottleneck::held_by;
 pub use held::{HeldTally, held_back};
+pub use names::bears;
 pub use tallies::{LaneTally, RoundGrant, Tallies};

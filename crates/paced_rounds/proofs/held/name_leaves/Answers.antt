@@ -4,7 +4,7 @@ use Rattle.std.proofs.lemmas.List.{get_or-set_other, length-set}
 use Rattle.std.proofs.lemmas.Grind.{get_or-set_at}
 use Rattle.fair_terms.specs.Fair.{IsBackedFair}
 use Rattle.limit_tree.specs.Outline.{limits}
-use Rattle.held_names.specs.Held.{IsHeldBy}
+use Rattle.round_tally.specs.Held.{IsHeldBy}
 use Rattle.paced_rounds.proofs.held.name_leaves.Goals as goal
 
 other : (i k : ℕ) → i < k → i ≢ k

@@ -1,7 +1,7 @@
 use Rattle.std.proofs.Common.{◌≡◌, ◌<◌, ℕ, None, length}
 use Rattle.std.specs.Prelude.{slice_index_or}
 use Rattle.limit_tree.specs.Outline.{limits}
-use Rattle.held_names.specs.Held.{IsHeldBy}
+use Rattle.round_tally.specs.Held.{IsHeldBy}
 use Rattle.paced_rounds.proofs.held.name_leaves.Given as goal
 
 abbrev pub invariant-loop-leaf : goal.invariant-loop-leaf

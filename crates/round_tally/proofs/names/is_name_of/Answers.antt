@@ -1,7 +1,7 @@
 use Rattle.std.proofs.Common.{◌≡◌, ◌∙◌, ap, sym, ℕ}
 use Rattle.line_rates.specs.Ticks.{rate_limit}
-use Rattle.held_names.proofs.NameLemmas.{is_name, not_name}
-use Rattle.held_names.proofs.names.is_name_of.Goals as goal
+use Rattle.round_tally.proofs.NameLemmas.{is_name, not_name}
+use Rattle.round_tally.proofs.names.is_name_of.Goals as goal
 
 pub returns-then-is_limit-clause-yes : goal.returns-then-is_limit-clause-yes
 returns-then-is_limit-clause-yes g c reported =

@@ -2,8 +2,8 @@ use Rattle.std.proofs.Common.{◌≡◌, ◌∙◌, ℕ, inl, inr, sym, subst, a
 use Rattle.std.proofs.lemmas.Bool.{cases_lt}
 use Rattle.limit_tree.specs.Outline.{leaf_range}
 use Rattle.line_rates.specs.TickTree.{bears_at}
-use Rattle.held_names.proofs.NameLemmas.{alike_at}
-use Rattle.held_names.proofs.names.holds_alike.Goals as goal
+use Rattle.round_tally.proofs.NameLemmas.{alike_at}
+use Rattle.round_tally.proofs.names.holds_alike.Goals as goal
 
 pub loop-leaf-preserved : goal.loop-leaf-preserved
 loop-leaf-preserved g c = λ i less. elim (cases_lt i c.loop-leaf.leaf) [

@@ -5,7 +5,7 @@ ghost use Rattle.limit_tree.specs.Outline.{leaf_range, limits as seen};
 ghost use Rattle.line_rates.specs.Names.{bears as counts};
 ghost use Rattle.line_rates.specs.Rates.{group_of};
 ghost use Rattle.line_rates.specs.TickTree.{bears_at};
-ghost use Rattle.held_names.specs.Named.{HasNameOf, IsNameOf};
+ghost use Rattle.round_tally.specs.Named.{HasNameOf, IsNameOf};
 
 use limit_tree::{NodeKind, Place, Tree};
 use line_rates::{Ask, Limits, Name, rate_limit};

@@ -3,8 +3,8 @@ use Rattle.std.specs.Prelude.{slice_get}
 use Rattle.std.proofs.lemmas.Option.{slice_get-get_or}
 use Rattle.limit_tree.specs.Outline.{limits}
 use Rattle.limit_tree.proofs.Looks.{branch_number}
-use Rattle.held_names.proofs.NameLemmas.{entries_each, entry_neck, entry_some, has_name, leaf_met, leaf_unmet}
-use Rattle.held_names.proofs.held.held_by.Goals as goal
+use Rattle.round_tally.proofs.NameLemmas.{entries_each, entry_neck, entry_some, has_name, leaf_met, leaf_unmet}
+use Rattle.round_tally.proofs.bottleneck.held_by.Goals as goal
 
 pub name_of-requires-clause-node : goal.name_of-requires-clause-node
 name_of-requires-clause-node g c =

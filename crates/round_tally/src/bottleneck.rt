@@ -5,7 +5,7 @@ ghost use Rattle.limit_tree.specs.Outline.{limits as seen};
 ghost use Rattle.limit_tree.specs.Sharing.{IsWanted};
 ghost use Rattle.fair_terms.specs.Fair.{IsBackedFair};
 ghost use Rattle.line_rates.specs.TickTree.{IsTickTree};
-ghost use Rattle.held_names.specs.Held.{IsHeldBy};
+ghost use Rattle.round_tally.specs.Held.{IsHeldBy};
 
 use crate::names::name_of;
 use limit_tree::Tree;

@@ -1,7 +1,7 @@
 use Rattle.std.proofs.Common.{◌≡◌, Bool, true, false}
 use Rattle.limit_tree.specs.Outline.{limits}
-use Rattle.held_names.proofs.NameLemmas.{candidate, server_name}
-use Rattle.held_names.proofs.names.name_of.Goals as goal
+use Rattle.round_tally.proofs.NameLemmas.{candidate, server_name}
+use Rattle.round_tally.proofs.names.name_of.Goals as goal
 
 apart : (b : Bool) → b ≡ false → b ≡ true → ⊥
 apart b f t = cc

@@ -25,7 +25,7 @@ use Rattle.line_rates.specs.Rates.{Rates, group_of, rate_of}
 use Rattle.line_rates.specs.Ticks.{rate_limit}
 use Rattle.line_rates.specs.TickTree.{AreNamed, IsNamed, IsTickTree, bears_at, bears_in}
 use Rattle.line_rates.proofs.MarkLemmas.{bool_same}
-use Rattle.held_names.specs.Named.{HasNameOf, IsNameOf}
+use Rattle.round_tally.specs.Named.{HasNameOf, IsNameOf}
 
 pub alike_at : (r : Rates) (n : Name) (asks : List Ask) (i : ℕ) (d : Ask) → i < length asks → bears_at r n asks i ≡ bears r n (get_or asks i d)
 alike_at r n asks i d less = ap (bears_in r n) (slice_get-get_or asks i d less)

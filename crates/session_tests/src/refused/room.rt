@@ -1,7 +1,7 @@
 //! A session step by step, on a server in a heap of its own.
 
-use crate::reported::{Doings, Sink, put_doing};
-use crate::server::{PEER, Server, make_server, settings};
+use crate::refused::reported::{Doings, Sink, put_doing};
+use crate::refused::server::{PEER, Server, make_server, settings};
 use ftp_wire::LineReader;
 use linked_list_allocator::LocalHeap;
 use session_core::Session;

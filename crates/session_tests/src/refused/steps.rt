@@ -1,9 +1,9 @@
 //! A step of a session while memory is short: the session, the floors and the store are as before, or the client gets a
 //! reply that says so, and the line passes once there is memory.
 
-use crate::expect::same;
-use crate::room::{NO_MEMORY, Room, make_room};
-use crate::rows::Row;
+use crate::refused::expect::same;
+use crate::refused::room::{NO_MEMORY, Room, make_room};
+use crate::refused::rows::Row;
 use linked_list_allocator::LocalHeap;
 use std::process::Abort;
 use test_scarce_memory::HEAP;

@@ -1,6 +1,6 @@
 //! A reader that returns one line at a time, and takes the memory away before one of them.
 
-use crate::rows::Reply;
+use crate::refused::rows::Reply;
 use linked_list_allocator::LocalHeap;
 use std::io;
 use std::io::Read;

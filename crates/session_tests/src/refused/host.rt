@@ -2,9 +2,9 @@
 //! specified: the tests examine its output.
 
 ghost use Rattle.memory_store.specs.InMemory.{InMemory};
-ghost use Rattle.session_shortage_tests.specs.Unsaid.{AnyCall};
+ghost use Rattle.session_tests.specs.Unsaid.{AnyCall};
 
-use crate::reported::{Sink, Source};
+use crate::refused::reported::{Sink, Source};
 use authorizer::Authorizer;
 use control_session::{DataSide, Host, Leaving, NoStep, Piece, Session, close_by, end_by, step_by};
 use ftp_wire::HostPort;

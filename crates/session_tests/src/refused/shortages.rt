@@ -1,9 +1,9 @@
 //! Each growth of each row of a script refused in turn.
 
-use crate::expect::holds;
-use crate::rows::{ABORTED, HELD, PATHS, PATHS_AGAIN, Row, TALK, TRANSFERS, UPLOADS};
-use crate::talks::Talk;
-use crate::{steps, talks};
+use crate::refused::expect::holds;
+use crate::refused::rows::{ABORTED, HELD, PATHS, PATHS_AGAIN, Row, TALK, TRANSFERS, UPLOADS};
+use crate::refused::talks::Talk;
+use crate::refused::{steps, talks};
 use std::process::Abort;
 
 /// The lines for a session step by step, or for a whole control session.

@@ -1,11 +1,11 @@
 //! A control session that is short of memory at its beginning or at one of its lines: its output is the front of the
 //! replies, or reports that memory ran out, and a later session passes.
 
-use crate::expect::holds;
-use crate::host::HeapHost;
-use crate::reader::ScarceReader;
-use crate::rows::Reply;
-use crate::server::{PEER, Server, make_server, settings};
+use crate::refused::expect::holds;
+use crate::refused::host::HeapHost;
+use crate::refused::reader::ScarceReader;
+use crate::refused::rows::Reply;
+use crate::refused::server::{PEER, Server, make_server, settings};
 use control_session::{ControlFault, Host, run_control};
 use linked_list_allocator::LocalHeap;
 use script_session::ScriptSide;

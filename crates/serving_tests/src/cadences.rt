@@ -172,7 +172,7 @@ fn beats_count_sharers(rt: HostRuntime) {
 }
 
 // The rows of a transfer whose session has this credit and this guarantee, within the server's rate.
-fn session_rows(server: Credit, session: Credit, floor: u64) -> TransferRows {
+fn rows_of_session(server: Credit, session: Credit, floor: u64) -> TransferRows {
     TransferRows {
         server,
         way: OPEN,
@@ -222,7 +222,7 @@ static SESSIONS: [(u64, u64, u64, u64); 9] = [
 #[test]
 fn sessions_have_a_beat_in_common(rt: HostRuntime) {
     for (rate, floor, tick, opens) in &SESSIONS {
-        let rows = session_rows(OPEN, drained(*rate), *floor);
+        let rows = rows_of_session(OPEN, drained(*rate), *floor);
         let next = opens_after(&rt, Way::Down, &rows, *tick, 2);
         holds(&rt, next == *opens);
         holds(&rt, opens_after(&rt, Way::Down, &rows, *tick, 1) == 0); // of another user
@@ -230,16 +230,16 @@ fn sessions_have_a_beat_in_common(rt: HostRuntime) {
     let mut cadence = Cadence::new(rt.alloc(), 3, 0).expect(&rt, "memory");
     let mut small = asked(2, Way::Down);
     small.want = 1_024;
-    let rows = session_rows(OPEN, drained(100_000), 0);
+    let rows = rows_of_session(OPEN, drained(100_000), 0);
     cadence.add(small, &rows, 200, 1);
     cadence.settle(Way::Down, 2, &rows, 0);
     holds(&rt, cadence.opens(Way::Down, 2, &rows) == 1); // 2 ticks earn 256 octets, a quarter of what it wants
-    let slow = session_rows(OPEN, drained(31_250), 0);
+    let slow = rows_of_session(OPEN, drained(31_250), 0);
     holds(&rt, opens_after(&rt, Way::Up, &slow, 0, 2) == 7); // 8 ticks earn 256 octets
     // beside it, the server's rate is shared by 64 in 32 ticks, whether they have a guarantee or not
-    let rows = session_rows(left(0), drained(31_250), 0);
+    let rows = rows_of_session(left(0), drained(31_250), 0);
     holds(&rt, opens_after(&rt, Way::Down, &rows, 0, 1) == 31);
-    let rows = session_rows(left(0), drained(31_250), 500);
+    let rows = rows_of_session(left(0), drained(31_250), 500);
     holds(&rt, opens_after(&rt, Way::Down, &rows, 0, 1) == 31);
 }
 
@@ -252,9 +252,9 @@ fn opens_beside(
     floors: (u64, u64),
 ) -> u64 {
     let mut cadence = Cadence::new(rt.alloc(), 3, 0).expect(rt, "memory");
-    let rows = session_rows(drained(rate), OPEN, floors.0);
+    let rows = rows_of_session(drained(rate), OPEN, floors.0);
     cadence.add(asked(1, Way::Down), &rows, 9_600, 1);
-    let rows = session_rows(drained(rate), OPEN, floors.1);
+    let rows = rows_of_session(drained(rate), OPEN, floors.1);
     for _ in 0..transfers {
         cadence.add(asked(2, Way::Down), &rows, 9_600 / transfers, transfers);
     }
@@ -304,7 +304,7 @@ static LARGE_PARTS: [(u64, usize, u64); 6] = [
 
 // Holds a round of 60 transfers without a guarantee on that line in a tick; returns the next in which it is open.
 fn hold_beside(cadence: &mut Cadence, tick: u64) -> u64 {
-    let rows = session_rows(drained(4_194_304), OPEN, 0);
+    let rows = rows_of_session(drained(4_194_304), OPEN, 0);
     for _ in 0..60 {
         cadence.add(asked(2, Way::Down), &rows, 1_000, 1);
     }
@@ -316,7 +316,7 @@ fn hold_beside(cadence: &mut Cadence, tick: u64) -> u64 {
 fn a_large_part_is_within_an_ask(rt: HostRuntime) {
     for (floor, missed, opens) in &LARGE_PARTS {
         let mut cadence = Cadence::new(rt.alloc(), 3, 0).expect(&rt, "memory");
-        let rows = session_rows(drained(4_194_304), OPEN, *floor);
+        let rows = rows_of_session(drained(4_194_304), OPEN, *floor);
         cadence.add(asked(1, Way::Down), &rows, 1_000, 1);
         let mut next = hold_beside(&mut cadence, 0);
         for _ in 0..*missed {
@@ -331,7 +331,7 @@ fn a_large_part_is_within_an_ask(rt: HostRuntime) {
 fn rows_with_a_guarantee_are_aligned(rt: HostRuntime) {
     for (floor, opens) in &[(0, 31), (500, 3)] {
         let mut cadence = Cadence::new(rt.alloc(), 3, 0).expect(&rt, "memory");
-        let rows = session_rows(left(0), drained(31_250), *floor);
+        let rows = rows_of_session(left(0), drained(31_250), *floor);
         cadence.add(asked(2, Way::Down), &rows, 62, 1);
         cadence.settle(Way::Down, 2, &rows, 1); // the server's 2 ticks, the session's 32
         holds(&rt, cadence.opens(Way::Down, 2, &rows) == *opens);
@@ -341,14 +341,14 @@ fn rows_with_a_guarantee_are_aligned(rt: HostRuntime) {
 #[test]
 fn sessions_have_enough_left(rt: HostRuntime) {
     let seven = Credit { rate: 50, left: 7 };
-    let rows = session_rows(OPEN, seven, 0);
+    let rows = rows_of_session(OPEN, seven, 0);
     holds(&rt, rows.have_left(7) && !rows.have_left(8));
     holds(
         &rt,
-        !rows.are_free() && session_rows(OPEN, OPEN, 500).are_free(),
+        !rows.are_free() && rows_of_session(OPEN, OPEN, 500).are_free(),
     );
-    holds(&rt, session_rows(OPEN, OPEN, 0).have_left(u64::MAX));
-    holds(&rt, !session_rows(OPEN, OPEN, 500).have_left(0)); // a guarantee
+    holds(&rt, rows_of_session(OPEN, OPEN, 0).have_left(u64::MAX));
+    holds(&rt, !rows_of_session(OPEN, OPEN, 500).have_left(0)); // a guarantee
 }
 
 // A group with a rate of downloads, and a user in it with rates of uploads and a guarantee of downloads.

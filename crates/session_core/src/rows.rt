@@ -10,15 +10,13 @@ ghost use Rattle.session_table.specs.Rules.{at_found, file_row, login_row, row_p
 use crate::order::judge;
 use authorizer::Authorizer;
 use rate_floors::Floors;
-use session_file_rows::{
-    appe_row, cwd_row, dele_row, list_row, mdtm_row, mkd_row, mlsd_row, mlst_row, retr_row,
-    rmd_row, rnfr_row, rnto_row, size_row, stat_row, stor_row,
+use session_rows::{
+    abor_row, appe_row, cwd_row, dele_row, eprt_row, epsv_row, feat_row, list_row, mdtm_row,
+    mkd_row, mlsd_row, mlst_row, opts_row, pass_row, pasv_row, port_row, pwd_row, quit_row,
+    rein_row, rest_row, retr_row, rmd_row, rnfr_row, rnto_row, size_row, stat_row, status_row,
+    stor_row, type_row, user_row,
 };
 use session_state::{Location, RowResult, State};
-use session_state_rows::{
-    abor_row, eprt_row, epsv_row, feat_row, opts_row, pass_row, pasv_row, port_row, pwd_row,
-    quit_row, rein_row, rest_row, status_row, type_row, user_row,
-};
 use session_table::{Conditions, FileRow, LocatedRow, LoginRow, NamedRow, Rule, StateRow};
 use std::alloc::Allocator;
 use virtual_tree::Store;

@@ -8,9 +8,11 @@ use handler_hooks::{Hooks, run_hooks};
 use memory_store::MemStore;
 use rate_floors::Floors;
 use session_events::{close, end_transfer, take_port};
-use session_file_rows::{list_row, mkd_row, retr_row, rnfr_row, stor_row};
+use session_rows::{
+    greeting, list_row, mkd_row, pass_row, pasv_row, rest_row, retr_row, rnfr_row, stor_row,
+    type_row, user_row,
+};
 use session_state::{Location, State};
-use session_state_rows::{greeting, pass_row, pasv_row, rest_row, type_row, user_row};
 use session_table::{End, Notice, Passive, Style};
 use std::process::Abort;
 use virtual_path::VPath;
@@ -33,19 +35,20 @@ fn session_login(
     says(rt, reported, "230 Welcome\r\n"); // otherwise 530
 }
 
-fn session_state_rows(rt: &(impl Abort + AllocGlobal), state: &mut State) {
+fn session_parameters(rt: &(impl Abort + AllocGlobal), state: &mut State) {
     says(rt, type_row(state, DataType::Image), "200 Type is I\r\n");
     says(rt, rest_row(state, 1000), "350 Restart at 1000\r\n");
     let reported = pasv_row(state); // a port is asked for: the reply comes with it
     says(rt, reported, "");
 }
 
-fn session_file_rows(
+fn session_rows(
     rt: &(impl Abort + AllocGlobal),
     state: &mut State,
     store: &mut MemStore,
     place: Location,
 ) {
+    says(rt, type_row(state, DataType::Image), "200 Type is I\r\n");
     let reported = mkd_row(state, store, &place); // or what the store refused
     says(rt, reported, "257 \"/in\"\r\n");
     let reported = rnfr_row(state, store, place); // the path is kept for RNTO
@@ -142,7 +145,7 @@ fn greeted(rt: &(impl Abort + AllocGlobal), state: &State) {
 fn in_session(rt: &(impl Abort + AllocGlobal), room: &mut Room) {
     greeted(rt, &room.state);
     session_login(rt, &mut room.state, &room.users, &mut room.floors);
-    session_file_rows(rt, &mut room.state, &mut room.store, location(rt, "/in"));
+    session_rows(rt, &mut room.state, &mut room.store, location(rt, "/in"));
     session_state(rt, &mut room.state, location(rt, "/in").into_path());
 }
 
@@ -151,7 +154,7 @@ fn in_transfers(rt: &(impl Abort + AllocGlobal), room: &mut Room, root: &Locatio
     let missing = location(rt, "/g");
     let place = location(rt, "/f");
     session_transfers(rt, &mut room.state, &mut room.store, missing, place);
-    session_state_rows(rt, &mut room.state);
+    session_parameters(rt, &mut room.state);
     session_listings(rt, &mut room.state, &room.users, &mut room.store, root);
     session_events(rt, &mut room.state, &room.users, &mut room.store);
 }

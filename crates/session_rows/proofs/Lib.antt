@@ -1,0 +1,3 @@
+pub mod Floors
+mod OneMore
+mod Runs

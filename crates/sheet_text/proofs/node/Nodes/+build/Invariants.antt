@@ -12,6 +12,6 @@ decreases-build g l = l.levels
 abbrev pub invariant-loop-kid : goal.invariant-loop-kid
 invariant-loop-kid g l = record {
   below : AreBelow (length l.self) l.order.items;
-  built : map places l.kids.items ≡ map (λ place. outline_below l.self (l.levels - 1) (path_at l.self place)) (take l.kid-index l.kid-items);
-  order : paths_to l.self l.order.items ≡ (paths_to l.self l.fn.order.items ++ path_at l.self l.place ∷ []) ++ flat_map (λ place. paths_below l.self (l.levels - 1) (path_at l.self place)) (take l.kid-index l.kid-items);
+  built : map places l.kids.items ≡ map (λ place. outline_below l.self (l.levels - 1) (path_at l.self place)) (take l.kid-index l.below);
+  order : paths_to l.self l.order.items ≡ (paths_to l.self l.fn.order.items ++ path_at l.self l.place ∷ []) ++ flat_map (λ place. paths_below l.self (l.levels - 1) (path_at l.self place)) (take l.kid-index l.below);
 }

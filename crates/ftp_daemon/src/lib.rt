@@ -36,7 +36,6 @@ pub use script_session::SessionFault;
 pub use server_config::{Config, ConfigFault, migrate};
 pub use server_house::{ServerRuntime, Terms};
 pub use serving::serve;
-pub use sheet_check::{CheckFault, run_check};
-pub use sheet_share::{ShareFault, run_share};
+pub use sheet_commands::{CheckFault, ShareFault, run_check, run_share};
 pub use text_io::{TextFault, TextReader, TextWriter};
 pub use watching::{NoSigns, OwnerSigns};

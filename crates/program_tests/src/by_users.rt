@@ -4,8 +4,7 @@ use crate::ends::{Files, Given};
 use crate::expect::{holds, reports, same};
 use crate::texts::{TWO_USERS, TWO_USERS_GRANTS, TWO_USERS_LINES};
 use command_line::SheetWords;
-use sheet_check::{SheetVerdict, run_check, verdict_at};
-use sheet_share::{ShareFault, run_share, sharing_at};
+use sheet_commands::{ShareFault, SheetVerdict, run_check, run_share, sharing_at, verdict_at};
 use sheet_text::read_sheet;
 use sheets_program::{ErrorText, run_sheet_words};
 

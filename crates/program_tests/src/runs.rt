@@ -5,7 +5,7 @@ use crate::expect::{holds, reports, same};
 use crate::servers::Noting;
 use crate::texts::{LOGIN, LUNCH, LUNCH_GRANTS, LUNCH_LINES, SMALL, WELCOME};
 use ftpd_program::{FtpdErrorText, STANDARD_INPUT, run_words};
-use sheet_check::{CheckFault, run_check};
+use sheet_commands::{CheckFault, run_check};
 use std::process::Abort;
 use text_io::{FallibleIo, TextFault};
 

@@ -3,8 +3,10 @@
 use crate::expect::{holds, reports, same};
 use crate::texts::{LUNCH, LUNCH_GRANTS, LUNCH_LINES};
 use linked_list_allocator::LocalHeap;
-use sheet_check::{CheckFault, run_check, verdict_at, verdict_of};
-use sheet_share::{Share, ShareFault, lines_of, run_share, sharing_at, sharing_of};
+use sheet_commands::{
+    CheckFault, Share, ShareFault, lines_of, run_check, run_share, sharing_at, sharing_of,
+    verdict_at, verdict_of,
+};
 use sheet_text::{Sheet, read_sheet};
 use std::process::Abort;
 use test_scarce_memory::leave_hole;

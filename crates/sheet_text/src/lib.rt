@@ -1,7 +1,7 @@
 //! The text of a sheet, read exactly. `docs/sheets.md` has the grammar.
 //!
 //! A [`Sheet`] is a limit tree with the path of each node. Lines, paths and numbers are read by functions of their own,
-//! which `sheet_check` also uses to read a grants file.
+//! which `sheet_commands` also uses to read a grants file.
 //!
 //! ```text
 //! let alloc = rt.alloc();

@@ -6,15 +6,15 @@ use Rattle.command_line.specs.declared.words.SheetWords.{SheetWords}
 use Rattle.command_line.specs.declared.words.SheetWords.TheVariants.{Share as ShareWords, Check as CheckWords}
 use Rattle.command_line.specs.declared.words.WordsFault.{WordsFault}
 use Rattle.command_line.specs.declared.words.WordsFault.TheVariants.{Memory as NoMemory, Refused as NoCommand}
-use Rattle.sheet_check.specs.Checking.{IsGrantsFaultOf}
-use Rattle.sheet_check.specs.Users.{IsCheckBy}
-use Rattle.sheet_check.specs.declared.sheet_verdict.SheetVerdict.{SheetVerdict}
-use Rattle.sheet_check.specs.declared.sheet_verdict.SheetVerdict.TheVariants.{Yes, No, NotBestByUsers}
+use Rattle.sheet_commands.specs.Checking.{IsGrantsFaultOf}
+use Rattle.sheet_commands.specs.CheckUsers.{IsCheckBy}
+use Rattle.sheet_commands.specs.declared.sheet_verdict.SheetVerdict.{SheetVerdict}
+use Rattle.sheet_commands.specs.declared.sheet_verdict.SheetVerdict.TheVariants.{Yes, No, NotBestByUsers}
 use Rattle.grant_certificate.specs.declared.flaw.Flaw.{Flaw}
-use Rattle.sheet_check.specs.declared.fault.CheckFault.{CheckFault}
-use Rattle.sheet_check.specs.declared.fault.CheckFault.TheVariants as check
-use Rattle.sheet_share.specs.declared.fault.ShareFault.{ShareFault}
-use Rattle.sheet_share.specs.declared.fault.ShareFault.TheVariants.{Sheet, Text, UserTooLarge}
+use Rattle.sheet_commands.specs.declared.check_fault.CheckFault.{CheckFault}
+use Rattle.sheet_commands.specs.declared.check_fault.CheckFault.TheVariants as check
+use Rattle.sheet_commands.specs.declared.share_fault.ShareFault.{ShareFault}
+use Rattle.sheet_commands.specs.declared.share_fault.ShareFault.TheVariants.{Sheet, Text, UserTooLarge}
 use Rattle.sheet_text.specs.Sheet.{IsSheetFaultOf, sheet_fault}
 use Rattle.text_io.specs.declared.fault.TextFault.TheVariants.{TooLong, ReadFault, WriteFault, Memory}
 use Rattle.text_io.specs.declared.read.TheConstants.{MAX_TEXT}

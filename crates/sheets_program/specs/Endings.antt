@@ -3,8 +3,8 @@ use Rattle.std.specs.Prelude.{◌≡◌, ◌≢◌, ℕ, List, Option, IsFalse, 
 use Rattle.std.specs.Io.KnownBytes.{Appends}
 use Rattle.command_line.specs.declared.words.WordsFault.{WordsFault}
 use Rattle.command_line.specs.declared.words.WordsFault.TheVariants.{Memory as NoMemory, Refused as NoCommand}
-use Rattle.sheet_check.specs.declared.fault.CheckFault.TheVariants.{Text as CheckText}
-use Rattle.sheet_share.specs.declared.fault.ShareFault.TheVariants.{Text as ShareText}
+use Rattle.sheet_commands.specs.declared.check_fault.CheckFault.TheVariants.{Text as CheckText}
+use Rattle.sheet_commands.specs.declared.share_fault.ShareFault.TheVariants.{Text as ShareText}
 use Rattle.text_io.specs.declared.fault.TextFault.TheVariants.{Memory, WriteFault}
 use Rattle.sheets_program.specs.declared.ending.Exit.{Exit}
 use Rattle.sheets_program.specs.declared.ending.Exit.TheVariants.{Done, Flawed, Refused, Text, Share, Check}

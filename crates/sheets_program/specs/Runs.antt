@@ -8,17 +8,17 @@ use Rattle.command_line.specs.declared.words.SheetWords.{SheetWords}
 use Rattle.command_line.specs.declared.words.SheetWords.TheVariants.{Share as ShareWords, Check as CheckWords}
 use Rattle.command_line.specs.Numbers.{IsDepthOf, IsNoDepthOf}
 use Rattle.command_line.specs.declared.words.WordsFault.{WordsFault}
-use Rattle.sheet_check.specs.Checking.{IsGrantsFaultOf}
-use Rattle.sheet_check.specs.Users.{IsCheckBy}
-use Rattle.sheet_check.specs.declared.sheet_verdict.SheetVerdict.{SheetVerdict}
-use Rattle.sheet_check.specs.declared.sheet_verdict.SheetVerdict.TheVariants.{Yes}
-use Rattle.sheet_check.specs.declared.fault.CheckFault.{CheckFault}
-use Rattle.sheet_check.specs.declared.fault.CheckFault.TheVariants as check
-use Rattle.sheet_check.specs.declared.grants_fault.GrantsFault.{GrantsFault}
-use Rattle.sheet_picture.specs.Pictures.{IsPictureBy}
-use Rattle.sheet_share.specs.Sharing.{IsSharingBy}
-use Rattle.sheet_share.specs.declared.fault.ShareFault.{ShareFault}
-use Rattle.sheet_share.specs.declared.fault.ShareFault.TheVariants as share
+use Rattle.sheet_commands.specs.Checking.{IsGrantsFaultOf}
+use Rattle.sheet_commands.specs.CheckUsers.{IsCheckBy}
+use Rattle.sheet_commands.specs.declared.sheet_verdict.SheetVerdict.{SheetVerdict}
+use Rattle.sheet_commands.specs.declared.sheet_verdict.SheetVerdict.TheVariants.{Yes}
+use Rattle.sheet_commands.specs.declared.check_fault.CheckFault.{CheckFault}
+use Rattle.sheet_commands.specs.declared.check_fault.CheckFault.TheVariants as check
+use Rattle.sheet_commands.specs.declared.grants_fault.GrantsFault.{GrantsFault}
+use Rattle.sheet_commands.specs.Pictures.{IsPictureBy}
+use Rattle.sheet_commands.specs.Sharing.{IsSharingBy}
+use Rattle.sheet_commands.specs.declared.share_fault.ShareFault.{ShareFault}
+use Rattle.sheet_commands.specs.declared.share_fault.ShareFault.TheVariants as share
 use Rattle.sheet_text.specs.Sheet.{IsSheetFaultOf, sheet_fault}
 use Rattle.sheet_text.specs.declared.fault.SheetFault.{SheetFault}
 use Rattle.text_io.specs.declared.fault.TextFault.{TextFault}

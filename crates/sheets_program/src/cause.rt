@@ -3,8 +3,7 @@
 ghost use Rattle.std.specs.Prelude.{◌≡◌};
 ghost use Rattle.sheets_program.specs.Runs.{checked_file, file_of, shared_file, text_file};
 
-use sheet_check::CheckFault;
-use sheet_share::ShareFault;
+use sheet_commands::{CheckFault, ShareFault};
 use std::io;
 use text_io::TextFault;
 

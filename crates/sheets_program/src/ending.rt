@@ -5,8 +5,7 @@ ghost use Rattle.sheets_program.specs.Endings.{IsRefusedAs, IsReportedEnd, IsUnw
 
 use crate::cause::Cause;
 use command_line::WordsFault;
-use sheet_check::CheckFault;
-use sheet_share::ShareFault;
+use sheet_commands::{CheckFault, ShareFault};
 use std::alloc::Global;
 use text_io::{TextFault, TextWriter, write_whole};
 

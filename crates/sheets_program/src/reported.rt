@@ -3,8 +3,7 @@
 use crate::cause::Cause;
 use crate::ending::Exit;
 use limit_tree::TreeFault;
-use sheet_check::{CheckFault, GrantsFault};
-use sheet_share::ShareFault;
+use sheet_commands::{CheckFault, GrantsFault, ShareFault};
 use sheet_text::{Hint, SheetFault};
 use std::{fmt, io};
 use text_io::{MAX_TEXT, TextFault};

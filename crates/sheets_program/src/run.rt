@@ -19,9 +19,7 @@ use crate::cause::{Cause, check_cause, share_cause};
 use crate::ending::{Exit, report};
 use crate::files::{Opener, is_input};
 use command_line::{SheetWords, read_sheet_words, stated_depth};
-use sheet_check::{CheckFault, SheetVerdict, run_check};
-use sheet_picture::run_picture;
-use sheet_share::{ShareFault, run_share};
+use sheet_commands::{CheckFault, ShareFault, SheetVerdict, run_check, run_picture, run_share};
 use std::alloc::Global;
 use text_io::{TextFault, TextReader, TextWriter};
 

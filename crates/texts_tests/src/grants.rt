@@ -3,7 +3,7 @@
 
 use crate::expect::holds;
 use linked_list_allocator::LocalHeap;
-use sheet_check::{GrantsFault, read_grants};
+use sheet_commands::{GrantsFault, read_grants};
 use sheet_text::{Sheet, read_sheet};
 use std::process::Abort;
 use test_scarce_memory::{HEAP, leave_hole};

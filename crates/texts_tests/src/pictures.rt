@@ -2,7 +2,7 @@
 
 use crate::expect::holds;
 use linked_list_allocator::LocalHeap;
-use sheet_picture::{Column, Holder, drawn, picture_at, picture_of, push_escaped, run_picture};
+use sheet_commands::{Column, Holder, drawn, picture_at, picture_of, push_escaped, run_picture};
 use sheet_text::SheetFault;
 use std::process::Abort;
 use std::test::Fail;

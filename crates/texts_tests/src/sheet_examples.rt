@@ -2,9 +2,7 @@
 
 use crate::expect::holds;
 use limit_tree::NodeKind;
-use sheet_check::{GrantsFault, SheetVerdict, read_grants, run_check};
-use sheet_picture::picture_of;
-use sheet_share::run_share;
+use sheet_commands::{GrantsFault, SheetVerdict, picture_of, read_grants, run_check, run_share};
 use sheet_text::{Nodes, cut_line, read_grant, read_sheet};
 use std::test::Fail;
 use text_io::{FallibleIo, TextReader, TextWriter, read_whole, write_whole};
@@ -83,19 +81,23 @@ fn ends_are_read_in_pieces(rt: HostRuntime) {
 }
 
 #[test]
-fn sheet_share(rt: HostRuntime) -> Result<(), Fail> {
+fn sheet_commands(rt: HostRuntime) -> Result<(), Fail> {
     let alloc = rt.alloc();
     let sheet = "limit / 10\nwant /a 8\nwant /b 5\n";
     let mut shared = Vec::new(alloc);
     run_share(alloc, None, &mut sheet.as_bytes(), &mut shared)?;
     assert!(rt; shared.as_slice() == b"/a 5 of 8 full /\n/b 5 of 5\ntotal 10\n".as_slice());
-    Ok(())
-}
-
-#[test]
-fn sheet_picture(rt: HostRuntime) -> Result<(), Fail> {
-    let alloc = rt.alloc();
-    let picture = picture_of(alloc, b"limit / 10\nwant /a 8\nwant /b 5\n")?;
+    let mut grants = "grant /a 5 /\ngrant /b 5\n".as_bytes();
+    let mut verdict = Vec::new(alloc);
+    let is = run_check(
+        alloc,
+        None,
+        &mut sheet.as_bytes(),
+        &mut grants,
+        &mut verdict,
+    )?;
+    assert!(rt; is == SheetVerdict::Yes && verdict.as_slice() == b"yes\n".as_slice());
+    let picture = picture_of(alloc, sheet.as_bytes())?;
     assert!(rt; picture.as_str().starts_with("<svg "));
     assert!(rt;
         picture
@@ -103,16 +105,5 @@ fn sheet_picture(rt: HostRuntime) -> Result<(), Fail> {
             .contains("<title>/a: 5 of 8, held back by /</title>")
     );
     assert!(rt; picture.as_str().contains("<title>/b: 5 of 5</title>"));
-    Ok(())
-}
-
-#[test]
-fn sheet_check(rt: HostRuntime) -> Result<(), Fail> {
-    let alloc = rt.alloc();
-    let mut sheet = "limit / 10\nwant /a 8\nwant /b 5\n".as_bytes();
-    let mut grants = "grant /a 5 /\ngrant /b 5\n".as_bytes();
-    let mut verdict = Vec::new(alloc);
-    let is = run_check(alloc, None, &mut sheet, &mut grants, &mut verdict)?;
-    assert!(rt; is == SheetVerdict::Yes && verdict.as_slice() == b"yes\n".as_slice());
     Ok(())
 }

@@ -1,5 +1,0 @@
-mod There
-mod Checks
-mod Filling
-mod Full
-mod Ruled

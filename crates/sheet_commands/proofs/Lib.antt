@@ -1,0 +1,12 @@
+mod ShareFaults
+mod ShareEntries
+mod ShareTotals
+mod There
+mod Checks
+mod Filling
+mod Full
+mod Ruled
+mod PictureEntries
+mod PictureFaults
+mod Levels
+mod LidSteps

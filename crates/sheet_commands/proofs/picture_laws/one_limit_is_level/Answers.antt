@@ -1,0 +1,5 @@
+use Rattle.sheet_commands.proofs.Levels.{one_level}
+use Rattle.sheet_commands.proofs.picture_laws.one_limit_is_level.Goals as goal
+
+pub returns : goal.returns
+returns c = record { level = one_level }

@@ -1,0 +1,16 @@
+pub mod CheckFaults
+pub mod CheckUsers
+pub mod Checking
+pub mod Columns
+pub mod Escapes
+pub mod Frames
+pub mod Grants
+pub mod Levels
+pub mod Parts
+pub mod Pictures
+pub mod Reading
+pub mod ShareFaults
+pub mod ShareLines
+pub mod Sharing
+pub mod Slots
+pub mod Svg

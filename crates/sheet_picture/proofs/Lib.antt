@@ -1,4 +1,0 @@
-mod Entries
-mod Faults
-mod Levels
-mod LidSteps

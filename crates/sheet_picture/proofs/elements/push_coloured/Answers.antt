@@ -1,6 +1,0 @@
-use Rattle.sheet_picture.specs.Svg.{coloured}
-use Rattle.sheet_picture.proofs.elements.push_coloured.Goals as goal
-
-pub returns : goal.returns
-unfolding coloured
-returns g c = record { appended = c.push_parts.ensures.appended }

@@ -1,6 +1,0 @@
-use Rattle.sheet_picture.specs.Svg.{guaranteed}
-use Rattle.sheet_picture.proofs.elements.push_guaranteed.Goals as goal
-
-pub returns : goal.returns
-unfolding guaranteed
-returns g c = record { appended = c.push_parts.ensures.appended }

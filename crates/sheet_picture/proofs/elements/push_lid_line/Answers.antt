@@ -1,6 +1,0 @@
-use Rattle.sheet_picture.specs.Svg.{lid_line}
-use Rattle.sheet_picture.proofs.elements.push_lid_line.Goals as goal
-
-pub returns : goal.returns
-unfolding lid_line
-returns g c = record { appended = c.push_parts.ensures.appended }

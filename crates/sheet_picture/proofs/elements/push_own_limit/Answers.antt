@@ -1,6 +1,0 @@
-use Rattle.sheet_picture.specs.Svg.{own_limit_text}
-use Rattle.sheet_picture.proofs.elements.push_own_limit.Goals as goal
-
-pub returns : goal.returns
-unfolding own_limit_text
-returns g c = record { appended = c.push_parts.ensures.appended }

@@ -1,3 +1,0 @@
-mod Faults
-mod Entries
-mod Totals

@@ -1,5 +1,5 @@
-//! Tests of texts: sheets and grants files with the commands on them, and the configuration, its tables and the parts that
-//! are made of them. The output of the programs for them is in `runs/`. They call only public functions.
+//! Tests of texts: sheets and grants files with the commands on them, the configuration, its tables and the parts that are
+//! made of them, and what is reported. The output of the programs for them is in `runs/`. They call only public functions.
 #![tactic(auto)]
 
 #[cfg(test)]
@@ -28,5 +28,7 @@ mod sheet_examples;
 mod sheet_shortages;
 #[cfg(test)]
 mod sheets;
+#[cfg(test)]
+mod shown;
 #[cfg(test)]
 mod tables;

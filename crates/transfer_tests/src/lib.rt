@@ -1,6 +1,6 @@
 //! Tests of books, grants and tallies, of text on the wire, of pumps, of transfers between data connections and the
-//! files of a store, of ports and registries, of the board on which transfers wait, and of a worker's turns and whole jobs, by
-//! public calls alone.
+//! files of a store, of ports and registries, of the board on which transfers wait, of a worker's turns and whole jobs, and of
+//! the desk with its rounds, by public calls alone.
 #![tactic(auto)]
 
 #[cfg(test)]
@@ -9,6 +9,8 @@ mod boards;
 mod books;
 #[cfg(test)]
 mod counted;
+#[cfg(test)]
+mod desk;
 #[cfg(test)]
 mod downloads;
 #[cfg(test)]

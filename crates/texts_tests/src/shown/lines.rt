@@ -1,6 +1,6 @@
 //! Lines that are divided among asks. The shares are worked by hand.
 
-use crate::expect::holds;
+use crate::shown::expect::holds;
 use ask_shares::{Ask, AskShare, GroupRate, Limits, Name, NotShared, UserRate, Way, share_asks};
 use std::process::Abort;
 use std::test::Fail;

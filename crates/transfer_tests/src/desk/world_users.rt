@@ -1,6 +1,6 @@
 //! Worlds whose line is shared among users: the grants of one round.
 
-use crate::expect::holds;
+use crate::desk::expect::holds;
 use line_rates::{Ask, Limits, ShareBy, UserRate, Way};
 use share_world::{Event, EventAnswer, StepFault, World};
 use std::process::Abort;

@@ -1,7 +1,7 @@
 //! Memory that is refused, at each growth in turn, and then available again: the events before are kept.
 
-use crate::expect::holds;
-use crate::world_rounds::{EVENTS, REPLIES, is_settled, two_lanes};
+use crate::desk::expect::holds;
+use crate::desk::world_rounds::{EVENTS, REPLIES, is_settled, two_lanes};
 use line_rates::{Limits, ShareBy};
 use linked_list_allocator::LocalHeap;
 use share_world::{StepFault, World, WorldFault};

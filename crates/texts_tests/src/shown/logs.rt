@@ -1,6 +1,6 @@
 //! Lines that are read, and lines that are not of the form; rows worked by hand, from xferlog(5) and the calendar.
 
-use crate::expect::holds;
+use crate::shown::expect::holds;
 use log_lines::{LogDay, read_day, read_line, written_is_read};
 use std::process::Abort;
 use transfer_log::{FileTransfer, transfer_line};

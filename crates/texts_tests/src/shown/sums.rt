@@ -1,6 +1,6 @@
 //! Sums over lines, worked by hand.
 
-use crate::expect::holds;
+use crate::shown::expect::holds;
 use std::process::Abort;
 use usage_report::{LogLook, Sums, Usage, UsageKey, ranked, read_day};
 

@@ -1,6 +1,6 @@
 //! The examples in the heads of these crates. `tools/examples` compares their lines.
 
-use crate::expect::holds;
+use crate::shown::expect::holds;
 use line_rates::{Limits, Name, ShareBy, Way};
 use plan_report::{NoPlan, plan_json, plan_lines};
 use rate_plan::{Transfer, plan_of};

@@ -1,6 +1,6 @@
 //! Two lanes over three rounds: events, their replies, and the state of the lanes at the end.
 
-use crate::expect::holds;
+use crate::desk::expect::holds;
 use line_rates::{Ask, Limits, ShareBy, Way};
 use share_world::{Event, EventAnswer, StepFault, World, WorldFault};
 use std::alloc::Allocator;

@@ -1,7 +1,7 @@
 //! Reports on logs that are held in memory.
 
-use crate::expect::holds;
-use crate::sums::{CUT, NEW};
+use crate::shown::expect::holds;
+use crate::shown::sums::{CUT, NEW};
 use std::io;
 use std::process::Abort;
 use usage_report::{

@@ -1,6 +1,6 @@
 //! The example in the head of the crate.
 
-use crate::expect::holds;
+use crate::desk::expect::holds;
 use line_rates::{Ask, Limits, Way};
 use share_world::{Event, EventAnswer, World};
 use std::test::Fail;

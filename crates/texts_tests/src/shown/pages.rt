@@ -2,7 +2,7 @@
 
 ghost use Rattle.std.specs.Prelude.{◌≡◌};
 
-use crate::expect::holds;
+use crate::shown::expect::holds;
 use httpdate::HttpDate;
 use server_status::{
     AccountStatus, Direction, EndCounts, GroupStatus, HeldRounds, LineRates, SessionStatus,

@@ -1,6 +1,6 @@
 //! A status as a text, and read from texts. `docs/status.md` has the same status.
 
-use crate::expect::holds;
+use crate::shown::expect::holds;
 use server_status::{
     AccountStatus, Direction, EndCounts, GroupStatus, HeldRounds, LineRates, SessionStatus,
     SharedAmong, Status, StatusFault, TransferStatus, read_status, status_text,

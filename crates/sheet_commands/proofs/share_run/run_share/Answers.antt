@@ -8,7 +8,7 @@ use Rattle.sheet_commands.specs.Sharing.{IsSharingBy}
 use Rattle.sheet_commands.specs.declared.share_fault.ShareFault.{ShareFault}
 use Rattle.sheet_commands.specs.declared.share_fault.ShareFault.TheVariants.{Sheet, UserTooLarge}
 use Rattle.sheet_commands.proofs.ShareFaults.{by_users}
-use Rattle.sheet_commands.proofs.run_share.run_share.Goals as goal
+use Rattle.sheet_commands.proofs.share_run.run_share.Goals as goal
 
 pub returns-in_err-lines-clause-long : goal.returns-in_err-lines-clause-long
 returns-in_err-lines-clause-long g c text known more = absurd (read_whole_few _ _ c.in_ok-text.text.items text MAX_TEXT c.in_ok-text.ensures.whole c.in_ok-text.ensures.end known (omega (arith, c.in_ok-text.ensures.short, c.deref.ensures.len, ap length c.deref.ensures.value)) more)

@@ -8,7 +8,7 @@ use Rattle.sheet_commands.specs.Pictures.{IsPictureBy}
 use Rattle.sheet_commands.specs.declared.share_fault.ShareFault.{ShareFault}
 use Rattle.sheet_commands.specs.declared.share_fault.ShareFault.TheVariants.{Sheet, UserTooLarge}
 use Rattle.sheet_commands.proofs.PictureFaults.{by_users}
-use Rattle.sheet_commands.proofs.run_picture.run_picture.Goals as goal
+use Rattle.sheet_commands.proofs.picture_run.run_picture.Goals as goal
 
 pub returns-in_err-picture-clause-long : goal.returns-in_err-picture-clause-long
 returns-in_err-picture-clause-long g c text known more = absurd (read_whole_few _ _ c.in_ok-text.text.items text MAX_TEXT c.in_ok-text.ensures.whole c.in_ok-text.ensures.end known (omega (arith, c.in_ok-text.ensures.short, c.deref.ensures.len, ap length c.deref.ensures.value)) more)

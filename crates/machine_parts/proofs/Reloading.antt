@@ -19,17 +19,17 @@ use Rattle.machine_parts.specs.declared.following.NextConfig.{NextConfig}
 use Rattle.machine_parts.specs.declared.known.Known.{Known}
 use Rattle.machine_parts.proofs.KeptNames.{below-in, names-fresh, names-kept, next-kept}
 
-module _ (octets : List ℕ) (start : AtStart) (known : Known) (read : Config) (text : IsConfigText octets read) where
-  pub hindered : (words : Option (List ℕ)) → IsHindered start read words → IsNotTaken octets start known words
+module _ (path octets : List ℕ) (start : AtStart) (known : Known) (read : Config) (text : IsConfigText octets read) where
+  pub hindered : (words : Option (List ℕ)) → IsHindered start read words → IsNotTaken path octets start known words
   hindered None is = tt
   hindered (Some words) is = inr (read, text, inl is)
 
-  pub unnumbered : IsUnhindered start read → (words : Option (List ℕ)) → IsUnnumbered read known words → IsNotTaken octets start known words
+  pub unnumbered : IsUnhindered start read → (words : Option (List ℕ)) → IsUnnumbered read known words → IsNotTaken path octets start known words
   unnumbered free None is = tt
   unnumbered free (Some words) is = inr (read, text, inr (free, inl is))
 
   pub past-fault : IsUnhindered start read → (config : Config) → IsNumberedAs read known config → (words : Option (List ℕ)) → IsPastFault config known words
-      → IsNotTaken octets start known words
+      → IsNotTaken path octets start known words
   past-fault free config numbered None is = tt
   past-fault free config numbered (Some words) is = inr (read, text, inr (free, inr (config, numbered, is)))
 

@@ -1,5 +1,5 @@
 -- The meaning of the machine's answers on a path.
-use Rattle.std.specs.Prelude.{ℕ, ◌*◌, ◌/◌, ◌%◌, ◌^◌, ◌+◌, Bool, true, false, cond, nat_eq, Option, None, Some}
+use Rattle.std.specs.Prelude.{ℕ, ◌*◌, ◌/◌, ◌%◌, ◌^◌, ◌+◌, Bool, ◌||◌, true, false, cond, nat_eq, Option, None, Some}
 use Rattle.std.specs.IoError.{error_kind}
 use Rattle.std.specs.declared.io.Error.{Error}
 use Rattle.std.specs.declared.io.ErrorKind.{ErrorKind}
@@ -21,6 +21,11 @@ abbrev pub kind_of : ℕ → FileKind
 kind_of mode =
     cond (nat_eq ((mode / 2 ^ 12) % 16) 8) File
     (cond (nat_eq ((mode / 2 ^ 12) % 16) 2) Device Other)
+
+-- a log is a regular file, or a character device
+abbrev pub is_log_mode : ℕ → Bool
+is_log_mode mode =
+    nat_eq ((mode / 2 ^ 12) % 16) 8 || nat_eq ((mode / 2 ^ 12) % 16) 2
 
 -- a text may replace nothing, and a regular file
 abbrev pub may_be_replaced : Option LookedKind → Bool

@@ -21,6 +21,7 @@ use Rattle.server_config.specs.declared.settings.ServerNumbers.{ServerNumbers}
 use Rattle.server_config.specs.declared.store.ServedStore.{ServedStore}
 use Rattle.server_config.specs.declared.store.ServedStore.TheVariants.{Memory, Folder}
 use Rattle.machine_parts.specs.Names.{AreKnown, HasNumbers}
+use Rattle.machine_parts.specs.Reasons.{BeginsWith}
 use Rattle.machine_parts.specs.declared.following.AtStart.{AtStart}
 use Rattle.machine_parts.specs.declared.following.NextConfig.{NextConfig}
 use Rattle.machine_parts.specs.declared.known.Known.{Known}
@@ -77,11 +78,13 @@ abbrev pub IsHindrance : AtStart → Config → Option (Option (List ℕ)) → T
 IsHindrance start config None = IsUnhindered start config
 IsHindrance start config (Some words) = IsHindered start config words
 
--- the octets are a configuration with a fault; none for lack of memory
-abbrev pub IsNoConfig : List ℕ → Option (List ℕ) → Type 0
-IsNoConfig octets None = Unit {0}
-IsNoConfig octets (Some words) =
-    (fault : ConfigFault) × (fault ≢ ConfigFault.Memory) × IsFaultOfText octets fault
+-- the octets of the file at a path are a configuration with a fault, and the words begin with the
+-- path; none for lack of memory
+abbrev pub IsNoConfig : List ℕ → List ℕ → Option (List ℕ) → Type 0
+IsNoConfig path octets None = Unit {0}
+IsNoConfig path octets (Some words) =
+    ((fault : ConfigFault) × (fault ≢ ConfigFault.Memory) × IsFaultOfText octets fault)
+    × BeginsWith path words (λ why. Unit {0})
 
 -- A configuration with the numbers that a server knows its names by.
 abbrev pub IsNumberedAs : Config → Known → Config → Type 0

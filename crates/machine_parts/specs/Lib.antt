@@ -8,6 +8,7 @@ pub mod LimitWords
 pub mod LookedFile
 pub mod Machine
 pub mod Names
+pub mod OwnThreads
 pub mod PlainNotes
 pub mod Prepared
 pub mod Reasons
@@ -15,4 +16,5 @@ pub mod Reloads
 pub mod Rewriting
 pub mod Starting
 pub mod StatedFiles
+pub mod Unprepared
 pub mod UsageFiles

@@ -34,11 +34,11 @@ IsUntaken start known read words =
     ⊎ (IsUnhindered start read × (IsUnnumbered read known words
     ⊎ ((config : Config) × IsNumberedAs read known config × IsPastFault config known words)))
 
--- the words for which the octets are not taken; none for lack of memory
-abbrev pub IsNotTaken : List ℕ → AtStart → Known → Option (List ℕ) → Type 0
-IsNotTaken octets start known None = Unit {0}
-IsNotTaken octets start known (Some words) =
-    IsNoConfig octets (Some words)
+-- the words for which the octets of the file at a path are not taken; none for lack of memory
+abbrev pub IsNotTaken : List ℕ → List ℕ → AtStart → Known → Option (List ℕ) → Type 0
+IsNotTaken path octets start known None = Unit {0}
+IsNotTaken path octets start known (Some words) =
+    IsNoConfig path octets (Some words)
     ⊎ ((read : Config) × IsConfigText octets read × IsUntaken start known read (Some words))
 
 -- A name keeps its number over a reload, a name that was not known gets one that nobody has had,

@@ -1,10 +1,16 @@
 //! The threads that read the configuration again, and the file of sessions that are to end.
 
-ghost use Rattle.std.specs.Prelude.{◌≡◌, string_bytes};
+ghost use Rattle.std.specs.Prelude.{◌≡◌, IfErr, IfOk, not, option_map, string_bytes};
+ghost use Rattle.std.specs.Arc.{arc_value};
+ghost use Rattle.machine_parts.specs.FileReading.{IsNotHad, ReadsOnce};
+ghost use Rattle.machine_parts.specs.OwnThreads.{after_take, is_asked, octets_of};
+ghost use Rattle.machine_parts.specs.declared.config_thread.Reading.TheVariants.{Asked};
 
 use crate::file_reading::{ReadOctets, read_once};
 use crate::own_thread::{STACK, ThreadSigns, shared};
+use folder_store::FolderMachine;
 use ftpd_program::ServeFault;
+use std::alloc::Global;
 use std::sync::{Arc, Mutex, Wait};
 use std::thread::{Builder, Threads};
 use std::time::Clock;
@@ -18,6 +24,39 @@ enum Reading {
     Asked,
     /// It has read it.
     Done(ReadOctets),
+}
+
+impl Reading {
+    // Returns whether the file is to be read.
+    fn is_asked(&self) -> bool
+        ensures asked { result ≡ is_asked self.now }
+    {
+        matches!(self, Reading::Asked)
+    }
+
+    // Asks for the file. Returns whether that was not done already.
+    fn ask(&mut self) -> bool
+        ensures first { result ≡ not (is_asked self.old) }
+        ensures asked { self.new ≡ Asked }
+    {
+        let is_first = !self.is_asked();
+        *self = Reading::Asked;
+        is_first
+    }
+
+    // Takes what was read, once it is.
+    fn take(&mut self) -> Option<ReadOctets>
+        ensures octets { result ≡ octets_of self.old }
+        ensures rest { self.new ≡ after_take self.old }
+    {
+        match std::mem::replace(self, Reading::Idle) {
+            Reading::Done(octets) => Some(octets),
+            other => {
+                *self = other;
+                None
+            }
+        }
+    }
 }
 
 /// A file that a thread reads, which nobody waits for.
@@ -41,6 +80,8 @@ impl ConfigReader {
     ) -> Result<Arc<ConfigReader>, ServeFault>
     where
         R: Threads + Wait + Clock + Copy + Send + Sync + 'static,
+        ensures path { IfOk result (λ reader. (arc_value reader).path ≡ path) }
+        ensures removes { IfOk result (λ reader. (arc_value reader).removes ≡ removes) }
     {
         let reader = shared(
             machine.alloc(),
@@ -70,6 +111,17 @@ impl ConfigReader {
         self.path.as_str()
     }
 
+    // Reads the file, and removes it then, if it is to be.
+    fn read<M: FolderMachine>(&self, alloc: Global, machine: &mut M) -> ReadOctets
+        ensures octets { IfOk result (λ octets. ReadsOnce M.Does (λ f. M.File.remaining f)
+            self.now.removes machine.old (string_bytes self.now.path) octets.items machine.new) }
+        ensures refused { IfErr result (λ words. IsNotHad M.Does (λ f. M.File.remaining f)
+            self.now.removes machine.old (string_bytes self.now.path)
+            (option_map string_bytes words) machine.new) }
+    {
+        read_once(alloc, machine, self.path.as_str(), self.removes)
+    }
+
     // Reads the file each time that it is asked to, until no more work comes.
     fn work<R: Wait + Clock>(&self, rt: &R, machine: HostRuntime) {
         let mut machine = machine;
@@ -80,7 +132,7 @@ impl ConfigReader {
                 return;
             }
             if self.is_asked(rt) {
-                let octets = read_once(machine.alloc(), &mut machine, self.path(), self.removes);
+                let octets = self.read(machine.alloc(), &mut machine);
                 *self.reading.lock(rt) = Reading::Done(octets);
             } else {
                 self.signs.wait(rt, seen);
@@ -90,30 +142,19 @@ impl ConfigReader {
     }
 
     fn is_asked<R: Wait>(&self, rt: &R) -> bool {
-        matches!(&*self.reading.lock(rt), Reading::Asked)
+        self.reading.lock(rt).is_asked()
     }
 
     /// Asks for the octets of the file. Returns whether the thread was idle: otherwise it still reads.
     pub fn ask<R: Wait>(&self, rt: &R) -> bool {
-        if self.is_asked(rt) {
-            return false;
-        }
-        *self.reading.lock(rt) = Reading::Asked;
+        let is_first = self.reading.lock(rt).ask();
         self.signs.wake();
-        true
+        is_first
     }
 
     /// Returns the octets of the file once they are read.
     pub fn take<R: Wait>(&self, rt: &R) -> Option<ReadOctets> {
-        let mut reading = self.reading.lock(rt);
-        match &*reading {
-            Reading::Done(_) => {}
-            _ => return None,
-        }
-        match std::mem::replace(&mut *reading, Reading::Idle) {
-            Reading::Done(octets) => Some(octets),
-            _ => None,
-        }
+        self.reading.lock(rt).take()
     }
 
     /// Waits for the end of the thread, at most a second.

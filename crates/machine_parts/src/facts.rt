@@ -3,10 +3,10 @@
 ghost use Rattle.std.specs.Prelude.{◌≡◌, IfSome, map, string_bytes};
 ghost use Rattle.std.specs.FinMap as finite;
 ghost use Rattle.config_change.specs.Past.{with_numbers};
-ghost use Rattle.machine_parts.specs.Facts.{AreFacts, stated_user};
+ghost use Rattle.machine_parts.specs.Facts.{AreFacts, AreGroups, AreUsers, group_of, stated_group, stated_user};
 
 use event_word::micros;
-use line_rates::{Limits, Name, Way};
+use line_rates::{GroupRate, Limits, Name, Way};
 use server_config::Config;
 use status_keeper::{StatedGroup, StatedUser, StatusFacts};
 use std::alloc::Global;
@@ -46,16 +46,37 @@ pub fn copied_limits(alloc: Global, limits: &Limits) -> Option<Limits>
     Some(copy.shared_by(limits.share_by()))
 }
 
+/// The group of a row, by its number among these names. `None` if memory runs out.
+fn stated_group(alloc: Global, names: &[String], row: &GroupRate) -> Option<StatedGroup>
+    ensures group { IfSome result (λ group.
+        stated_group group ≡ group_of (map string_bytes names.now) row.now) }
+{
+    let name = names.get(row.group as usize)?;
+    let name = String::from_str(alloc, name.as_str()).ok()?;
+    Some(StatedGroup {
+        name,
+        number: row.group,
+    })
+}
+
 /// The groups that a configuration has, with their numbers. `None` if memory runs out.
-fn stated_groups(alloc: Global, config: &Config) -> Option<Vec<StatedGroup>> {
-    let mut stated = Vec::with_capacity(alloc, config.limits.groups().len()).ok()?;
-    for row in config.limits.groups() {
-        let name = config.groups.get(row.group as usize)?;
-        let name = String::from_str(alloc, name.as_str()).ok()?;
-        let number = row.group;
-        stated.push(StatedGroup { name, number }).ok()?;
+fn stated_groups(alloc: Global, config: &Config) -> Option<Vec<StatedGroup>>
+    ensures groups { IfSome result (λ stated. AreGroups config.now stated.items) }
+{
+    let rows = config.limits.groups();
+    let names = config.groups.as_slice();
+    let mut stated = Vec::with_capacity(alloc, rows.len()).ok()?;
+    for row in rows {
+        stated.push(stated_group(alloc, names, row)?).ok()?;
     }
     Some(stated)
+}
+
+/// Number of the users that a configuration has.
+fn user_count(config: &Config) -> u64
+    ensures users { AreUsers config.now result }
+{
+    config.limits.users().len() as u64
 }
 
 /// The names of all groups of a configuration that has its numbers, those of the past too. `None` if memory runs out.
@@ -103,7 +124,7 @@ pub fn facts_of(
         stated: stated_groups(alloc, config)?,
         groups: group_names(alloc, config)?,
         names: stated_users(alloc, config)?,
-        users: config.limits.users().len() as u64,
+        users: user_count(config),
         lanes: u64::from(config.numbers.lanes),
         max_sessions: u64::from(config.numbers.max_cons),
         started: start.seconds,

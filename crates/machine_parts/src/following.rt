@@ -9,7 +9,7 @@ ghost use Rattle.server_config.specs.Configs.{IsConfigText};
 
 use crate::facts::{Start, copied_limits, facts_of};
 use crate::known::Known;
-use crate::reasons::words;
+use crate::reasons::{words, words_at};
 use config_change::{FixedValues, RenumberFault, count_fault, fixed_key, renumbered, with_past};
 use line_rates::Limits;
 use server_config::{Config, ConfigFault, ServedStore, ServerNumbers};
@@ -112,12 +112,12 @@ impl AtStart {
 fn config_of(alloc: Global, path: &str, octets: &[u8]) -> Result<Config, Option<String>>
     ensures config { IfOk result (IsConfigText octets.now) }
     ensures refused { IfErr result
-        (λ words. IsNoConfig octets.now (option_map string_bytes words)) }
+        (λ words. IsNoConfig path.now octets.now (option_map string_bytes words)) }
 {
     match Config::read(alloc, octets) {
         Ok(config) => Ok(config),
         Err(ConfigFault::Memory) => Err(None),
-        Err(fault) => Err(format!(in alloc; "{path}: {fault}").ok()),
+        Err(fault) => Err(words_at(alloc, path, &fault)),
     }
 }
 
@@ -201,8 +201,8 @@ pub fn next_config(
 ) -> Result<NextConfig, Option<String>>
     ensures next { IfOk result (IsNext octets.now at_start.now known.now) }
     ensures keeps { IfOk result (λ next. KeepsNames known.now next.known) }
-    ensures refused { IfErr result
-        (λ words. IsNotTaken octets.now at_start.now known.now (option_map string_bytes words)) }
+    ensures refused { IfErr result (λ words. IsNotTaken path.now octets.now at_start.now known.now
+        (option_map string_bytes words)) }
 {
     let read = config_of(alloc, path, octets)?;
     if let Some(reason) = at_start.hindrance(alloc, &read) {

@@ -1,5 +1,8 @@
 //! The notes, the transfer log and the status, which a server's events are told to.
 
+ghost use Rattle.std.specs.Prelude.{◌≡◌, IfOk, None, Some, cond, option_map};
+ghost use Rattle.std.specs.Arc.{arc_value};
+
 use crate::asked::ReadText;
 use crate::facts::{Start, facts_of};
 use crate::log_thread::{LogThreads, QueuedTransfers};
@@ -30,7 +33,12 @@ pub struct Cells {
 
 impl Cells {
     /// A cell without a status.
-    pub fn new(alloc: Global, is_shown: bool) -> Result<Cells, AllocError> {
+    pub fn new(alloc: Global, is_shown: bool) -> Result<Cells, AllocError>
+        ensures kept { IfOk result (λ cells. option_map arc_value cells.kept
+            ≡ cond is_shown (Some (arc_value cells.cell)) None) }
+        ensures watched { IfOk result (λ cells. option_map arc_value cells.watched
+            ≡ cond is_shown (Some (arc_value cells.cell)) None) }
+    {
         let cell = Arc::new(alloc, StatusCell::new())?;
         if !is_shown {
             return Ok(Cells {

@@ -13,8 +13,9 @@
 //!
 //! Decisions that need no machine have contracts: `asked` and `stated_options` on the service that the words state,
 //! `following`, `facts` and [`Known`] on the parts of a reload, which [`next_config`] puts together, and `answers` on what the
-//! machine has answered. `starting` has each sign and log at the path that is stated for it. `status_file` and `file_reading`
-//! name the calls that they make on any machine of files, and their order. Calls that only ask the machine have none.
+//! machine has answered. [`prepare`] has all that is stated, each file at its path, or says what could not be had, and
+//! [`OwnThreads`] has a thread for each. `status_file` and `file_reading` name the calls that they make on any machine of
+//! files, and their order. Calls that only ask the machine have none.
 #![tactic(auto)]
 
 mod answers;

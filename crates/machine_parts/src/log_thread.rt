@@ -1,7 +1,11 @@
 //! The threads that write notes and the transfer log.
 
-ghost use Rattle.std.specs.Prelude.{◌≡◌, IfOk, MatchResult, false, string_bytes, true};
-ghost use Rattle.machine_parts.specs.PlainNotes.{gone_line, head_of};
+ghost use Rattle.std.specs.Prelude.{◌≡◌, ◌≤◌, IfOk, IfSome, MatchResult, None, Some, cond, false, is_some, length, nat_eq, not, option_map, string_bytes, true};
+ghost use Rattle.std.specs.Arc.{arc_value};
+ghost use Rattle.std.specs.Fmt.{debug_str};
+ghost use Rattle.line_queue.specs.Queues.{transfers_text};
+ghost use Rattle.line_queue.specs.declared.rounds.Readiness.TheVariants.{Gone};
+ghost use Rattle.machine_parts.specs.PlainNotes.{IsUnseen, IsUnwritten, gone_line, head_of, unseen_text, unwritten_text};
 
 use crate::log_file::LogFile;
 use crate::own_thread::{STACK, ThreadSigns, shared};
@@ -27,7 +31,10 @@ pub struct QueuedTransfers<R: Wait + AllocGlobal> {
 }
 
 impl<R: Wait + AllocGlobal> QueuedTransfers<R> {
-    pub fn new(rt: R, lines: Option<Arc<SharedLines>>, notes: PlainNotes) -> QueuedTransfers<R> {
+    pub fn new(rt: R, lines: Option<Arc<SharedLines>>, notes: PlainNotes) -> QueuedTransfers<R>
+        ensures lines { result.lines ≡ lines }
+        ensures notes { result.notes ≡ notes }
+    {
         QueuedTransfers { rt, lines, notes }
     }
 }
@@ -67,6 +74,83 @@ fn gone_line(alloc: Global, form: LogForm, count: u64) -> Result<String, AllocEr
     format!(in alloc; "{head}users that the new configuration has no longer: {count}\n")
 }
 
+/// A path as notes have it.
+fn quoted(alloc: Global, path: &str) -> Result<String, AllocError>
+    ensures quoted { IfOk result
+        (λ text. IfSome (debug_str path.now) (λ octets. string_bytes text ≡ octets)) }
+{
+    format!(in alloc; "{path:?}")
+}
+
+/// The machine's reason in words.
+fn reason_text(alloc: Global, reason: io::Error) -> Result<String, AllocError> {
+    format!(in alloc; "{reason}")
+}
+
+/// The note of a file that cannot be written, by its path in quotation marks and the reason.
+fn unwritten_for(
+    alloc: Global,
+    form: LogForm,
+    what: &str,
+    path: &str,
+    why: &str,
+) -> Result<String, AllocError>
+    ensures line { IfOk result
+        (λ line. string_bytes line ≡ unwritten_text form what.now path.now why.now) }
+{
+    let head = count_head(form);
+    format!(in alloc; "{head}the {what} {path} cannot be written: {why}\n")
+}
+
+/// The note of a file at a path that cannot be written; `what` says which.
+fn unwritten_line(
+    alloc: Global,
+    form: LogForm,
+    what: &str,
+    path: &str,
+    reason: io::Error,
+) -> Result<String, AllocError>
+    ensures line { IfOk result (λ line. IsUnwritten form what.now path.now (string_bytes line)) }
+{
+    let named = quoted(alloc, path)?;
+    let why = reason_text(alloc, reason)?;
+    unwritten_for(alloc, form, what, named.as_str(), why.as_str())
+}
+
+/// The note of a file that cannot be examined, by its path in quotation marks and the reason.
+fn unseen_for(alloc: Global, form: LogForm, path: &str, why: &str) -> Result<String, AllocError>
+    ensures line { IfOk result (λ line. string_bytes line ≡ unseen_text form path.now why.now) }
+{
+    let head = count_head(form);
+    format!(in alloc; "{head}the file {path} cannot be examined: {why}\n")
+}
+
+/// The note of a file at a path that cannot be examined.
+fn unseen_line(
+    alloc: Global,
+    form: LogForm,
+    path: &str,
+    reason: io::Error,
+) -> Result<String, AllocError>
+    ensures line { IfOk result (λ line. IsUnseen form path.now (string_bytes line)) }
+{
+    let named = quoted(alloc, path)?;
+    let why = reason_text(alloc, reason)?;
+    unseen_for(alloc, form, named.as_str(), why.as_str())
+}
+
+/// The note of lines of the transfer log that are lost, if some are.
+fn lost_line(alloc: Global, form: LogForm, lost: u64) -> Option<Result<String, AllocError>>
+    ensures noted { is_some result ≡ not (nat_eq lost 0) }
+    ensures line { IfSome result (λ line. IfOk line
+        (λ line. string_bytes line ≡ transfers_text (head_of form) lost)) }
+{
+    if lost == 0 {
+        return None;
+    }
+    Some(transfers_dropped(alloc, count_head(form), lost))
+}
+
 /// Notes without a time, under the head of a warning.
 #[derive(Drop)]
 pub struct PlainNotes {
@@ -93,17 +177,13 @@ impl PlainNotes {
         path: &str,
         reason: io::Error,
     ) {
-        let head = count_head(self.form);
-        let line = format!(in rt.alloc();
-            "{head}the {what} {path:?} cannot be written: {reason}\n"
-        );
+        let line = unwritten_line(rt.alloc(), self.form, what, path, reason);
         self.lines.note(rt, line);
     }
 
     /// Notes that the file of a sign cannot be examined.
     pub fn note_unseen<R: Wait + AllocGlobal>(&self, rt: &R, path: &str, reason: io::Error) {
-        let head = count_head(self.form);
-        let line = format!(in rt.alloc(); "{head}the file {path:?} cannot be examined: {reason}\n");
+        let line = unseen_line(rt.alloc(), self.form, path, reason);
         self.lines.note(rt, line);
     }
 }
@@ -116,7 +196,9 @@ struct NoteOutlet<R: Wait + AllocGlobal> {
 }
 
 // A copy of a line.
-fn copied(alloc: Global, octets: &[u8]) -> Result<String, AllocError> {
+fn copied(alloc: Global, octets: &[u8]) -> Result<String, AllocError>
+    ensures copied { IfOk result (λ line. string_bytes line ≡ octets.now) }
+{
     match str::from_utf8(octets) {
         Ok(text) => String::from_str(alloc, text),
         Err(_) => Err(AllocError),
@@ -129,7 +211,9 @@ impl<R: Wait + AllocGlobal> LineOutlet for NoteOutlet<R> {
     }
 
     // A count is far below the greatest write, so these are a whole line.
-    fn write(&mut self, octets: &[u8], _goes_on: bool) -> usize {
+    fn write(&mut self, octets: &[u8], _goes_on: bool) -> usize
+        ensures whole { result ≡ length octets.now }
+    {
         let line = copied(self.rt.alloc(), octets);
         self.notes.note(&self.rt, line);
         octets.len()
@@ -175,7 +259,10 @@ impl<R: Wait + AllocGlobal> LineOutlet for NotedLog<R> {
         Readiness::Ready
     }
 
-    fn write(&mut self, octets: &[u8], goes_on: bool) -> usize {
+    fn write(&mut self, octets: &[u8], goes_on: bool) -> usize
+        ensures bound { result ≤ length octets.now }
+        ensures noted { self.new.is_noted ≡ nat_eq result 0 }
+    {
         let answer = self.file.append(octets, goes_on);
         self.count(answer)
     }
@@ -190,11 +277,15 @@ impl<R: Wait + AllocGlobal> LineOutlet for NotedLog<R> {
 struct NoOutlet;
 
 impl LineOutlet for NoOutlet {
-    fn readiness(&mut self, _millis: u16) -> Readiness {
+    fn readiness(&mut self, _millis: u16) -> Readiness
+        ensures gone { result ≡ Gone }
+    {
         Readiness::Gone
     }
 
-    fn write(&mut self, _octets: &[u8], _goes_on: bool) -> usize {
+    fn write(&mut self, _octets: &[u8], _goes_on: bool) -> usize
+        ensures nothing { result ≡ 0 }
+    {
         0
     }
 }
@@ -304,6 +395,8 @@ impl LogThreads {
     ) -> Result<LogThreads, ServeFault>
     where
         R: Threads + Wait + Clock + AllocGlobal + Copy + Send + Sync + 'static,
+        ensures form { IfOk result (λ threads. threads.form ≡ form) }
+        ensures logged { IfOk result (λ threads. threads.is_logged ≡ is_some file) }
     {
         let head = count_head(form);
         let notes = LineThread::new(alloc)?;
@@ -328,12 +421,18 @@ impl LogThreads {
     }
 
     /// The form of the notes.
-    pub fn form(&self) -> LogForm {
+    pub fn form(&self) -> LogForm
+        ensures form { result ≡ self.now.form }
+    {
         self.form
     }
 
     /// Notes without a time.
-    pub fn plain_notes(&self) -> Result<PlainNotes, AllocError> {
+    pub fn plain_notes(&self) -> Result<PlainNotes, AllocError>
+        ensures form { IfOk result (λ notes. notes.form ≡ self.now.form) }
+        ensures lines { IfOk result
+            (λ notes. arc_value notes.lines ≡ arc_value (arc_value self.now.notes).lines) }
+    {
         Ok(PlainNotes {
             form: self.form,
             lines: self.notes()?,
@@ -341,12 +440,18 @@ impl LogThreads {
     }
 
     /// The lines of notes.
-    pub fn notes(&self) -> Result<Arc<SharedLines>, AllocError> {
+    pub fn notes(&self) -> Result<Arc<SharedLines>, AllocError>
+        ensures lines { IfOk result
+            (λ lines. arc_value lines ≡ arc_value (arc_value self.now.notes).lines) }
+    {
         Arc::try_clone(&self.notes.lines)
     }
 
     /// The lines of the transfer log, if there is one.
-    pub fn transfers(&self) -> Result<Option<Arc<SharedLines>>, AllocError> {
+    pub fn transfers(&self) -> Result<Option<Arc<SharedLines>>, AllocError>
+        ensures lines { IfOk result (λ lines. option_map arc_value lines ≡ cond self.now.is_logged
+            (Some (arc_value (arc_value self.now.transfers).lines)) None) }
+    {
         if !self.is_logged {
             return Ok(None);
         }
@@ -359,8 +464,7 @@ impl LogThreads {
     pub fn leave<R: Wait + Clock + AllocGlobal>(&self, rt: &R) -> u64 {
         self.transfers.leave(rt);
         let lost = self.transfers.lines.give_up(rt);
-        if lost > 0 {
-            let line = transfers_dropped(rt.alloc(), count_head(self.form), lost);
+        if let Some(line) = lost_line(rt.alloc(), self.form, lost) {
             self.notes.lines.note(rt, line);
         }
         self.notes.leave(rt);

@@ -1,5 +1,7 @@
 //! The thread that serves the status page.
 
+ghost use Rattle.std.specs.Prelude.{◌≡◌, IfOk};
+ghost use Rattle.std.specs.Arc.{arc_value};
 ghost use Rattle.machine_parts.specs.Machine.{IsOwn};
 
 use crate::own_thread::{STACK, ThreadSigns, shared};
@@ -108,6 +110,8 @@ impl PageThread {
     ) -> Result<Arc<PageThread>, ServeFault>
     where
         R: Threads + ServerRuntime + Copy + Send + Sync + 'static,
+        ensures socket { IfOk result (λ page. (arc_value page).socket ≡ socket) }
+        ensures cell { IfOk result (λ page. (arc_value page).cell ≡ cell) }
     {
         let room = WaitingRoom::new(rt.alloc())?;
         let page = shared(

@@ -1,5 +1,8 @@
 //! The running file: the text of the configuration that the server has, and the thread that writes it.
 
+ghost use Rattle.std.specs.Prelude.{◌≡◌};
+ghost use Rattle.std.specs.Result.{is_ok};
+
 use crate::log_thread::PlainNotes;
 use crate::own_thread::{STACK, ThreadSigns, shared};
 use crate::status_file::StatusFile;
@@ -99,7 +102,9 @@ fn noted<R: Wait + AllocGlobal>(
     file: &StatusFile<HostRuntime>,
     notes: &PlainNotes,
     written: io::Result<()>,
-) -> bool {
+) -> bool
+    ensures written { result ≡ is_ok written }
+{
     match written {
         Ok(()) => true,
         Err(reason) => {

@@ -4,8 +4,9 @@ ghost use Rattle.std.specs.Prelude.{◌≡◌, IfErr, IfOk, IfSome, None, Some, 
 ghost use Rattle.std.specs.Fs.{IsDir, file_type};
 ghost use Rattle.std.specs.IoError.{raw_os_error};
 ghost use Rattle.machine_parts.specs.Answers.{group_mode, owner_mode};
-ghost use Rattle.machine_parts.specs.Prepared.{AreSignsAt, IsEndAt, IsLogAt, IsReadyAt, IsSignAt, hindrance_of};
+ghost use Rattle.machine_parts.specs.Prepared.{AreShownAt, AreSignsAt, IsEndAt, IsLogAt, IsPrepared, IsReadyAt, IsSignAt, hindrance_of};
 ghost use Rattle.machine_parts.specs.Starting.{IsFileIf, IsSignFault};
+ghost use Rattle.machine_parts.specs.Unprepared.{HasItsFault, fault_of, fault_of_sign, named_by};
 ghost use Rattle.machine_parts.specs.declared.starting.Hindrance.{Hindrance};
 
 use crate::asked::{AskedService, ReadText, SignPaths, WrittenPaths};
@@ -144,6 +145,7 @@ enum Sign {
 /// Returns the fault of a start whose sign could not be noticed at a path.
 fn sign_fault(sign: Sign, path: String, hindrance: Hindrance) -> StartFault
     ensures fault { IsSignFault sign (string_bytes path) hindrance result }
+    ensures its { fault_of result ≡ fault_of_sign sign }
 {
     match (sign, hindrance) {
         (Sign::Stop, Hindrance::There) => StartFault::StopFileThere { path },
@@ -170,6 +172,7 @@ fn sign_if_any(
     ensures refused { IfErr result (λ fault. IfSome path
         (λ at. (hindrance : Hindrance) × IsSignFault sign (string_bytes at) hindrance fault)) }
     ensures stated { IfErr result (λ _. is_some path ≡ true) }
+    ensures its { IfErr result (λ reason. fault_of reason ≡ fault_of_sign sign) }
 {
     let Some(path) = path else {
         return Ok(None);
@@ -186,6 +189,7 @@ fn end_if_any(
     path: Option<String>,
 ) -> Result<Option<(SignFile, String)>, Unprepared>
     ensures sign { IfOk result (IsEndAt path) }
+    ensures its { IfErr result HasItsFault }
 {
     let sign = part(sign_if_any(machine, Sign::End, path), ServeFault::EndFile)?;
     let Some(sign) = sign else {
@@ -205,6 +209,7 @@ fn ready_if_any(
     path: Option<String>,
 ) -> Result<Option<MachineReadyFile>, StartFault>
     ensures ready { IfOk result (IsReadyAt path) }
+    ensures its { IfErr result (λ reason. fault_of reason ≡ ServeFault.ReadyFile) }
 {
     match path {
         Some(path) => match ready_at(machine, path) {
@@ -219,6 +224,8 @@ fn ready_if_any(
 fn ready_at(machine: &HostRuntime, path: String) -> Result<MachineReadyFile, StartFault>
     ensures path { IfOk result (λ ready. ready.path ≡ path) }
     ensures none { IfOk result (λ ready. ready.is_there ≡ false) }
+    ensures its { IfErr result (λ reason. fault_of reason ≡ ServeFault.ReadyFile) }
+    ensures named { IfErr result (λ reason. named_by reason ≡ Some (string_bytes path)) }
 {
     match hindrance_at(machine, path.as_str()) {
         Some(Hindrance::There) => Err(StartFault::ReadyFileThere { path }),
@@ -234,6 +241,7 @@ fn ready_at(machine: &HostRuntime, path: String) -> Result<MachineReadyFile, Sta
 /// Returns the transfer log at a path, if there is to be one. `Err` if its file cannot be opened.
 fn log_at(machine: &HostRuntime, path: Option<String>) -> Result<Option<LogFile>, StartFault>
     ensures log { IfOk result (IsLogAt path) }
+    ensures its { IfErr result (λ reason. fault_of reason ≡ ServeFault.TransferLog) }
 {
     match path {
         None => Ok(None),
@@ -244,21 +252,30 @@ fn log_at(machine: &HostRuntime, path: Option<String>) -> Result<Option<LogFile>
     }
 }
 
-/// Returns the fault of a start whose folder is not there, if it is not.
-fn folder_fault(machine: &HostRuntime, store: &ServedStore) -> Option<StartFault> {
+/// Fails if the folder of a store is not there.
+fn check_folder(machine: &HostRuntime, store: &ServedStore) -> Result<(), Unprepared>
+    ensures its { IfErr result HasItsFault }
+{
     let ServedStore::Folder(folder) = store else {
-        return None;
+        return Ok(());
     };
-    let reason = no_folder(machine, folder.as_str())?;
+    let Some(reason) = no_folder(machine, folder.as_str()) else {
+        return Ok(());
+    };
     match String::from_str(machine.alloc(), folder.as_str()) {
-        Ok(path) => Some(StartFault::Folder { path, reason }),
-        Err(_) => None,
+        Ok(path) => Err(not_prepared(ServeFault::Store, StartFault::Folder { path, reason })),
+        Err(_) => Err(Unprepared {
+            fault: ServeFault::Memory,
+            start: None,
+        }),
     }
 }
 
 /// Returns the path of a status, at which nothing else is. `Err` if there is.
 fn status_path(machine: &HostRuntime, path: String) -> Result<String, StartFault>
     ensures path { IfOk result (λ same. same ≡ path) }
+    ensures its { IfErr result (λ reason. fault_of reason ≡ ServeFault.StatusFile) }
+    ensures named { IfErr result (λ reason. named_by reason ≡ Some (string_bytes path)) }
 {
     let mut octets = [0; FRONT];
     match found_at(machine, path.as_str(), &mut octets) {
@@ -271,6 +288,8 @@ fn status_path(machine: &HostRuntime, path: String) -> Result<String, StartFault
 /// Returns the path of a transfer log, at which nothing else is. `Err` if there is.
 fn log_path(machine: &HostRuntime, path: String) -> Result<String, StartFault>
     ensures path { IfOk result (λ same. same ≡ path) }
+    ensures its { IfErr result (λ reason. fault_of reason ≡ ServeFault.TransferLog) }
+    ensures named { IfErr result (λ reason. named_by reason ≡ Some (string_bytes path)) }
 {
     let mut octets = [0; FRONT];
     match found_at(machine, path.as_str(), &mut octets) {
@@ -281,7 +300,9 @@ fn log_path(machine: &HostRuntime, path: String) -> Result<String, StartFault>
 }
 
 /// Fails if two paths of a service are those of one file.
-fn check_twins(machine: &HostRuntime, service: &AskedService) -> Result<(), Unprepared> {
+fn check_twins(machine: &HostRuntime, service: &AskedService) -> Result<(), Unprepared>
+    ensures its { IfErr result HasItsFault }
+{
     match twin_of(machine, machine.alloc(), service) {
         Ok(None) => Ok(()),
         Ok(Some(path)) => Err(not_prepared(ServeFault::OnePath, StartFault::OnePath { path })),
@@ -298,6 +319,7 @@ fn status_at(
     paths: Option<(String, String)>,
 ) -> Result<Option<StatusFile<HostRuntime>>, StartFault>
     ensures file { IfOk result (IsFileIf group_mode paths) }
+    ensures its { IfErr result (λ reason. fault_of reason ≡ ServeFault.StatusFile) }
 {
     let Some((path, beside)) = paths else {
         return Ok(None);
@@ -334,6 +356,7 @@ fn page_at<R>(rt: &R, port: Option<u16>) -> Result<Option<PageSocket>, StartFaul
 where
     R: Net<Listener = TcpListener, Stream = TcpStream>,
     ensures page { IfOk result (λ page. is_some page ≡ is_some port) }
+    ensures its { IfErr result (λ reason. fault_of reason ≡ ServeFault.StatusPort) }
 {
     let Some(port) = port else {
         return Ok(None);
@@ -347,6 +370,7 @@ where
 /// Returns the signs at these paths. `Err` says what could not be had.
 fn signs_at(machine: &HostRuntime, paths: SignPaths) -> Result<Signs, Unprepared>
     ensures signs { IfOk result (AreSignsAt paths) }
+    ensures its { IfErr result HasItsFault }
 {
     let SignPaths {
         stop,
@@ -372,32 +396,27 @@ fn signs_at(machine: &HostRuntime, paths: SignPaths) -> Result<Signs, Unprepared
     })
 }
 
-/// Returns what shows the state, and the transfer log, at these paths and this port. `Err` says what could not be had.
+/// Returns what shows the state at these paths and this port. `Err` says what could not be had.
 fn shown_at<R>(
     rt: &R,
     machine: &HostRuntime,
-    written: WrittenPaths,
+    running: Option<(String, String)>,
+    status: Option<(String, String)>,
     port: Option<u16>,
-) -> Result<(Shown, Option<LogFile>), Unprepared>
+) -> Result<Shown, Unprepared>
 where
     R: Net<Listener = TcpListener, Stream = TcpStream>,
+    ensures shown { IfOk result (AreShownAt running status port) }
+    ensures its { IfErr result HasItsFault }
 {
-    let WrittenPaths {
-        ready: _,
-        log,
-        status,
-        running,
-    } = written;
     let running = running_at(machine, running);
     let status = part(status_at(machine, status), ServeFault::StatusFile)?;
     let page = part(page_at(rt, port), ServeFault::StatusPort)?;
-    let log = part(log_at(machine, log), ServeFault::TransferLog)?;
-    let shown = Shown {
+    Ok(Shown {
         running,
         status,
         page,
-    };
-    Ok((shown, log))
+    })
 }
 
 /// Prepares a service. `Err` says what could not be had.
@@ -408,31 +427,35 @@ pub fn prepare<R>(
 ) -> Result<Prepared, Unprepared>
 where
     R: Net<Listener = TcpListener, Stream = TcpStream>,
+    ensures prepared { IfOk result (IsPrepared service) }
+    ensures its { IfErr result HasItsFault }
 {
     check_twins(machine, &service)?;
     let AskedService {
         read,
         signs,
-        mut written,
+        written,
         log_form,
         status_port,
         syncs,
         user_sessions,
         patience,
     } = service;
+    let WrittenPaths {
+        ready,
+        log,
+        status,
+        running,
+    } = written;
     let form = part(form_named(log_form), ServeFault::LogForm)?;
     let user_sessions = part(sessions_in(user_sessions), ServeFault::UserSessions)?;
     check_options(patience, &read, &signs)?;
     let read = warned(read, syncs, user_sessions)?;
     let signs = signs_at(machine, signs)?;
-    let ready = part(
-        ready_if_any(machine, written.ready.take()),
-        ServeFault::ReadyFile,
-    )?;
-    if let Some(start) = folder_fault(machine, &read.config.store) {
-        return Err(not_prepared(ServeFault::Store, start));
-    }
-    let (shown, log) = shown_at(rt, machine, written, status_port)?;
+    let ready = part(ready_if_any(machine, ready), ServeFault::ReadyFile)?;
+    check_folder(machine, &read.config.store)?;
+    let shown = shown_at(rt, machine, running, status, status_port)?;
+    let log = part(log_at(machine, log), ServeFault::TransferLog)?;
     let means = Means {
         read,
         signs,

@@ -3,6 +3,7 @@
 ghost use Rattle.std.specs.Prelude.{◌≡◌, ◌++◌, ℕ, false, IfErr, IfOk, MatchResult, OnOk, Ok, Err, Some, None, option_map, string_bytes};
 ghost use Rattle.std.specs.Result.{result_ok};
 ghost use Rattle.machine_parts.specs.Starting.{IsContradiction, ReadsInputAgain, StateSessions, drains_nothing, form_of, idle_line, idle_lines};
+ghost use Rattle.machine_parts.specs.Unprepared.{HasItsFault, fault_of};
 
 use crate::asked::{ReadText, SignPaths};
 use client_patience::Patience;
@@ -36,6 +37,7 @@ pub(crate) fn not_prepared(fault: ServeFault, start: StartFault) -> Unprepared
 pub(crate) fn part<T>(made: Result<T, StartFault>, fault: ServeFault) -> Result<T, Unprepared>
     ensures part { MatchResult made (λ part. result ≡ Ok part)
         (λ start. result ≡ Err (record { fault = fault; start = Some start })) }
+    ensures its { IfErr made (λ start. fault_of start ≡ fault) → IfErr result HasItsFault }
 {
     match made {
         Ok(part) => Ok(part),
@@ -47,6 +49,7 @@ pub(crate) fn part<T>(made: Result<T, StartFault>, fault: ServeFault) -> Result<
 pub(crate) fn form_named(name: Option<String>) -> Result<LogForm, StartFault>
     ensures form { result_ok result ≡ form_of (option_map string_bytes name) }
     ensures refused { IfErr result (λ fault. option_map StartFault.UnknownForm name ≡ Some fault) }
+    ensures fault { IfErr result (λ reason. fault_of reason ≡ ServeFault.LogForm) }
 {
     let Some(word) = name else {
         return Ok(LogForm::Plain);
@@ -63,6 +66,7 @@ pub(crate) fn sessions_in(word: Option<String>) -> Result<u32, StartFault>
     ensures sessions { IfOk result (StateSessions (option_map string_bytes word)) }
     ensures refused { IfErr result (λ fault. (option_map StartFault.NoSessions word ≡ Some fault)
         × ((n : ℕ) → StateSessions (option_map string_bytes word) n → ⊥)) }
+    ensures fault { IfErr result (λ reason. fault_of reason ≡ ServeFault.UserSessions) }
 {
     let Some(word) = word else {
         return Ok(0);
@@ -93,6 +97,7 @@ fn with_idle(
 ) -> Result<String, Unprepared>
     ensures lines { IfOk result (λ text. string_bytes text ≡ string_bytes warnings
         ++ idle_lines config.now.store syncs user_sessions config.now.numbers.max_cons) }
+    ensures fault { IfErr result HasItsFault }
 {
     let mut warnings = warnings;
     let is_in_memory = matches!(&config.store, ServedStore::Memory(_));
@@ -119,6 +124,7 @@ pub(crate) fn check_options(
     ensures drains { OnOk result (drains_nothing patience signs.now ≡ false) }
     ensures reads { OnOk result (ReadsInputAgain read.now signs.now → ⊥) }
     ensures refused { IfErr result (IsContradiction patience read.now signs.now) }
+    ensures fault { IfErr result HasItsFault }
 {
     if is_for_nothing(patience, signs.drain.is_some()) {
         return Err(not_prepared(ServeFault::DrainSeconds, StartFault::NothingDrains));
@@ -141,6 +147,7 @@ pub(crate) fn warned(
     ensures warnings { IfOk result
         (λ text. string_bytes text.warnings ≡ string_bytes read.warnings
         ++ idle_lines read.config.store syncs user_sessions read.config.numbers.max_cons) }
+    ensures fault { IfErr result HasItsFault }
 {
     let ReadText {
         path,

@@ -1,10 +1,13 @@
 //! The thread that writes the status file.
 
+ghost use Rattle.std.specs.Prelude.{◌≡◌, false, MatchResult, true};
+
 use crate::log_thread::PlainNotes;
 use crate::own_thread::{STACK, ThreadSigns, shared};
 use crate::status_file::StatusFile;
 use ftpd_program::ServeFault;
 use std::alloc::Global;
+use std::io;
 use std::sync::{Arc, Mutex, Wait};
 use std::thread::{Builder, Threads};
 use std::time::Clock;
@@ -64,15 +67,10 @@ impl StatusWriter {
                 return;
             }
             match self.next(rt) {
-                Some(text) => match file.write(text.as_bytes()) {
-                    Ok(()) => is_noted = false,
-                    Err(reason) => {
-                        if !is_noted {
-                            notes.note_unwritten(rt, "status file", file.path(), reason);
-                        }
-                        is_noted = true;
-                    }
-                },
+                Some(text) => {
+                    let written = file.write(text.as_bytes());
+                    is_noted = noted(rt, &file, notes, is_noted, written);
+                }
                 None => self.signs.wait(rt, seen),
             }
         }
@@ -92,5 +90,27 @@ impl StatusWriter {
     /// Has the file removed, and waits for the end of the thread, at most a second.
     pub fn leave<R: Wait + Clock>(&self, rt: &R) {
         self.signs.leave(rt);
+    }
+}
+
+// Notes the machine's reason for which a text was not written, unless that of an earlier one is noted. Returns whether one
+// is noted now, until a text is written.
+fn noted<R: Wait + AllocGlobal>(
+    rt: &R,
+    file: &StatusFile<HostRuntime>,
+    notes: &PlainNotes,
+    is_noted: bool,
+    written: io::Result<()>,
+) -> bool
+    ensures noted { MatchResult written (λ _. result ≡ false) (λ _. result ≡ true) }
+{
+    match written {
+        Ok(()) => false,
+        Err(reason) => {
+            if !is_noted {
+                notes.note_unwritten(rt, "status file", file.path(), reason);
+            }
+            true
+        }
     }
 }

@@ -1,11 +1,12 @@
 //! The threads that own files and sockets of the machine for a server.
 
-ghost use Rattle.std.specs.Prelude.{◌≡◌, IfOk, option_map};
+ghost use Rattle.std.specs.Prelude.{◌≡◌, IfOk, is_some, option_map};
 ghost use Rattle.std.specs.Arc.{arc_value};
+ghost use Rattle.machine_parts.specs.OwnThreads.{AreStarted, IsReader, IsServed};
 
 use crate::config_thread::ConfigReader;
 use crate::log_thread::{LogThreads, PlainNotes};
-use crate::page_thread::PageThread;
+use crate::page_thread::{PageSocket, PageThread};
 use crate::running_file::RunningWriter;
 use crate::starting::Shown;
 use crate::status_file::StatusFile;
@@ -56,7 +57,9 @@ pub fn another<T>(thread: &Option<Arc<T>>) -> Result<Option<Arc<T>>, AllocError>
 fn with_notes(
     written: Option<StatusFile<HostRuntime>>,
     log: &LogThreads,
-) -> Result<Option<(StatusFile<HostRuntime>, PlainNotes)>, AllocError> {
+) -> Result<Option<(StatusFile<HostRuntime>, PlainNotes)>, AllocError>
+    ensures file { IfOk result (λ both. option_map (λ both. both.0) both ≡ written) }
+{
     match written {
         Some(file) => Ok(Some((file, log.plain_notes()?))),
         None => Ok(None),
@@ -72,53 +75,75 @@ fn reader_of<R>(
 ) -> Result<Option<Arc<ConfigReader>>, ServeFault>
 where
     R: Threads + ServerRuntime + Copy + Send + Sync + 'static,
+    ensures reader { IfOk result (IsReader removes path) }
 {
     match path {
-        Some(path) => Ok(Some(ConfigReader::start(rt, machine, path, removes)?)),
+        Some(path) => {
+            let reader = ConfigReader::start(rt, machine, path, removes)?;
+            Ok(Some(reader))
+        }
         None => Ok(None),
     }
 }
 
-// The threads of what shows the state of a server.
-struct ShowingThreads {
-    running: Option<Arc<RunningWriter>>,
-    status: Option<Arc<StatusWriter>>,
-    page: Option<Arc<PageThread>>,
-}
-
-// Starts the threads of what shows the state of a server.
-fn showing<R>(
+// Starts the thread that writes the running file, if there is to be one.
+fn running_of<R>(
     rt: &R,
     machine: &HostRuntime,
-    shown: Shown,
+    file: Option<StatusFile<HostRuntime>>,
     log: &LogThreads,
-    cell: Arc<StatusCell>,
-) -> Result<ShowingThreads, ServeFault>
+) -> Result<Option<Arc<RunningWriter>>, ServeFault>
 where
     R: Threads + ServerRuntime + Copy + Send + Sync + 'static,
+    ensures running { IfOk result (λ thread. is_some thread ≡ is_some file) }
 {
-    let Shown {
-        running,
-        status,
-        page,
-    } = shown;
-    let running = match with_notes(running, log)? {
-        Some((file, notes)) => Some(RunningWriter::start(rt, machine.alloc(), file, notes)?),
-        None => None,
-    };
-    let status = match with_notes(status, log)? {
-        Some((file, notes)) => Some(StatusWriter::start(rt, machine.alloc(), file, notes)?),
-        None => None,
-    };
-    let page = match page {
-        Some(socket) => Some(PageThread::start(rt, machine, socket, cell)?),
-        None => None,
-    };
-    Ok(ShowingThreads {
-        running,
-        status,
-        page,
-    })
+    match with_notes(file, log)? {
+        Some((file, notes)) => {
+            let writer = RunningWriter::start(rt, machine.alloc(), file, notes)?;
+            Ok(Some(writer))
+        }
+        None => Ok(None),
+    }
+}
+
+// Starts the thread that writes the status file, if there is to be one.
+fn status_of<R>(
+    rt: &R,
+    machine: &HostRuntime,
+    file: Option<StatusFile<HostRuntime>>,
+    log: &LogThreads,
+) -> Result<Option<Arc<StatusWriter>>, ServeFault>
+where
+    R: Threads + ServerRuntime + Copy + Send + Sync + 'static,
+    ensures status { IfOk result (λ thread. is_some thread ≡ is_some file) }
+{
+    match with_notes(file, log)? {
+        Some((file, notes)) => {
+            let writer = StatusWriter::start(rt, machine.alloc(), file, notes)?;
+            Ok(Some(writer))
+        }
+        None => Ok(None),
+    }
+}
+
+// Starts the thread that serves the status page from a cell, if there is to be one.
+fn page_of<R>(
+    rt: &R,
+    machine: &HostRuntime,
+    socket: Option<PageSocket>,
+    cell: Arc<StatusCell>,
+) -> Result<Option<Arc<PageThread>>, ServeFault>
+where
+    R: Threads + ServerRuntime + Copy + Send + Sync + 'static,
+    ensures page { IfOk result (IsServed cell socket) }
+{
+    match socket {
+        Some(socket) => {
+            let page = PageThread::start(rt, machine, socket, cell)?;
+            Ok(Some(page))
+        }
+        None => Ok(None),
+    }
 }
 
 impl OwnThreads {
@@ -134,15 +159,19 @@ impl OwnThreads {
     ) -> Result<OwnThreads, ServeFault>
     where
         R: Threads + ServerRuntime + Copy + Send + Sync + 'static,
+        ensures started { IfOk result (AreStarted read shown cell) }
     {
         let ReadPaths { config, end } = read;
-        let reader = reader_of(rt, machine, config, false)?;
-        let ender = reader_of(rt, machine, end, true)?;
-        let ShowingThreads {
+        let Shown {
             running,
             status,
             page,
-        } = showing(rt, machine, shown, log, cell)?;
+        } = shown;
+        let reader = reader_of(rt, machine, config, false)?;
+        let ender = reader_of(rt, machine, end, true)?;
+        let running = running_of(rt, machine, running, log)?;
+        let status = status_of(rt, machine, status, log)?;
+        let page = page_of(rt, machine, page, cell)?;
         Ok(OwnThreads {
             reader,
             running,

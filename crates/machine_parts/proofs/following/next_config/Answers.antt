@@ -6,20 +6,20 @@ use Rattle.machine_parts.proofs.following.next_config.Goals as goal
 
 pub returns-in-Some-clause-refused : goal.returns-in-Some-clause-refused
 returns-in-Some-clause-refused c =
-    hindered c.args.octets.now c.args.at_start.now c.args.known.now c.in_ok-read.read c.in_ok-read.ensures.config
+    hindered c.args.path.now c.args.octets.now c.args.at_start.now c.args.known.now c.in_ok-read.read c.in_ok-read.ensures.config
     (option_map string_bytes c.in-Some.reason) c.in-Some.ensures.hindrance
 
 pub returns-in_err-config-clause-refused : goal.returns-in_err-config-clause-refused
 returns-in_err-config-clause-refused c =
-    let not : IsNotTaken c.args.octets.now c.args.at_start.now c.args.known.now (option_map string_bytes c.in_err-config.field-0.0) =
-    unnumbered c.args.octets.now c.args.at_start.now c.args.known.now c.in_ok-read.read c.in_ok-read.ensures.config c.in_default.ensures.hindrance
+    let not : IsNotTaken c.args.path.now c.args.octets.now c.args.at_start.now c.args.known.now (option_map string_bytes c.in_err-config.field-0.0) =
+    unnumbered c.args.path.now c.args.octets.now c.args.at_start.now c.args.known.now c.in_ok-read.read c.in_ok-read.ensures.config c.in_default.ensures.hindrance
     (option_map string_bytes c.in_err-config.field-0.0) c.in_err-config.ensures.refused in
     search (rules, not)
 
 pub returns-in_err-limits-clause-refused : goal.returns-in_err-limits-clause-refused
 returns-in_err-limits-clause-refused c =
-    let not : IsNotTaken c.args.octets.now c.args.at_start.now c.args.known.now (option_map string_bytes c.in_err-limits.field-0.0) =
-    past-fault c.args.octets.now c.args.at_start.now c.args.known.now c.in_ok-read.read c.in_ok-read.ensures.config c.in_default.ensures.hindrance
+    let not : IsNotTaken c.args.path.now c.args.octets.now c.args.at_start.now c.args.known.now (option_map string_bytes c.in_err-limits.field-0.0) =
+    past-fault c.args.path.now c.args.octets.now c.args.at_start.now c.args.known.now c.in_ok-read.read c.in_ok-read.ensures.config c.in_default.ensures.hindrance
     c.in_ok-config.config c.in_ok-config.ensures.numbered (option_map string_bytes c.in_err-limits.field-0.0) c.in_err-limits.ensures.refused in
     search (rules, not)
 

@@ -5,9 +5,9 @@ ghost use Rattle.ftp_daemon.specs.Draining.{due_by};
 
 use client_patience::Patience;
 
-/// The next stage of a server.
+/// The next step of a server to its end.
 #[derive(Clone, Copy, Debug, PartialEq, Eq)]
-pub(crate) enum Due {
+pub(crate) enum EndStep {
     Nothing,
     /// To drain.
     Drain,
@@ -17,8 +17,8 @@ pub(crate) enum Due {
     Cut,
 }
 
-/// Returns the next stage of a server at this moment: if it is to end by its owner, if it is to drain by them, with the
-/// moment since which it drains, if it does, and with the number of its clients.
+/// Returns the next step of a server to its end, at this moment: if it is to end by its owner, if it is to drain by
+/// them, with the moment since which it drains, if it does, and with the number of its clients.
 pub(crate) fn next_due(
     is_up: bool,
     is_to_drain: bool,
@@ -26,27 +26,27 @@ pub(crate) fn next_due(
     clients: usize,
     now: u64,
     patience: Patience,
-) -> Due
+) -> EndStep
     ensures due { result ≡ due_by is_up is_to_drain since clients now patience }
 {
     if is_up {
-        return Due::End;
+        return EndStep::End;
     }
     match since {
         None => {
             if is_to_drain {
-                Due::Drain
+                EndStep::Drain
             } else {
-                Due::Nothing
+                EndStep::Nothing
             }
         }
         Some(since) => {
             if clients == 0 {
-                Due::End
+                EndStep::End
             } else if patience.has_drained(since, now) {
-                Due::Cut
+                EndStep::Cut
             } else {
-                Due::Nothing
+                EndStep::Nothing
             }
         }
     }

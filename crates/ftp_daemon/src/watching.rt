@@ -5,7 +5,7 @@ ghost use Rattle.ftp_daemon.specs.Reloading.{IsAllowed};
 ghost use Rattle.ftp_daemon.specs.SameRates.{Permits};
 ghost use Rattle.line_rates.specs.Rates.{Rates};
 
-use crate::draining::{Due, next_due};
+use crate::draining::{EndStep, next_due};
 use crate::ending_sessions::{EndSign, end_sessions};
 use crate::last_waits::{LanesAtWork, TELLS, is_told, waited_for};
 use crate::reloading::{ReloadFault, ReloadSign, take};
@@ -154,7 +154,7 @@ fn begin<R, S, H, B>(
     rt: &R,
     house: &House<S, H, B>,
     bell: &DoorBell,
-    due: Due,
+    due: EndStep,
     clients: usize,
 ) -> bool
 where
@@ -165,8 +165,8 @@ where
 {
     let clients = clients as u64;
     match due {
-        Due::Nothing => return false,
-        Due::Drain => {
+        EndStep::Nothing => return false,
+        EndStep::Drain => {
             house.ending.begin(ShutdownStage::Drain);
             house
                 .handler
@@ -174,8 +174,8 @@ where
                 .on_server(ServerEvent::Drains(clients));
             return false;
         }
-        Due::End => {}
-        Due::Cut => house
+        EndStep::End => {}
+        EndStep::Cut => house
             .handler
             .lock(rt)
             .on_server(ServerEvent::DrainTimedOut(clients)),
@@ -275,7 +275,7 @@ where
             now,
             house.patience,
         );
-        if next == Due::Drain {
+        if next == EndStep::Drain {
             drained = Some(now);
         }
         if begin(rt, house, bell, next, clients) {

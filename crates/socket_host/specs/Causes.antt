@@ -9,10 +9,10 @@ use Rattle.session_table.specs.declared.inputs.End.{End}
 use Rattle.session_table.specs.declared.inputs.Input.{Input}
 use Rattle.session_table.specs.declared.inputs.Input.TheVariants.{TransferEnded}
 use Rattle.session_table.specs.declared.inputs.End.TheVariants.{Done, Lost, Local, Full, NoConnection, NoMemory, Aborted}
-use Rattle.socket_host.specs.declared.running.Prepared.{Prepared}
-use Rattle.socket_host.specs.declared.running.Prepared.TheVariants as prepared
-use Rattle.socket_host.specs.declared.running.Running.{Running}
-use Rattle.socket_host.specs.declared.running.Running.TheVariants as running
+use Rattle.socket_host.specs.declared.running.Preparation.{Preparation}
+use Rattle.socket_host.specs.declared.running.Preparation.TheVariants as prepared
+use Rattle.socket_host.specs.declared.running.SideTransfer.{SideTransfer}
+use Rattle.socket_host.specs.declared.running.SideTransfer.TheVariants as running
 
 -- the reason for the end that a lane reports, with the connection's last error
 abbrev pub cause_of : Bool → End → Option Error → Option EndCause
@@ -31,7 +31,7 @@ absence None = cause.NoClient
 absence (Some error) = cause.NotAccepted error
 
 -- with nothing prepared the transfer ends at once, for that reason
-abbrev pub StartCause : Prepared → Option EndCause → Type 0
+abbrev pub StartCause : Preparation → Option EndCause → Type 0
 StartCause prepared.Nothing new = new ≡ Some cause.NothingPrepared
 StartCause (prepared.Listening port) new = ⊤
 StartCause (prepared.Target to) new = ⊤
@@ -43,7 +43,7 @@ MovedCause false end new = (fault : Option Error) × (new ≡ cause_of false end
 
 module _ {R K : Type 0} where
   -- an aborted transfer that is over by that
-  abbrev pub AbortedCause : Running R K → Option EndCause → Option EndCause → Type 0
+  abbrev pub AbortedCause : SideTransfer R K → Option EndCause → Option EndCause → Type 0
   AbortedCause running.Nothing old new = new ≡ old
   AbortedCause (running.Awaited port job since) old new = new ≡ old
   AbortedCause (running.Connecting outgoing job since) old new = new ≡ old
@@ -52,7 +52,7 @@ module _ {R K : Type 0} where
 
   -- a transfer without a connection ends by the abort itself, as does one that no lane has begun
   abbrev pub AbortCause
-      : Running R K → Running R K → Option EndCause → Option EndCause → Type 0
+      : SideTransfer R K → SideTransfer R K → Option EndCause → Option EndCause → Type 0
   AbortCause running.Nothing after old new = new ≡ old
   AbortCause (running.Awaited port job since) after old new = new ≡ Some cause.Aborted
   AbortCause (running.Connecting outgoing job since) after old new = new ≡ Some cause.Aborted
@@ -60,7 +60,7 @@ module _ {R K : Type 0} where
   AbortCause (running.Over reported) after old new = new ≡ old
 
   -- a transfer without a connection may end for a reason of its own
-  abbrev pub GoesCause : Running R K → Option EndCause → Option EndCause → Type 0
+  abbrev pub GoesCause : SideTransfer R K → Option EndCause → Option EndCause → Type 0
   GoesCause running.Nothing old new = new ≡ old
   GoesCause (running.Awaited port job since) old new = ⊤
   GoesCause (running.Connecting outgoing job since) old new = ⊤
@@ -69,7 +69,7 @@ module _ {R K : Type 0} where
 
   -- the reason for the end that is taken
   abbrev pub TakenCause
-      : Running R K → Option (TransferEnd K) → Option EndCause → Option EndCause → Type 0
+      : SideTransfer R K → Option (TransferEnd K) → Option EndCause → Option EndCause → Type 0
   TakenCause running.Nothing end old new = new ≡ old
   TakenCause (running.Awaited port job since) end old new = new ≡ old
   TakenCause (running.Connecting outgoing job since) end old new = new ≡ old
@@ -80,7 +80,7 @@ module _ {R K : Type 0} where
 
   -- the reason for the end that a look reports
   abbrev pub LookCause
-      : Running R K → Option (Input Global K) → Option EndCause → Option EndCause → Type 0
+      : SideTransfer R K → Option (Input Global K) → Option EndCause → Option EndCause → Type 0
   LookCause running.Nothing event old new = new ≡ old
   LookCause (running.Awaited port job since) event old new = ⊤
   LookCause (running.Connecting outgoing job since) event old new = ⊤

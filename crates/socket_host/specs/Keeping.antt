@@ -5,10 +5,10 @@ use Rattle.server_house.specs.Ports.{may_keep_ports}
 use Rattle.session_table.specs.declared.inputs.End.TheVariants.{NoConnection, NoMemory}
 use Rattle.socket_host.specs.declared.keeping.KeptPort.{KeptPort}
 use Rattle.socket_host.specs.declared.ports.LeasedPort.{LeasedPort}
-use Rattle.socket_host.specs.declared.running.Prepared.{Prepared}
-use Rattle.socket_host.specs.declared.running.Prepared.TheVariants as prepared
-use Rattle.socket_host.specs.declared.running.Running.{Running}
-use Rattle.socket_host.specs.declared.running.Running.TheVariants as running
+use Rattle.socket_host.specs.declared.running.Preparation.{Preparation}
+use Rattle.socket_host.specs.declared.running.Preparation.TheVariants as prepared
+use Rattle.socket_host.specs.declared.running.SideTransfer.{SideTransfer}
+use Rattle.socket_host.specs.declared.running.SideTransfer.TheVariants as running
 
 -- a session that accepts connections of its peer alone keeps its port, if there are enough for all
 abbrev pub may_keep : ServerNumbers → Option (List ℕ) → Bool
@@ -32,7 +32,7 @@ closed_after kept port = cond kept.keeps kept.at (Some port)
 module _ {R K : Type 0} where
   -- after a look for the client at a port: this one is kept if the client has connected, also if
   -- there was no memory for its transfer
-  abbrev pub Keeps : KeptPort → LeasedPort → Running R K → KeptPort → Type 0
+  abbrev pub Keeps : KeptPort → LeasedPort → SideTransfer R K → KeptPort → Type 0
   Keeps old port running.Nothing new = ⊥
   Keeps old port (running.Awaited at job since) new = new ≡ old
   Keeps old port (running.Connecting outgoing job since) new = ⊥
@@ -42,13 +42,13 @@ module _ {R K : Type 0} where
       × (reported.end ≡ NoConnection → new ≡ old)
 
   -- a transfer over what was prepared
-  abbrev pub StartKeeps : Prepared → KeptPort → Running R K → KeptPort → Type 0
+  abbrev pub StartKeeps : Preparation → KeptPort → SideTransfer R K → KeptPort → Type 0
   StartKeeps prepared.Nothing old run new = new ≡ old
   StartKeeps (prepared.Target to) old run new = new ≡ old
   StartKeeps (prepared.Listening port) old run new = Keeps old port run new
 
   -- only a transfer that awaits its client changes what is kept
-  abbrev pub GoesKeeps : Running R K → KeptPort → Running R K → KeptPort → Type 0
+  abbrev pub GoesKeeps : SideTransfer R K → KeptPort → SideTransfer R K → KeptPort → Type 0
   GoesKeeps running.Nothing old run new = new ≡ old
   GoesKeeps (running.Awaited port job since) old run new =
       Keeps old port run new
@@ -57,14 +57,14 @@ module _ {R K : Type 0} where
   GoesKeeps (running.Over reported) old run new = new ≡ old
 
   -- after a look whose end is taken too
-  abbrev pub KeepsOrEnds : KeptPort → LeasedPort → Running R K → KeptPort → Type 0
+  abbrev pub KeepsOrEnds : KeptPort → LeasedPort → SideTransfer R K → KeptPort → Type 0
   KeepsOrEnds old port running.Nothing new = (new ≡ old) ⊎ (new ≡ kept_after old port)
   KeepsOrEnds old port (running.Awaited at job since) new = new ≡ old
   KeepsOrEnds old port (running.Connecting outgoing job since) new = ⊥
   KeepsOrEnds old port (running.Moving connection is_aborted) new = new ≡ kept_after old port
   KeepsOrEnds old port (running.Over reported) new = ⊥
 
-  abbrev pub LookKeeps : Running R K → KeptPort → Running R K → KeptPort → Type 0
+  abbrev pub LookKeeps : SideTransfer R K → KeptPort → SideTransfer R K → KeptPort → Type 0
   LookKeeps running.Nothing old run new = new ≡ old
   LookKeeps (running.Awaited port job since) old run new =
       KeepsOrEnds old port run new

@@ -15,10 +15,10 @@ use Rattle.socket_host.specs.Jobs.{sink_in, sink_of}
 use Rattle.socket_host.specs.declared.ports.LeasedPort.{LeasedPort}
 use Rattle.socket_host.specs.declared.run.Taken.{Taken}
 use Rattle.socket_host.specs.declared.run.Taken.TheVariants as taken
-use Rattle.socket_host.specs.declared.running.Prepared.{Prepared}
-use Rattle.socket_host.specs.declared.running.Prepared.TheVariants as prepared
-use Rattle.socket_host.specs.declared.running.Running.{Running}
-use Rattle.socket_host.specs.declared.running.Running.TheVariants as running
+use Rattle.socket_host.specs.declared.running.Preparation.{Preparation}
+use Rattle.socket_host.specs.declared.running.Preparation.TheVariants as prepared
+use Rattle.socket_host.specs.declared.running.SideTransfer.{SideTransfer}
+use Rattle.socket_host.specs.declared.running.SideTransfer.TheVariants as running
 use Rattle.socket_host.specs.declared.waiting.Beside.{Beside}
 use Rattle.socket_host.specs.declared.waiting.Beside.TheVariants.{Look, Read}
 use Rattle.transfer_ticket.specs.Tickets.{asking, begun, tried}
@@ -27,18 +27,18 @@ use Rattle.transfer_ticket.specs.declared.view.TicketView.TheVariants.{Away, Mis
 use Rattle.transfer_worker.specs.declared.job.LaneJob.{LaneJob}
 
 -- the port that is listened on
-abbrev pub port_in : Prepared → Option ℕ
+abbrev pub port_in : Preparation → Option ℕ
 port_in prepared.Nothing = None
 port_in (prepared.Listening port) = Some port.number
 port_in (prepared.Target to) = None
 
-abbrev pub listened_in : Prepared → Option LeasedPort
+abbrev pub listened_in : Preparation → Option LeasedPort
 listened_in prepared.Nothing = None
 listened_in (prepared.Listening port) = Some port
 listened_in (prepared.Target to) = None
 
 -- a port is listened on, or nothing is prepared
-abbrev pub IsNoTarget : Prepared → Type 0
+abbrev pub IsNoTarget : Preparation → Type 0
 IsNoTarget prepared.Nothing = ⊤
 IsNoTarget (prepared.Listening port) = ⊤
 IsNoTarget (prepared.Target to) = ⊥
@@ -90,7 +90,7 @@ Ticket R K = TicketView (LaneJob (Served Global R) K DataConnection)
 
 module _ {R K : Type 0} where
   -- a transfer that ends before it ran; the sink of an upload comes back
-  abbrev pub over : End → Job Global R K → Running R K
+  abbrev pub over : End → Job Global R K → SideTransfer R K
   over end job = running.Over (record {
     end = end;
     sink = sink_in job;
@@ -98,7 +98,7 @@ module _ {R K : Type 0} where
   })
 
   -- a transfer that was taken back before a lane had begun it
-  abbrev pub taken_back : LaneJob (Served Global R) K DataConnection → Running R K
+  abbrev pub taken_back : LaneJob (Served Global R) K DataConnection → SideTransfer R K
   taken_back job = running.Over (record {
     end = Aborted;
     sink = sink_of job;
@@ -106,7 +106,7 @@ module _ {R K : Type 0} where
   })
 
   -- something was begun whose end is not reported
-  abbrev pub is_busy : Running R K → Bool
+  abbrev pub is_busy : SideTransfer R K → Bool
   is_busy running.Nothing = false
   is_busy (running.Awaited port job since) = true
   is_busy (running.Connecting outgoing job since) = true
@@ -114,7 +114,7 @@ module _ {R K : Type 0} where
   is_busy (running.Over reported) = true
 
   -- a transfer is on the ticket
-  abbrev pub is_moving : Running R K → Bool
+  abbrev pub is_moving : SideTransfer R K → Bool
   is_moving running.Nothing = false
   is_moving (running.Awaited port job since) = false
   is_moving (running.Connecting outgoing job since) = false
@@ -122,7 +122,7 @@ module _ {R K : Type 0} where
   is_moving (running.Over reported) = false
 
   -- it was aborted
-  abbrev pub is_aborted_in : Running R K → Bool
+  abbrev pub is_aborted_in : SideTransfer R K → Bool
   is_aborted_in running.Nothing = false
   is_aborted_in (running.Awaited port job since) = false
   is_aborted_in (running.Connecting outgoing job since) = false
@@ -130,11 +130,11 @@ module _ {R K : Type 0} where
   is_aborted_in (running.Over reported) = false
 
   -- only of an aborted transfer was a lane asked to stop it
-  abbrev pub is_marked : Running R K → Ticket R K → Bool
+  abbrev pub is_marked : SideTransfer R K → Ticket R K → Bool
   is_marked run view = not (has_asked view) || is_aborted_in run
 
   -- lanes have the transfer, or it is over since there was no memory for it
-  abbrev pub IsHandedOver : Job Global R K → Running R K → Type 0
+  abbrev pub IsHandedOver : Job Global R K → SideTransfer R K → Type 0
   IsHandedOver job running.Nothing = ⊥
   IsHandedOver job (running.Awaited port waiting since) = ⊥
   IsHandedOver job (running.Connecting outgoing waiting since) = ⊥
@@ -149,7 +149,7 @@ module _ {R K : Type 0} where
 
   -- the same job waits at the same port since the same moment, and not too long, or it was handed
   -- over, or no client came in time
-  abbrev pub IsAwaited : LeasedPort → Job Global R K → ℕ → ℕ → Running R K → Type 0
+  abbrev pub IsAwaited : LeasedPort → Job Global R K → ℕ → ℕ → SideTransfer R K → Type 0
   IsAwaited port job since now running.Nothing = ⊥
   IsAwaited port job since now (running.Awaited at waiting moment) =
       (at ≡ port) × (waiting ≡ job) × (moment ≡ since)
@@ -161,7 +161,7 @@ module _ {R K : Type 0} where
 
   -- the same job waits for the client's port since the same moment, and not too long, or it was
   -- handed over, or there was no connection in time
-  abbrev pub IsConnecting : Job Global R K → ℕ → ℕ → Running R K → Type 0
+  abbrev pub IsConnecting : Job Global R K → ℕ → ℕ → SideTransfer R K → Type 0
   IsConnecting job since now running.Nothing = ⊥
   IsConnecting job since now (running.Awaited port waiting moment) = ⊥
   IsConnecting job since now (running.Connecting outgoing waiting moment) =
@@ -170,14 +170,14 @@ module _ {R K : Type 0} where
   IsConnecting job since now (running.Over reported) = IsUnbegun job reported
 
   -- a transfer over what was prepared, from this moment on; over nothing it ends at once
-  abbrev pub Starts : Prepared → Job Global R K → ℕ → Running R K → Type 0
+  abbrev pub Starts : Preparation → Job Global R K → ℕ → SideTransfer R K → Type 0
   Starts prepared.Nothing job now new = new ≡ over NoConnection job
   Starts (prepared.Target to) job now new = IsConnecting job now now new
   Starts (prepared.Listening port) job now new = IsAwaited port job now now new
 
   -- A transfer on a ticket is taken back if no lane has begun it: then it is over, and its sink
   -- comes back. Otherwise it is marked, and its lane is asked to stop, unless it has ended.
-  abbrev pub Stops : Ticket R K → DataConnection → Running R K → Ticket R K → Type 0
+  abbrev pub Stops : Ticket R K → DataConnection → SideTransfer R K → Ticket R K → Type 0
   Stops view connection new view' =
       ((job : LaneJob (Served Global R) K DataConnection) × (tries : ℕ)
       × (view ≡ Busy job false false tries) × (new ≡ taken_back job) × (view' ≡ Idle))
@@ -186,7 +186,7 @@ module _ {R K : Type 0} where
 
   -- a transfer without a connection ends at once, as does one that no lane has begun; one that a
   -- lane runs is marked
-  abbrev pub Aborts : Ticket R K → Running R K → Running R K → Type 0
+  abbrev pub Aborts : Ticket R K → SideTransfer R K → SideTransfer R K → Type 0
   Aborts view running.Nothing new = new ≡ running.Nothing
   Aborts view (running.Awaited port job since) new = new ≡ over Aborted job
   Aborts view (running.Connecting outgoing job since) new = new ≡ over Aborted job
@@ -195,7 +195,7 @@ module _ {R K : Type 0} where
   Aborts view (running.Over reported) new = new ≡ running.Over reported
 
   -- only a transfer without a connection goes on by itself
-  abbrev pub GoesOn : ℕ → Running R K → Running R K → Type 0
+  abbrev pub GoesOn : ℕ → SideTransfer R K → SideTransfer R K → Type 0
   GoesOn now (running.Awaited port job since) new =
       IsAwaited port job since now new
   GoesOn now (running.Connecting outgoing job since) new = IsConnecting job since now new
@@ -211,7 +211,7 @@ module _ {R K : Type 0} where
       × (is_aborted ≡ false → HasSinkOf (has_upload view) reported)
 
   -- the port that a client is awaited at
-  abbrev pub port_of : Running R K → Option LeasedPort
+  abbrev pub port_of : SideTransfer R K → Option LeasedPort
   port_of running.Nothing = None
   port_of (running.Awaited port job since) = Some port
   port_of (running.Connecting outgoing job since) = None
@@ -224,7 +224,7 @@ module _ {R K : Type 0} where
       (reported.end ≡ Aborted → is_aborted ≡ true) × HasSinkOf (has_upload view) reported
 
   -- an end is taken as it is known to the session, or as a lane reports it
-  abbrev pub Takes : Ticket R K → Running R K → Taken K → Running R K → Type 0
+  abbrev pub Takes : Ticket R K → SideTransfer R K → Taken K → SideTransfer R K → Type 0
   Takes view running.Nothing found new = (found ≡ taken.Nothing) × (new ≡ running.Nothing)
   Takes view (running.Awaited port job since) found new =
       (found ≡ taken.Nothing) × (new ≡ running.Awaited port job since)
@@ -240,7 +240,7 @@ module _ {R K : Type 0} where
 
   -- an end is taken once, and then nothing runs
   abbrev pub TakesEnd
-      : Ticket R K → Running R K → Option (TransferEnd K) → Running R K → Type 0
+      : Ticket R K → SideTransfer R K → Option (TransferEnd K) → SideTransfer R K → Type 0
   TakesEnd view running.Nothing end new = (end ≡ None) × (new ≡ running.Nothing)
   TakesEnd view (running.Awaited port job since) end new =
       (end ≡ None) × (new ≡ running.Awaited port job since)
@@ -255,15 +255,15 @@ module _ {R K : Type 0} where
   -- a look at a moment: the transfer goes on, and its end is taken, with the octets that it had
   -- moved; what was on the ticket before stays there
   abbrev pub Looks
-      : Ticket R K → ℕ → Running R K → Option (Input Global K) → Running R K → ℕ → Type 0
+      : Ticket R K → ℕ → SideTransfer R K → Option (Input Global K) → SideTransfer R K → ℕ → Type 0
   Looks before now old event new moved =
-      (mid : Running R K) × (end : Option (TransferEnd K)) × (view : Ticket R K)
+      (mid : SideTransfer R K) × (end : Option (TransferEnd K)) × (view : Ticket R K)
       × (is_moving old ≡ true → view ≡ before) × GoesOn now old mid × TakesEnd view mid end new
       × (event ≡ event_of end) × IsMovedBy end moved
 
   -- The report of a transfer that is waited for, or of nothing if nothing runs, with the octets
   -- that it had moved. One without a connection is aborted.
-  abbrev pub Settles : Running R K → Option (Input Global K) → ℕ → Type 0
+  abbrev pub Settles : SideTransfer R K → Option (Input Global K) → ℕ → Type 0
   Settles running.Nothing event moved = event ≡ None
   Settles (running.Awaited port job since) event moved =
       (event ≡ Some (TransferEnded Aborted (sink_in job))) × (moved ≡ 0)
@@ -277,7 +277,7 @@ module _ {R K : Type 0} where
 
   -- a session looks at its data side if there is something to report, and otherwise reads its
   -- client; either of a moving transfer
-  abbrev pub RestsOn : Running R K → Beside → Type 0
+  abbrev pub RestsOn : SideTransfer R K → Beside → Type 0
   RestsOn running.Nothing next = next ≡ Read
   RestsOn (running.Awaited port job since) next = next ≡ Read
   RestsOn (running.Connecting outgoing job since) next = next ≡ Read
@@ -285,7 +285,7 @@ module _ {R K : Type 0} where
   RestsOn (running.Over reported) next = next ≡ Look
 
   -- it waits for its end, for its client's connection, or for the answer of its client's port
-  abbrev pub is_awaiting : Running R K → Bool
+  abbrev pub is_awaiting : SideTransfer R K → Bool
   is_awaiting running.Nothing = false
   is_awaiting (running.Awaited port job since) = true
   is_awaiting (running.Connecting outgoing job since) = true
@@ -293,5 +293,5 @@ module _ {R K : Type 0} where
   is_awaiting (running.Over reported) = false
 
   -- the same; any of a transfer that waits
-  abbrev pub RestsBeside : Running R K → Beside → Type 0
+  abbrev pub RestsBeside : SideTransfer R K → Beside → Type 0
   RestsBeside run next = (is_awaiting run ≡ true) ⊎ RestsOn run next

@@ -4,7 +4,7 @@ ghost use Rattle.std.specs.Prelude.{◌≡◌, IfSome, true};
 ghost use Rattle.socket_host.specs.Running.{is_awaiting};
 
 use crate::control::ControlSocket;
-use crate::running::Running;
+use crate::running::SideTransfer;
 use crate::waiting::{Beside, looks_at_door, looks_first};
 use client_door::{DoorBell, Heard, await_answer, await_either};
 
@@ -22,7 +22,7 @@ fn await_bell(client: &ControlSocket, bell: &DoorBell) -> Heard {
 /// its port. Returns what the session does then. `None` without a wait: nothing is awaited, there is no bell, the last accept
 /// met an error, or the machine refused.
 pub(crate) fn wait_beside<R: Drop, K: Drop>(
-    running: &Running<R, K>,
+    running: &SideTransfer<R, K>,
     client: &ControlSocket,
     bell: Option<&DoorBell>,
     is_well: bool,
@@ -30,13 +30,16 @@ pub(crate) fn wait_beside<R: Drop, K: Drop>(
     ensures awaiting { IfSome result (λ next. is_awaiting running.now ≡ true) }
 {
     match running {
-        Running::Nothing | Running::Over(_) => None,
-        Running::Moving { .. } => looks_first(await_bell(client, bell?), client.is_within_line()),
-        Running::Connecting { outgoing, .. } => {
+        SideTransfer::Nothing | SideTransfer::Over(_) => None,
+        SideTransfer::Moving { .. } => looks_first(
+            await_bell(client, bell?),
+            client.is_within_line(),
+        ),
+        SideTransfer::Connecting { outgoing, .. } => {
             let heard = await_answer(outgoing, client, client.longest_wait());
             looks_at_door(heard, client.is_within_line())
         }
-        Running::Awaited { port, .. } => {
+        SideTransfer::Awaited { port, .. } => {
             if !is_well {
                 return None;
             }

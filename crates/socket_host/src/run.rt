@@ -8,7 +8,7 @@ ghost use Rattle.transfer_ticket.specs.Views.{owner_view};
 ghost use Rattle.transfer_ticket.specs.declared.view.TicketView.TheVariants.{Idle};
 
 use crate::ports::LeasedPort;
-use crate::running::{Running, lane_job, over, put_in, taken_back};
+use crate::running::{SideTransfer, lane_job, over, put_in, taken_back};
 use server_house::{DataConnection, LaneEnds, SessionEnd, SessionJob, TransferEnd};
 use session_table::{End, Job};
 use std::alloc::Global;
@@ -20,7 +20,7 @@ use virtual_tree::Store;
 fn stop<S: Store<Global>>(
     owner: &mut TicketOwner<'_, SessionJob<S>, SessionEnd<S>, LaneEnds>,
     connection: DataConnection,
-) -> Running<S::Source, S::Sink>
+) -> SideTransfer<S::Source, S::Sink>
     requires busy { is_busy (owner_view owner.old) ≡ true }
     ensures charged { (payer : ℕ) → charged_on payer (owner_view owner.old) ≡ payer
         → charged_on payer (owner_view owner.new) ≡ payer }
@@ -31,7 +31,7 @@ fn stop<S: Store<Global>>(
         None => {
             connection.abort();
             let _ = owner.stop();
-            Running::Moving {
+            SideTransfer::Moving {
                 connection,
                 is_aborted: true,
             }
@@ -53,7 +53,7 @@ pub(crate) enum Taken<K> {
 /// if it was aborted. It cannot be dropped.
 pub(crate) struct SessionRun<'h, S: Store<Global>> {
     pub(crate) owner: TicketOwner<'h, SessionJob<S>, SessionEnd<S>, LaneEnds>,
-    pub(crate) running: Running<S::Source, S::Sink>,
+    pub(crate) running: SideTransfer<S::Source, S::Sink>,
     // the number of the user who is charged for it
     pub(crate) payer: u32,
     ghost charged: { charged_on payer (owner_view owner) ≡ payer },
@@ -68,18 +68,18 @@ impl<'h, S: Store<Global>> SessionRun<'h, S> {
         owner: TicketOwner<'h, SessionJob<S>, SessionEnd<S>, LaneEnds>,
     ) -> SessionRun<'h, S>
         requires idle { owner_view owner ≡ Idle }
-        ensures nothing { result.running ≡ Running.Nothing }
+        ensures nothing { result.running ≡ SideTransfer.Nothing }
     {
         SessionRun {
             owner,
-            running: Running::Nothing,
+            running: SideTransfer::Nothing,
             payer: 0,
         }
     }
 
     /// Charges a user for the next transfer.
     pub(crate) fn charge(&mut self, user: u32)
-        requires nothing { self.old.running ≡ Running.Nothing }
+        requires nothing { self.old.running ≡ SideTransfer.Nothing }
         ensures payer { self.new.payer ≡ user }
         ensures running { self.new.running ≡ self.old.running }
     {
@@ -94,13 +94,13 @@ impl<'h, S: Store<Global>> SessionRun<'h, S> {
         job: Job<Global, S::Source, S::Sink>,
         session: u32,
     ) -> bool
-        requires nothing { self.old.running ≡ Running.Nothing }
-        ensures moving { self.new.running ≡ Running.Moving connection false }
+        requires nothing { self.old.running ≡ SideTransfer.Nothing }
+        ensures moving { self.new.running ≡ SideTransfer.Moving connection false }
         ensures payer { self.new.payer ≡ self.old.payer }
     {
         let job = lane_job(job, theirs, self.payer, session);
         let is_to_list = self.owner.put(job);
-        let moving = Running::Moving {
+        let moving = SideTransfer::Moving {
             connection,
             is_aborted: false,
         };
@@ -109,8 +109,8 @@ impl<'h, S: Store<Global>> SessionRun<'h, S> {
     }
 
     /// Has a transfer wait for its connection, or be over.
-    pub(crate) fn begin(&mut self, next: Running<S::Source, S::Sink>)
-        requires nothing { self.old.running ≡ Running.Nothing }
+    pub(crate) fn begin(&mut self, next: SideTransfer<S::Source, S::Sink>)
+        requires nothing { self.old.running ≡ SideTransfer.Nothing }
         requires waits { is_moving next ≡ false }
         ensures running { self.new.running ≡ next }
         ensures payer { self.new.payer ≡ self.old.payer }
@@ -120,18 +120,18 @@ impl<'h, S: Store<Global>> SessionRun<'h, S> {
     }
 
     /// Takes out a transfer without a connection, or its end; one on the ticket stays there.
-    pub(crate) fn take_out(&mut self) -> Option<Running<S::Source, S::Sink>>
+    pub(crate) fn take_out(&mut self) -> Option<SideTransfer<S::Source, S::Sink>>
         ensures out { IfSome result (λ out. (out ≡ self.old.running)
-            × (is_moving self.old.running ≡ false) × (self.new.running ≡ Running.Nothing)) }
+            × (is_moving self.old.running ≡ false) × (self.new.running ≡ SideTransfer.Nothing)) }
         ensures stays { IfNone result ((is_moving self.old.running ≡ true)
             × (self.new.running ≡ self.old.running)
             × (owner_view self.new.owner ≡ owner_view self.old.owner)) }
         ensures payer { self.new.payer ≡ self.old.payer }
     {
-        if let Running::Moving { .. } = &self.running {
+        if let SideTransfer::Moving { .. } = &self.running {
             return None;
         }
-        Some(mem::replace(&mut self.running, Running::Nothing))
+        Some(mem::replace(&mut self.running, SideTransfer::Nothing))
     }
 
     /// Aborts the transfer. Returns the port that it waited at, if it did, which is to be closed.
@@ -140,9 +140,9 @@ impl<'h, S: Store<Global>> SessionRun<'h, S> {
         ensures port { result ≡ port_of self.old.running }
         ensures payer { self.new.payer ≡ self.old.payer }
     {
-        let before = mem::replace(&mut self.running, Running::Nothing);
+        let before = mem::replace(&mut self.running, SideTransfer::Nothing);
         match before {
-            Running::Awaited {
+            SideTransfer::Awaited {
                 port,
                 job,
                 since: _,
@@ -150,7 +150,7 @@ impl<'h, S: Store<Global>> SessionRun<'h, S> {
                 put_in(&mut self.running, over(End::Aborted, job));
                 Some(port)
             }
-            Running::Connecting {
+            SideTransfer::Connecting {
                 outgoing,
                 job,
                 since: _,
@@ -159,7 +159,7 @@ impl<'h, S: Store<Global>> SessionRun<'h, S> {
                 put_in(&mut self.running, over(End::Aborted, job));
                 None
             }
-            Running::Moving {
+            SideTransfer::Moving {
                 connection,
                 is_aborted: _,
             } => {
@@ -167,9 +167,9 @@ impl<'h, S: Store<Global>> SessionRun<'h, S> {
                 put_in(&mut self.running, stopped);
                 None
             }
-            Running::Nothing => None,
-            Running::Over(reported) => {
-                put_in(&mut self.running, Running::Over(reported));
+            SideTransfer::Nothing => None,
+            SideTransfer::Over(reported) => {
+                put_in(&mut self.running, SideTransfer::Over(reported));
                 None
             }
         }
@@ -180,11 +180,11 @@ impl<'h, S: Store<Global>> SessionRun<'h, S> {
         ensures takes { Takes (owner_view self.old.owner) self.old.running result self.new.running }
         ensures payer { self.new.payer ≡ self.old.payer }
     {
-        let before = mem::replace(&mut self.running, Running::Nothing);
+        let before = mem::replace(&mut self.running, SideTransfer::Nothing);
         match before {
-            Running::Nothing => Taken::Nothing,
-            Running::Over(reported) => Taken::Unbegun(reported),
-            Running::Moving {
+            SideTransfer::Nothing => Taken::Nothing,
+            SideTransfer::Over(reported) => Taken::Unbegun(reported),
+            SideTransfer::Moving {
                 connection,
                 is_aborted,
             } => match self.owner.take_end() {
@@ -194,7 +194,7 @@ impl<'h, S: Store<Global>> SessionRun<'h, S> {
                     Taken::Reported(reported, is_aborted, fault)
                 }
                 None => {
-                    let moving = Running::Moving {
+                    let moving = SideTransfer::Moving {
                         connection,
                         is_aborted,
                     };

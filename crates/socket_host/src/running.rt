@@ -16,26 +16,26 @@ use transfer_worker::LaneJob;
 use virtual_tree::{Sink, Source};
 
 /// The preparation of the next transfer.
-pub(crate) enum Prepared {
+pub(crate) enum Preparation {
     Nothing,
     Listening(LeasedPort),
     Target(HostPort),
 }
 
-impl Prepared {
+impl Preparation {
     /// The port that was listened on, if there is one: nothing is prepared any longer.
     pub(crate) fn into_port(self) -> Option<LeasedPort>
         ensures port { result ≡ listened_in self }
     {
         match self {
-            Prepared::Listening(port) => Some(port),
-            Prepared::Nothing | Prepared::Target(_) => None,
+            Preparation::Listening(port) => Some(port),
+            Preparation::Nothing | Preparation::Target(_) => None,
         }
     }
 }
 
 /// The transfer of a session.
-pub(crate) enum Running<R: Drop, K: Drop> {
+pub(crate) enum SideTransfer<R: Drop, K: Drop> {
     Nothing,
     /// The client has not connected yet. The wait began at `since`, in microseconds.
     Awaited {
@@ -58,13 +58,13 @@ pub(crate) enum Running<R: Drop, K: Drop> {
     Over(TransferEnd<K>),
 }
 
-impl<R: Drop, K: Drop> Running<R, K> {
+impl<R: Drop, K: Drop> SideTransfer<R, K> {
     /// The port at which the client was awaited, if it was: the transfer is given up.
     pub(crate) fn into_port(self) -> Option<LeasedPort>
         ensures port { result ≡ port_of self }
     {
         match self {
-            Running::Awaited {
+            SideTransfer::Awaited {
                 port,
                 job,
                 since: _,
@@ -72,7 +72,7 @@ impl<R: Drop, K: Drop> Running<R, K> {
                 drop(job);
                 Some(port)
             }
-            Running::Connecting {
+            SideTransfer::Connecting {
                 outgoing,
                 job,
                 since: _,
@@ -81,45 +81,45 @@ impl<R: Drop, K: Drop> Running<R, K> {
                 drop(job);
                 None
             }
-            Running::Moving {
+            SideTransfer::Moving {
                 connection,
                 is_aborted: _,
             } => {
                 drop(connection);
                 None
             }
-            Running::Over(reported) => {
+            SideTransfer::Over(reported) => {
                 drop(reported);
                 None
             }
-            Running::Nothing => None,
+            SideTransfer::Nothing => None,
         }
     }
 }
 
 /// Puts a transfer in the place of none.
-pub(crate) fn put_in<R: Drop, K: Drop>(place: &mut Running<R, K>, next: Running<R, K>)
-    requires nothing { place.old ≡ Running.Nothing }
+pub(crate) fn put_in<R: Drop, K: Drop>(place: &mut SideTransfer<R, K>, next: SideTransfer<R, K>)
+    requires nothing { place.old ≡ SideTransfer.Nothing }
     ensures put { place.new ≡ next }
 {
     match mem::replace(place, next) {
-        Running::Nothing => {}
-        Running::Awaited { .. } => unreachable!(),
-        Running::Connecting { .. } => unreachable!(),
-        Running::Moving { .. } => unreachable!(),
-        Running::Over(_) => unreachable!(),
+        SideTransfer::Nothing => {}
+        SideTransfer::Awaited { .. } => unreachable!(),
+        SideTransfer::Connecting { .. } => unreachable!(),
+        SideTransfer::Moving { .. } => unreachable!(),
+        SideTransfer::Over(_) => unreachable!(),
     }
 }
 
 /// A transfer that never ran; an upload's sink is returned.
-pub(crate) fn over<R: Drop, K: Drop>(end: End, job: Job<Global, R, K>) -> Running<R, K>
+pub(crate) fn over<R: Drop, K: Drop>(end: End, job: Job<Global, R, K>) -> SideTransfer<R, K>
     ensures over { result ≡ over end job }
 {
     let sink = match job {
         Job::TakeFile(sink, _) => Some(sink),
         Job::Text(_) | Job::SendFile(_, _) => None,
     };
-    Running::Over(TransferEnd {
+    SideTransfer::Over(TransferEnd {
         end,
         sink,
         moved: 0,
@@ -203,10 +203,10 @@ fn sink_of<R: Source, K: Sink>(job: LaneJob<R, K, DataConnection>) -> Option<K>
 /// A transfer that was taken back before a lane had begun it.
 pub(crate) fn taken_back<R: Source, K: Sink>(
     job: LaneJob<Served<Global, R>, K, DataConnection>,
-) -> Running<R, K>
+) -> SideTransfer<R, K>
     ensures back { result ≡ taken_back job }
 {
-    Running::Over(TransferEnd {
+    SideTransfer::Over(TransferEnd {
         end: End::Aborted,
         sink: sink_of(job),
         moved: 0,

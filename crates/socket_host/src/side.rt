@@ -17,7 +17,7 @@ use crate::control::ControlSocket;
 use crate::keeping::KeptPort;
 use crate::ports::{LeasedPort, SharedPorts, give_back, open_port};
 use crate::run::{SessionRun, Taken};
-use crate::running::{Prepared, Running, is_brief, is_upload, over};
+use crate::running::{Preparation, SideTransfer, is_brief, is_upload, over};
 use crate::waiting::{Beside, after_rest};
 use event_word::{has_passed, micros};
 use ftp_wire::HostPort;
@@ -109,7 +109,7 @@ pub struct SocketSide<'h, R, S: Store<Global>, H: Drop, B: PartsName, T> {
     // the number of its ticket, and its right to that
     session: u32,
     run: SessionRun<'h, S>,
-    prepared: Prepared,
+    prepared: Preparation,
     // the port of the transfer before, if it is kept for the next
     kept: KeptPort,
     // the reason for the last end that was made or taken, unless it is that all was moved
@@ -141,8 +141,8 @@ where
         owner: TicketOwner<'h, SessionJob<S>, SessionEnd<S>, LaneEnds>,
     ) -> Self
         requires idle { owner_view owner ≡ Idle }
-        ensures prepared { result.prepared ≡ Prepared.Nothing }
-        ensures running { result.run.running ≡ Running.Nothing }
+        ensures prepared { result.prepared ≡ Preparation.Nothing }
+        ensures running { result.run.running ≡ SideTransfer.Nothing }
         ensures ready { result.ready ≡ None }
         ensures wanted { result.client.wanted ≡ wanted }
         ensures keeps { result.kept.keeps ≡ may_keep house.now.numbers wanted }
@@ -155,7 +155,7 @@ where
             client: AwaitedClient::new(wanted),
             session,
             run: SessionRun::new(owner),
-            prepared: Prepared::Nothing,
+            prepared: Preparation::Nothing,
             kept: KeptPort::new(&house.numbers, wanted),
             cause: None,
             moved: 0,
@@ -166,7 +166,7 @@ where
 
     /// Drops what was prepared; a port then rests.
     pub fn drop_data(&mut self)
-        ensures prepared { self.new.prepared ≡ Prepared.Nothing }
+        ensures prepared { self.new.prepared ≡ Preparation.Nothing }
         ensures early { self.new.client.early ≡ None }
         ensures running { self.new.run.running ≡ self.old.run.running }
         ensures ready { self.new.ready ≡ self.old.ready }
@@ -175,11 +175,11 @@ where
         ensures payer { self.new.run.payer ≡ self.old.run.payer }
     {
         self.client.forget();
-        self.prepare(Prepared::Nothing);
+        self.prepare(Preparation::Nothing);
     }
 
     // Prepares this in the place of what was prepared before; a port then rests.
-    fn prepare(&mut self, next: Prepared)
+    fn prepare(&mut self, next: Preparation)
         ensures prepared { self.new.prepared ≡ next }
         ensures client { self.new.client ≡ self.old.client }
         ensures running { self.new.run.running ≡ self.old.run.running }
@@ -226,7 +226,7 @@ where
         ensures kept { self.new.kept ≡ self.old.kept }
         ensures payer { self.new.run.payer ≡ self.old.run.payer }
     {
-        if let Prepared::Listening(port) = &self.prepared {
+        if let Preparation::Listening(port) = &self.prepared {
             self.client.welcome(port.listener());
         }
     }
@@ -324,7 +324,7 @@ where
         match self.find_port() {
             Some(port) => {
                 self.ready = Some(Some(port.number()));
-                self.prepare(Prepared::Listening(port));
+                self.prepare(Preparation::Listening(port));
             }
             None => self.ready = Some(None),
         }
@@ -332,7 +332,7 @@ where
 
     /// Makes the next transfer connect to this port. Keeps no port of its own.
     pub fn connect_to(&mut self, to: HostPort)
-        ensures prepared { self.new.prepared ≡ Prepared.Target to }
+        ensures prepared { self.new.prepared ≡ Preparation.Target to }
         ensures running { self.new.run.running ≡ self.old.run.running }
         ensures ready { self.new.ready ≡ self.old.ready }
         ensures kept { self.new.kept ≡ without_port self.old.kept }
@@ -341,12 +341,12 @@ where
         self.drop_data();
         let kept = self.kept.take();
         self.close(kept);
-        self.prepare(Prepared::Target(to));
+        self.prepare(Preparation::Target(to));
     }
 
     // Hands a transfer to the lanes.
     fn hand_over(&mut self, stream: TcpStream, job: Job<Global, S::Source, S::Sink>)
-        requires nothing { self.old.run.running ≡ Running.Nothing }
+        requires nothing { self.old.run.running ≡ SideTransfer.Nothing }
         ensures running { IsHandedOver job self.new.run.running }
         ensures prepared { self.new.prepared ≡ self.old.prepared }
         ensures ready { self.new.ready ≡ self.old.ready }
@@ -367,7 +367,7 @@ where
 
     // Hands the transfer of a client that has connected to its port to the lanes.
     fn hand_over_to(&mut self, client: PeerConnection, job: Job<Global, S::Source, S::Sink>)
-        requires nothing { self.old.run.running ≡ Running.Nothing }
+        requires nothing { self.old.run.running ≡ SideTransfer.Nothing }
         requires peer { client.peer ≡ self.old.client.wanted }
         ensures running { IsHandedOver job self.new.run.running }
         ensures prepared { self.new.prepared ≡ self.old.prepared }
@@ -380,7 +380,7 @@ where
 
     // Ends a transfer for which there is no memory.
     fn end_unbegun(&mut self, job: Job<Global, S::Source, S::Sink>)
-        requires nothing { self.old.run.running ≡ Running.Nothing }
+        requires nothing { self.old.run.running ≡ SideTransfer.Nothing }
         ensures running { self.new.run.running ≡ over NoMemory job }
         ensures cause { self.new.cause ≡ Some cause.NoMemory }
         ensures prepared { self.new.prepared ≡ self.old.prepared }
@@ -399,8 +399,8 @@ where
         theirs: DataConnection,
         job: Job<Global, S::Source, S::Sink>,
     )
-        requires nothing { self.old.run.running ≡ Running.Nothing }
-        ensures running { self.new.run.running ≡ Running.Moving own false }
+        requires nothing { self.old.run.running ≡ SideTransfer.Nothing }
+        ensures running { self.new.run.running ≡ SideTransfer.Moving own false }
         ensures prepared { self.new.prepared ≡ self.old.prepared }
         ensures ready { self.new.ready ≡ self.old.ready }
         ensures cause { self.new.cause ≡ self.old.cause }
@@ -434,7 +434,7 @@ where
 
     // Ends a transfer that got no data connection.
     fn end_without(&mut self, why: EndCause, job: Job<Global, S::Source, S::Sink>)
-        requires nothing { self.old.run.running ≡ Running.Nothing }
+        requires nothing { self.old.run.running ≡ SideTransfer.Nothing }
         ensures running { self.new.run.running ≡ over NoConnection job }
         ensures cause { self.new.cause ≡ Some why }
         ensures prepared { self.new.prepared ≡ self.old.prepared }
@@ -454,7 +454,7 @@ where
         since: u64,
         now: u64,
     )
-        requires nothing { self.old.run.running ≡ Running.Nothing }
+        requires nothing { self.old.run.running ≡ SideTransfer.Nothing }
         ensures running { IsAwaited port job since now self.new.run.running }
         ensures prepared { self.new.prepared ≡ self.old.prepared }
         ensures ready { self.new.ready ≡ self.old.ready }
@@ -473,7 +473,7 @@ where
                     let why = self.client.absence();
                     self.end_without(why, job);
                 } else {
-                    self.run.begin(Running::Awaited { port, job, since });
+                    self.run.begin(SideTransfer::Awaited { port, job, since });
                 }
             }
         }
@@ -487,7 +487,7 @@ where
         since: u64,
         now: u64,
     )
-        requires nothing { self.old.run.running ≡ Running.Nothing }
+        requires nothing { self.old.run.running ≡ SideTransfer.Nothing }
         ensures running { IsConnecting job since now self.new.run.running }
         ensures prepared { self.new.prepared ≡ self.old.prepared }
         ensures ready { self.new.ready ≡ self.old.ready }
@@ -502,7 +502,7 @@ where
                     let error = io::Error::from(ErrorKind::TimedOut);
                     self.end_without(EndCause::NotConnected(error), job);
                 } else {
-                    self.run.begin(Running::Connecting {
+                    self.run.begin(SideTransfer::Connecting {
                         outgoing,
                         job,
                         since,
@@ -514,8 +514,8 @@ where
 
     // Begins a connection to a client's port, at this moment.
     fn connect(&mut self, to: HostPort, job: Job<Global, S::Source, S::Sink>, now: u64)
-        requires nothing { self.old.run.running ≡ Running.Nothing }
-        ensures running { Starts (Prepared.Target to) job now self.new.run.running }
+        requires nothing { self.old.run.running ≡ SideTransfer.Nothing }
+        ensures running { Starts (Preparation.Target to) job now self.new.run.running }
         ensures prepared { self.new.prepared ≡ self.old.prepared }
         ensures ready { self.new.ready ≡ self.old.ready }
         ensures kept { self.new.kept ≡ self.old.kept }
@@ -529,7 +529,7 @@ where
 
     // Ends what runs: a session begins a transfer when the one before has ended.
     fn clear(&mut self)
-        ensures running { self.new.run.running ≡ Running.Nothing }
+        ensures running { self.new.run.running ≡ SideTransfer.Nothing }
         ensures prepared { self.new.prepared ≡ self.old.prepared }
         ensures ready { self.new.ready ≡ self.old.ready }
         ensures kept { self.new.kept ≡ self.old.kept }
@@ -543,7 +543,7 @@ where
     /// is ended first.
     pub fn start(&mut self, job: Job<Global, S::Source, S::Sink>, user: u32, now: u64)
         ensures running { Starts self.old.prepared job now self.new.run.running }
-        ensures prepared { self.new.prepared ≡ Prepared.Nothing }
+        ensures prepared { self.new.prepared ≡ Preparation.Nothing }
         ensures ready { self.new.ready ≡ self.old.ready }
         ensures cause { StartCause self.old.prepared self.new.cause }
         ensures kept { StartKeeps self.old.prepared self.old.kept self.new.run.running
@@ -552,12 +552,12 @@ where
     {
         self.clear();
         self.run.charge(user);
-        let prepared = mem::replace(&mut self.prepared, Prepared::Nothing);
+        let prepared = mem::replace(&mut self.prepared, Preparation::Nothing);
         self.cause = None;
         match prepared {
-            Prepared::Nothing => self.end_without(EndCause::NothingPrepared, job),
-            Prepared::Target(to) => self.connect(to, job, now),
-            Prepared::Listening(port) => self.await_client(port, job, now, now),
+            Preparation::Nothing => self.end_without(EndCause::NothingPrepared, job),
+            Preparation::Target(to) => self.connect(to, job, now),
+            Preparation::Listening(port) => self.await_client(port, job, now, now),
         }
     }
 
@@ -573,10 +573,13 @@ where
         ensures kept { self.new.kept ≡ self.old.kept }
         ensures payer { self.new.run.payer ≡ self.old.run.payer }
     {
-        let is_open = !matches!(&self.run.running, Running::Nothing | Running::Over(_));
+        let is_open = !matches!(
+            &self.run.running,
+            SideTransfer::Nothing | SideTransfer::Over(_)
+        );
         let waited = self.run.abort();
         self.close(waited);
-        if is_open && matches!(&self.run.running, Running::Over(_)) {
+        if is_open && matches!(&self.run.running, SideTransfer::Over(_)) {
             self.cause = Some(EndCause::Aborted);
         }
     }
@@ -628,15 +631,15 @@ where
             return;
         };
         match waiting {
-            Running::Awaited { port, job, since } => self.await_client(port, job, since, now),
-            Running::Connecting {
+            SideTransfer::Awaited { port, job, since } => self.await_client(port, job, since, now),
+            SideTransfer::Connecting {
                 outgoing,
                 job,
                 since,
             } => self.await_answer(outgoing, job, since, now),
-            Running::Over(reported) => self.run.begin(Running::Over(reported)),
-            Running::Moving { .. } => unreachable!(),
-            Running::Nothing => {}
+            SideTransfer::Over(reported) => self.run.begin(SideTransfer::Over(reported)),
+            SideTransfer::Moving { .. } => unreachable!(),
+            SideTransfer::Nothing => {}
         }
     }
 
@@ -668,7 +671,7 @@ where
     pub fn is_busy(&self) -> bool
         ensures busy { result ≡ is_busy self.now.run.running }
     {
-        !matches!(&self.run.running, Running::Nothing)
+        !matches!(&self.run.running, SideTransfer::Nothing)
     }
 
     /// Waits briefly for the end of a moving transfer, or for a data connection that is late, and not for the client.
@@ -677,12 +680,12 @@ where
         ensures over { RestsOn self.now.run.running result }
     {
         match &self.run.running {
-            Running::Moving { .. } => {
+            SideTransfer::Moving { .. } => {
                 after_rest(self.run.owner.rest(self.rt, Duration::from_millis(LOOK)))
             }
-            Running::Over(_) => Beside::Look,
-            Running::Nothing => Beside::Read,
-            Running::Awaited { since, .. } | Running::Connecting { since, .. } => {
+            SideTransfer::Over(_) => Beside::Look,
+            SideTransfer::Nothing => Beside::Read,
+            SideTransfer::Awaited { since, .. } | SideTransfer::Connecting { since, .. } => {
                 let now = micros(self.rt);
                 if has_passed(*since, now, USUAL) {
                     let pause = pause_after(now.saturating_sub(*since));
@@ -713,7 +716,7 @@ where
     // Waits for the end of the running transfer and reports it.
     fn await_end(&mut self) -> Option<Input<Global, S::Sink>>
         ensures settled { Settles self.old.run.running result self.new.moved }
-        ensures running { self.new.run.running ≡ Running.Nothing }
+        ensures running { self.new.run.running ≡ SideTransfer.Nothing }
         ensures prepared { self.new.prepared ≡ self.old.prepared }
         ensures ready { self.new.ready ≡ self.old.ready }
         ensures kept { self.new.kept ≡ self.old.kept }
@@ -740,15 +743,15 @@ where
     /// prepared.
     pub fn settle(&mut self) -> Option<Input<Global, S::Sink>>
         ensures settled { Settles self.old.run.running result self.new.moved }
-        ensures running { self.new.run.running ≡ Running.Nothing }
-        ensures prepared { self.new.prepared ≡ Prepared.Nothing }
+        ensures running { self.new.run.running ≡ SideTransfer.Nothing }
+        ensures prepared { self.new.prepared ≡ Preparation.Nothing }
         ensures ready { self.new.ready ≡ None }
         ensures kept { self.new.kept ≡ self.old.kept }
         ensures payer { self.new.run.payer ≡ self.old.run.payer }
     {
         self.drop_data();
         self.ready = None;
-        if let Running::Awaited { .. } | Running::Connecting { .. } = &self.run.running {
+        if let SideTransfer::Awaited { .. } | SideTransfer::Connecting { .. } = &self.run.running {
             self.abort();
         }
         self.await_end()

@@ -5,23 +5,14 @@ use Rattle.authorizer.specs.Users.{Accounts}
 use Rattle.config_change.specs.Renumbered.{IsRefused, IsRenumbered}
 use Rattle.config_change.specs.declared.fault.RenumberFault.{RenumberFault}
 use Rattle.config_change.specs.declared.fault.RenumberFault.TheVariants as fault
-use Rattle.server_config.specs.Refused.{IsFaultOfText}
 use Rattle.server_config.specs.declared.config.Config.{Config}
-use Rattle.server_config.specs.declared.fault.ConfigFault.{ConfigFault}
-use Rattle.server_config.specs.declared.fault.ConfigFault.TheVariants as config
-use Rattle.machine_parts.specs.Following.{AreWords, IsNoConfig, IsNumberedAs, IsUnnumbered}
+use Rattle.machine_parts.specs.Following.{AreWords, IsNumberedAs, IsUnnumbered}
 use Rattle.machine_parts.specs.Names.{HasNumbers}
-use Rattle.machine_parts.specs.Reasons.{BeginsWith}
 use Rattle.machine_parts.specs.declared.known.Known.{Known}
 
 pub are-words : {Y : Type 0} (text : List ℕ) (said : Option (String Y)) → IfSome said (λ words. string_bytes words ≡ text) → AreWords text (option_map string_bytes said)
 are-words text None is = tt
 are-words text (Some words) is = is
-
-pub no-config : {Y : Type 0} (path octets : List ℕ) (reason : ConfigFault) (why : Option (List ℕ)) (said : Option (String Y)) → reason ≢ config.Memory → IsFaultOfText octets reason
-    → IfSome said (λ text. BeginsWith path (string_bytes text) (λ rest. IfSome why (λ octets. rest ≡ octets))) → IsNoConfig path octets (option_map string_bytes said)
-no-config path octets reason why None other is begins = tt
-no-config path octets reason why (Some text) other is begins = ((reason, other, is), (begins.0, begins.1, tt))
 
 -- ---- the numbers of names
 

@@ -1,8 +1,8 @@
 //! A control session, from its greeting to its close, over any host.
 //!
-//! A [`Host`] provides all that a session needs from outside: the store and the floors, a clock ([`Moments`]), a
-//! client's text and the way back for replies, and the side that opens data connections and runs transfers
-//! ([`DataSide`]). [`run_control`] greets, takes one turn after another and closes. A turn takes one input, a line, a
+//! A [`Host`] provides all that a session needs from outside: the store and the floors, a client's text and the way back
+//! for replies, and data connections with their transfers. One that is put together of parts has a clock ([`Moments`]) and
+//! a data side ([`DataSide`]) as two of them. [`run_control`] greets, takes one turn after another and closes. A turn takes one input, a line, a
 //! held line or an event of the data side, passes it to the session, and has the host carry out the actions.
 //! [`step_by`], [`end_by`] and [`close_by`] are the steps for hosts that lend store and floors for one step alone.
 //!

@@ -1,4 +1,4 @@
-//! The host of one session, which owns all its parts.
+//! The host of one session, which is lent all its parts.
 
 ghost use Rattle.std.specs.Prelude.{◌≡◌, ◌<◌};
 

@@ -1,5 +1,7 @@
 //! The end file of a server: once it appears, the sessions of its lines end.
 
+ghost use Rattle.ftpd.specs.Ending.{IsEndSign};
+
 use ftp_daemon::EndSign;
 use machine_parts::{ConfigReader, ReadOctets, SignFile};
 use std::alloc::Global;
@@ -19,6 +21,19 @@ pub(crate) struct EndFile {
 /// The reason for which what was read names no sessions.
 const NO_TEXT: &str = "the end file is no text";
 
+/// The sign of the octets of an end file. An empty file is one that is still written.
+fn sign_in(alloc: Global, octets: Vec<u8>) -> EndSign
+    ensures sign { IsEndSign octets.items result }
+{
+    if octets.is_empty() {
+        return EndSign::Nothing;
+    }
+    match String::from_utf8(octets) {
+        Ok(text) => EndSign::Asked(text),
+        Err(_) => EndSign::Unread(String::from_str(alloc, NO_TEXT).ok()),
+    }
+}
+
 impl EndFile {
     // Returns whether the file is to be read: it is there, and was not found to be one that cannot be.
     fn is_asked<R: Wait>(&self, rt: &R) -> bool {
@@ -30,21 +45,14 @@ impl EndFile {
         !*is_stuck
     }
 
-    // The sign of what was read. An empty file is one that is still written: it stays, and is read again.
+    // The sign of what was read. An empty file stays, and is read again.
     fn sign_of<R: Wait>(&self, rt: &R, octets: ReadOctets) -> EndSign {
-        let octets = match octets {
-            Ok(octets) => octets,
+        match octets {
+            Ok(octets) => sign_in(self.alloc, octets),
             Err(reason) => {
                 *self.is_stuck.lock(rt) = true;
-                return EndSign::Unread(reason);
+                EndSign::Unread(reason)
             }
-        };
-        if octets.is_empty() {
-            return EndSign::Nothing;
-        }
-        match String::from_utf8(octets) {
-            Ok(text) => EndSign::Asked(text),
-            Err(_) => EndSign::Unread(String::from_str(self.alloc, NO_TEXT).ok()),
         }
     }
 

@@ -1,6 +1,8 @@
 //! The reload file of a server: once it appears, the configuration is read again.
 
-ghost use Rattle.std.specs.Prelude.{◌≡◌};
+ghost use Rattle.std.specs.Prelude.{◌≡◌, IfErr, IfOk, option_map, string_bytes};
+ghost use Rattle.machine_parts.specs.Reloads.{IsNotTaken};
+ghost use Rattle.ftpd.specs.Taken.{AreParted, TakesNext};
 
 use change_report::{ChangeReport, reload_report};
 use ftp_daemon::{Reload, ReloadFault, ReloadSign};
@@ -62,12 +64,8 @@ fn below_first(alloc: Global, report: &str) -> Option<String> {
 
 /// The parts that the server is to take, and those that are kept until it has taken them.
 fn parted(next: NextConfig, octets: Arc<Vec<u8>>) -> (Reload, KeptNext)
-    ensures terms { result.0.terms ≡ next.terms }
-    ensures limits { result.0.limits ≡ next.limits }
-    ensures connections { result.0.max_cons ≡ next.numbers.max_cons }
+    ensures parted { AreParted next result.0 result.1 }
     ensures of_address { result.0.max_cons_per_address ≡ next.numbers.max_cons_per_address }
-    ensures known { result.1.known ≡ next.known }
-    ensures facts { result.1.facts ≡ next.facts }
     ensures octets { result.1.octets ≡ octets }
 {
     let NextConfig {
@@ -89,6 +87,27 @@ fn parted(next: NextConfig, octets: Arc<Vec<u8>>) -> (Reload, KeptNext)
         octets,
     };
     (reload, kept)
+}
+
+/// The parts of the configuration that octets of the file at a path are, for a server that knows these names. `Err` is the
+/// reason for which it cannot take them; none without memory for it.
+fn next_of(
+    alloc: Global,
+    path: &str,
+    octets: Vec<u8>,
+    at_start: &AtStart,
+    known: &Known,
+) -> Result<(Reload, KeptNext), Option<String>>
+    ensures next { IfOk result
+        (λ both. TakesNext octets.items at_start.now known.now both.0 both.1) }
+    ensures refused { IfErr result (λ words. IsNotTaken path.now octets.items at_start.now
+        known.now (option_map string_bytes words)) }
+{
+    let next = next_config(alloc, path, octets.as_slice(), at_start, known)?;
+    match Arc::new(alloc, octets) {
+        Ok(octets) => Ok(parted(next, octets)),
+        Err(_) => Err(None),
+    }
 }
 
 /// The reason for which a configuration is not read again.
@@ -113,11 +132,7 @@ impl ReloadFile {
         let octets = octets?;
         let earlier = self.known.lock(rt);
         let path = self.reader.path();
-        let next = next_config(alloc, path, octets.as_slice(), &self.at_start, &*earlier)?;
-        let Ok(octets) = Arc::new(alloc, octets) else {
-            return Err(None);
-        };
-        let (reload, kept) = parted(next, octets);
+        let (reload, kept) = next_of(alloc, path, octets, &self.at_start, &*earlier)?;
         *self.next.lock(rt) = Some(kept);
         Ok(reload)
     }

@@ -1,6 +1,6 @@
 //! The server of the machine that the program runs on.
 
-ghost use Rattle.std.specs.Prelude.{◌≡◌, ◌≢◌, ◌+◌, ◌*◌, ◌<◌, ◌≤◌, true, None, Ok, Err, IfErr, IfOk};
+ghost use Rattle.std.specs.Prelude.{◌≡◌, ◌≢◌, ◌+◌, ◌*◌, ◌<◌, ◌≤◌, ◌&&◌, [], true, None, Some, Ok, Err, IfErr, IfOk, IfSome, is_some, option_map};
 ghost use Rattle.ftp_daemon.specs.SameRates.{may_hold};
 ghost use Rattle.line_rates.specs.Rates.{Rates};
 ghost use Rattle.line_rates.specs.declared.ask.Name.TheVariants.{Server};
@@ -9,6 +9,8 @@ ghost use Rattle.paced_rounds.specs.Settled.{rounds_of};
 ghost use Rattle.paced_rounds.specs.Spans.{IsWithinRates, granted_to, seconds_from};
 ghost use Rattle.round_pace.specs.Stretches.{StretchesKeep};
 ghost use Rattle.ftpd_program.specs.declared.server.ServeFault.TheVariants.{TransferLog};
+ghost use Rattle.machine_parts.specs.Names.{AreKnown};
+ghost use Rattle.ftpd.specs.Served.{IsFollowed, IsServed};
 
 use crate::end_file::EndFile;
 use crate::reload_file::ReloadFile;
@@ -138,6 +140,8 @@ fn followed_of(
     start: Start,
 ) -> Result<(ServedConfig, Followed), AllocError>
     ensures limits { IfOk result (λ both. both.0.parts.limits ≡ read.config.limits) }
+    ensures served { IfOk result (λ both. IsServed read syncs user_sessions patience both.0) }
+    ensures followed { IfOk result (λ both. IsFollowed read start both.1) }
 {
     let ReadText {
         path,
@@ -182,7 +186,11 @@ fn known_of(
     users: &Authorizer,
     groups: Vec<String>,
     limits: &Limits,
-) -> Result<Known, AllocError> {
+) -> Result<Known, AllocError>
+    ensures names { IfOk result (λ known. AreKnown users.now [] known.users.items) }
+    ensures groups { IfOk result (λ known. known.groups ≡ groups) }
+    ensures limits { IfOk result (λ known. known.limits ≡ limits.now) }
+{
     match copied_limits(alloc, limits) {
         Some(copy) => Known::of(alloc, users, &[], groups, copy),
         None => Err(AllocError),
@@ -220,6 +228,11 @@ fn reload_file(
     at_start: AtStart,
 ) -> Result<Option<ReloadFile>, AllocError>
     ensures none { stated ≡ None → IfOk result (λ file. file ≡ None) }
+    ensures there { IfOk result
+        (λ file. is_some file ≡ (is_some stated && is_some threads.now.reader)) }
+    ensures sign { IfOk result (λ file. IfSome file
+        (λ file. option_map (λ both. both.0) stated ≡ Some file.sign)) }
+    ensures start { IfOk result (λ file. IfSome file (λ file. file.at_start ≡ at_start)) }
 {
     let reader = another(&threads.reader)?;
     let (Some((sign, octets)), Some(reader)) = (stated, reader) else {
@@ -243,7 +256,11 @@ fn end_file(
     machine: &HostRuntime,
     sign: Option<SignFile>,
     threads: &OwnThreads,
-) -> Result<Option<EndFile>, AllocError> {
+) -> Result<Option<EndFile>, AllocError>
+    ensures there { IfOk result
+        (λ file. is_some file ≡ (is_some sign && is_some threads.now.ender)) }
+    ensures sign { IfOk result (λ file. IfSome file (λ file. sign ≡ Some file.sign)) }
+{
     let reader = another(&threads.ender)?;
     let (Some(sign), Some(reader)) = (sign, reader) else {
         return Ok(None);
@@ -257,7 +274,10 @@ fn end_file(
 }
 
 /// The end file, and its path, if there is to be one.
-fn split(end: Option<(SignFile, String)>) -> (Option<SignFile>, Option<String>) {
+fn split(end: Option<(SignFile, String)>) -> (Option<SignFile>, Option<String>)
+    ensures sign { result.0 ≡ option_map (λ both. both.0) end }
+    ensures path { result.1 ≡ option_map (λ both. both.1) end }
+{
     match end {
         Some((sign, path)) => (Some(sign), Some(path)),
         None => (None, None),
@@ -293,6 +313,8 @@ fn guidance_of<R>(
 where
     R: Threads + ServerRuntime + RoundClock + Copy + Send + Sync + 'static,
     ensures none { signs.reload ≡ None → IfOk result (λ guidance. guidance.reload ≡ None) }
+    ensures stop { IfOk result (λ guidance. guidance.fixed.stop ≡ signs.stop) }
+    ensures drain { IfOk result (λ guidance. guidance.fixed.drain ≡ signs.drain) }
 {
     let Signs {
         stop,

@@ -1,6 +1,7 @@
 """Names, files and numbers at their bounds: what is served at each, and what is told one past it."""
 import re
 import select
+import socket
 import subprocess
 import time
 
@@ -11,6 +12,8 @@ NAME, PATH, LINE = 255, 4_096, 4_096
 # The most lanes, and the greatest rate.
 LANES, RATE = 64, 2**40
 MUCH = 400_000_000
+# The octets of a read.
+PIECE = 4_000_000
 
 
 def table(name, password="secret", more=""):
@@ -106,6 +109,26 @@ def a_file_of_a_terabyte():
             server.ended()
 
 
+def a_transfer_beyond_four_gigabytes():
+    """A download of 2^32 + 1,000 octets is counted whole: in the note, in the transfer log, and in what was issued and moved."""
+    length = 2**32 + 1_000
+    with Server(root="folder", files={"big": length}, words=["--login-delay", "0", "--transfer-log", "log"]) as server:
+        client = Client(server)
+        data, come = client.passive(room=PIECE), 0
+        client.says("RETR big", "150 Opening data connection")
+        # (tcp(7): with this flag what has come is dropped, and only counted)
+        while octets := len(data.socket.recv(PIECE, socket.MSG_TRUNC)):
+            come += octets
+        data.close()
+        same(come, length, "octets that have come")
+        client.says(None, "226 Transfer complete")
+        client.quit()
+        same(server.ended(), (length, length, 0), "settled")
+        want(f'sent "/big": user "ann", {length} octets' in server.noted(), f"the note: {server.noted()}")
+        with open(f"{server.place}/log", encoding="ascii") as it:
+            same(it.read().split()[7:9], [f"{length}", "/big"], "the line of the transfer log")
+
+
 def come_to_all(datas):
     """Reads from all connections until octets have come on each."""
     left, begun = {it.socket for it in datas}, time.monotonic()
@@ -167,6 +190,7 @@ ROWS = [
     a_name_at_its_bound,
     a_path_at_its_bound,
     a_file_of_a_terabyte,
+    a_transfer_beyond_four_gigabytes,
     rounds_of_each_size,
     the_greatest_rate,
     words_that_are_no_text,

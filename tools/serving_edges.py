@@ -464,15 +464,36 @@ def a_transfer_without_an_answer(server, client):
     return listener, waiting
 
 
+def a_transfer_without_a_lane(server, client):
+    """A download while another, which nobody reads, has the only lane."""
+    holder = Client(server)
+    return holder, a_transfer_that_moves(server, holder), a_transfer_that_moves(server, client)
+
+
+def a_transfer_without_a_rate(server, client):
+    """A download under an octet a second: its lane waits for a grant."""
+    return a_transfer_that_moves(server, client)
+
+
+# What a transfer waits for, and the lines of the server that has it wait.
+WAITS = {
+    a_transfer_that_moves: "",
+    an_upload_that_moves: "",
+    a_transfer_without_a_client: "",
+    a_transfer_without_an_answer: "",
+    a_transfer_without_a_lane: "lanes = 1",
+    a_transfer_without_a_rate: "rate = 1",
+}
+
+
 def an_abort_is_answered_at_once():
     """ABOR is answered at once whatever its transfer waits for: a session waits for its client and for its transfer at the same time. The times are printed, with the load."""
-    states = (a_transfer_that_moves, an_upload_that_moves, a_transfer_without_a_client, a_transfer_without_an_answer)
     tries, told, slow = 11, [], []
-    with Server(sessions=0, root="folder", files={"big": 100_000_000}, passive=40, server="max_cons = 8", stop=True) as server:
-        for state in states:
+    for begin, lines in WAITS.items():
+        with Server(sessions=0, root="folder", files={"big": 100_000_000}, passive=40, server=f"max_cons = {tries + 1}\n{lines}", stop=True) as server:
             client, taken = Client(server), []
             for number in range(tries):
-                kept = state(server, client)
+                kept = begin(server, client)
                 # (by now the session waits: a look each 50 milliseconds, or more seldom, would answer late)
                 time.sleep(0.22 + number / 100)
                 begun = time.monotonic()
@@ -481,10 +502,10 @@ def an_abort_is_answered_at_once():
                 del kept
             client.quit()
             median = sorted(taken)[tries // 2]
-            told.append(f"{state.__name__} {1000 * median:.1f}")
+            told.append(f"{begin.__name__} {1000 * median:.1f}")
             slow += [told[-1]] if median > AT_ONCE * slack() else []
-        server.stop()
-        server.ended()
+            server.stop()
+            server.ended()
     print(f"an_abort_is_answered_at_once: milliseconds, with a load of {os.getloadavg()[0]:.1f}: {', '.join(told)}", flush=True)
     if slow:
         raise Late(f"half of the replies to ABOR came later than after {1000 * AT_ONCE:.0f} milliseconds: {', '.join(slow)}")

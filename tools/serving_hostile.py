@@ -1,6 +1,7 @@
 """What no client may do, however hostile: rows of `tools/serving`, each with servers of its own."""
 import contextlib
 import os
+import random
 import resource
 import select
 import socket
@@ -9,7 +10,7 @@ import time
 
 from serving_ends import promptly
 from serving_limits import is_served
-from serving_kit import STAMP, Client, Data, Server, same, together, until, want
+from serving_kit import STAMP, Client, Data, Server, in_time, same, together, until, want
 from serving_rows import MUCH, greeted, size
 
 IAC, SB, SE = b"\xff", b"\xfa", b"\xf0"
@@ -150,6 +151,46 @@ def few_open_files():
             client.close()
         # (those that were let in late may still hold their files)
         until(lambda: is_served(server), "a client that is served")
+        server.stop()
+        server.ended()
+
+
+def connected(client, line):
+    """Begins a transfer over a connection to a port of the client's. Returns that."""
+    with socket.create_server(("127.0.0.1", 0)) as listener:
+        port = listener.getsockname()[1]
+        client.says(f"PORT 127,0,0,1,{port // 256},{port % 256}", "200 OK")
+        client.says(line, "150 Opening data connection")
+        return listener.accept()[0]
+
+
+def transfers_without_a_bell():
+    """A session for which no descriptor is left for a bell moves whole files both ways and answers an ABOR, by its own looks; once there is a descriptor it has a bell."""
+    octets = random.Random(30).randbytes(3_000_000)
+    with Server(sessions=0, root="folder", files={"big": MUCH}, server="max_cons = 4", stop=True) as server:
+        client, hard = Client(server), resource.prlimit(server.process.pid, resource.RLIMIT_NOFILE)[1]
+        files = server.open_files()
+        # (one for the file, and one for the data connection: both are taken before the session wants a bell)
+        resource.prlimit(server.process.pid, resource.RLIMIT_NOFILE, (files + 2, hard))
+        for path, wanted in (("up", octets), ("big", bytes(MUCH))):
+            with connected(client, "STOR up") as data:
+                data.sendall(octets)
+            client.says(None, "226 Transfer complete")
+            with connected(client, f"RETR {path}") as data:
+                same(b"".join(iter(lambda it=data: it.recv(65_536), b"")) == wanted, True, f"the octets of {path}")
+            client.says(None, "226 Transfer complete")
+        for line in ("RETR big", "STOR other"):
+            with connected(client, line):
+                client.says("NOOP", "200 OK")
+                begun = time.monotonic()
+                client.says("ABOR", "426 Transfer aborted", "226 Abort done")
+                in_time(begun, 2, "the answer to ABOR")
+        same(server.bells(), 0, "bells without a descriptor for one")
+        resource.prlimit(server.process.pid, resource.RLIMIT_NOFILE, (hard, hard))
+        with connected(client, "RETR big"):
+            until(lambda: server.bells() == 1, "a bell")
+            client.says("ABOR", "426 Transfer aborted", "226 Abort done")
+        client.quit()
         server.stop()
         server.ended()
 
@@ -467,6 +508,7 @@ ROWS = [
     aborts_without_end,
     five_hundred_and_twelve,
     few_open_files,
+    transfers_without_a_bell,
     ports_that_are_left,
     a_peer_that_never_reads,
     lines_sent_ahead_hold_up_no_end,

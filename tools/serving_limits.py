@@ -178,6 +178,32 @@ def the_silent_leave():
         same((notes.count("timed out without a login"), notes.count("timed out without a sign of life")), (5, 2), "notes of it")
 
 
+def a_logout_begins_the_time_without_a_login():
+    """After REIN a client has the time for a login anew, whatever time has passed before: who is silent is told to go at its end, and who logs in again is not."""
+    limit = 2
+    with Server(sessions=0, stop=True, words=["--login-delay", "0", "--login-timeout", str(limit)]) as server:
+        silent, again = Client(server), Client(server)
+        # (by now a time that ran on since they came, or since the server began, is over)
+        time.sleep(1.5 * limit)
+        begun = time.monotonic()
+        for client in (silent, again):
+            client.says("REIN", "220 Ready")
+        again.says("USER ann", "331 Password required")
+        again.says("PASS secret", "230 Welcome")
+        # (a name alone ends no time without a login)
+        silent.says("USER ann", "331 Password required")
+        silent.says(None, "421 Login timed out")
+        taken = time.monotonic() - begun
+        want(taken >= limit, f"the end of a client after {taken:.2f} seconds, and not {limit}")
+        in_time(begun, 2 * limit, "the end of a client that has not logged in again")
+        silent.at_end()
+        again.says("NOOP", "200 OK")
+        again.quit()
+        server.stop()
+        server.ended()
+        same(server.notes_made().count("timed out without a login"), 1, "notes of it")
+
+
 def a_clock_of_the_wall_that_jumps():
     """Where each look at the clock of the wall is an hour early or an hour late, nobody is told to go, a rate is kept, and the next reload is taken."""
     if not shutil.which("rustc"):
@@ -388,6 +414,7 @@ ROWS = [
     few_files_are_noted,
     a_limit_of_file_sizes,
     the_silent_leave,
+    a_logout_begins_the_time_without_a_login,
     a_clock_of_the_wall_that_jumps,
     a_wrong_password_takes_time,
     the_address_of_a_port,

@@ -5,6 +5,7 @@ pub mod FileReading
 pub mod Following
 pub mod Known
 pub mod LimitWords
+pub mod LogCalls
 pub mod LookedFile
 pub mod Machine
 pub mod Names

@@ -4,6 +4,7 @@ ghost use Rattle.std.specs.Prelude.{◌≡◌, ◌≤◌, ◌<◌, IfErr, IfOk, 
 ghost use Rattle.std.specs.IoError.{raw_os_error};
 ghost use Rattle.counted_file.specs.Calls.{IsCounted, no_calls};
 ghost use Rattle.machine_parts.specs.Answers.{is_log_mode};
+ghost use Rattle.machine_parts.specs.LogCalls.{IsAnew, IsCountedAnew};
 
 use crate::options::log_options;
 use counted_file::CountedFile;
@@ -71,7 +72,9 @@ fn checked(file: File, mode: u32, numbers: Option<FileNumbers>) -> io::Result<Op
 
 // Opens a log for reading and appending, which waits for nobody at the other end of a pipe (fifo(7)), and looks at it by
 // its descriptor. What can be no log is refused.
-fn opened(machine: &HostRuntime, path: &str) -> io::Result<OpenLog> {
+fn opened(machine: &HostRuntime, path: &str) -> io::Result<OpenLog>
+    ensures calls { IfOk result (λ log. log.file.calls ≡ no_calls) }
+{
     let file = log_options().mode(MODE).open(machine, path)?;
     let found = file.metadata()?;
     let mode = found.mode();
@@ -121,6 +124,7 @@ impl LogFile {
     /// open now.
     pub fn reopen(&mut self) -> bool
         ensures same { result ≡ false → self.new.open ≡ self.old.open }
+        ensures another { result ≡ true → self.new.open.file.calls ≡ no_calls }
         ensures path { self.new.path ≡ self.old.path }
     {
         let there = numbers_of(fs::metadata(&self.machine, self.path.as_str()));
@@ -131,6 +135,17 @@ impl LogFile {
         self.take(opened)
     }
 
+    // Before a line, opens the file anew if it was moved away. One that goes on stays in its file.
+    fn begin(&mut self, goes_on: bool)
+        ensures same { goes_on ≡ true → self.new.open ≡ self.old.open }
+        ensures anew { IsAnew self.old.open.file.calls self.new.open.file.calls }
+        ensures path { self.new.path ≡ self.old.path }
+    {
+        if !goes_on {
+            self.reopen();
+        }
+    }
+
     /// Appends some of these octets, which begin a line unless `goes_on`: then the file is opened anew first, if it was moved
     /// away. Returns their number. `Err` is the machine's reason if it takes none.
     pub fn append(&mut self, octets: &[u8], goes_on: bool) -> io::Result<usize>
@@ -138,11 +153,10 @@ impl LogFile {
         ensures some { IfOk result (λ count. 0 < count) }
         ensures counted { goes_on ≡ true
             → IsCounted result self.old.open.file.calls self.new.open.file.calls }
+        ensures anew { IsCountedAnew result self.old.open.file.calls self.new.open.file.calls }
         ensures path { self.new.path ≡ self.old.path }
     {
-        if !goes_on {
-            self.reopen();
-        }
+        self.begin(goes_on);
         self.open.file.write_some(octets)
     }
 }

@@ -3,8 +3,10 @@
 ghost use Rattle.std.specs.Prelude.{◌≡◌, ◌≤◌, IfOk, IfSome, MatchResult, None, Some, cond, false, is_some, length, nat_eq, not, option_map, string_bytes, true};
 ghost use Rattle.std.specs.Arc.{arc_value};
 ghost use Rattle.std.specs.Fmt.{debug_str};
+ghost use Rattle.counted_file.specs.Calls.{no_calls};
 ghost use Rattle.line_queue.specs.Queues.{transfers_text};
 ghost use Rattle.line_queue.specs.declared.rounds.Readiness.TheVariants.{Gone};
+ghost use Rattle.machine_parts.specs.LogCalls.{IsTaken, IsTakenAnew};
 ghost use Rattle.machine_parts.specs.PlainNotes.{IsUnseen, IsUnwritten, gone_line, head_of, unseen_text, unwritten_text};
 
 use crate::log_file::LogFile;
@@ -235,6 +237,7 @@ impl<R: Wait + AllocGlobal> NotedLog<R> {
         ensures taken { MatchResult answer (λ count. result ≡ count) (λ _. result ≡ 0) }
         ensures noted { MatchResult answer (λ _. self.new.is_noted ≡ false)
             (λ _. self.new.is_noted ≡ true) }
+        ensures file { self.new.file ≡ self.old.file }
     {
         match answer {
             Ok(count) => {
@@ -262,12 +265,19 @@ impl<R: Wait + AllocGlobal> LineOutlet for NotedLog<R> {
     fn write(&mut self, octets: &[u8], goes_on: bool) -> usize
         ensures bound { result ≤ length octets.now }
         ensures noted { self.new.is_noted ≡ nat_eq result 0 }
+        ensures taken { goes_on ≡ true
+            → IsTaken result self.old.file.open.file.calls self.new.file.open.file.calls }
+        ensures anew { IsTakenAnew result self.old.file.open.file.calls
+            self.new.file.open.file.calls }
     {
         let answer = self.file.append(octets, goes_on);
         self.count(answer)
     }
 
-    fn follow(&mut self) -> bool {
+    fn follow(&mut self) -> bool
+        ensures same { result ≡ false → self.new.file.open ≡ self.old.file.open }
+        ensures another { result ≡ true → self.new.file.open.file.calls ≡ no_calls }
+    {
         self.file.reopen()
     }
 }

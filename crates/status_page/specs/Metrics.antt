@@ -179,7 +179,7 @@ end_rows ends =
 
 -- ---- guarantees
 
--- what is guaranteed within a limit, in a direction
+-- the guarantees within a limit in a direction, together
 unfoldable pub promise_row : List ℕ → List ℕ → List ℕ → ℕ → ShownRow
 promise_row kind name direction rate =
     Further (codes "ftpd_guaranteed_bytes_per_second") (limit_labels kind name direction) rate

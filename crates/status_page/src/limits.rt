@@ -59,7 +59,8 @@ fn push_limit<'a>(rows: &mut Vec<Row<'a>>, limit: Limit<'a>, rate: Rate) -> Resu
 }
 
 fn push_line<'a>(rows: &mut Vec<Row<'a>>, line: LineRates) -> Result<(), AllocError>
-    ensures rows { OnOk result (map row_of rows.new.items ≡ map row_of rows.old.items ++ line_rows line) }
+    ensures rows { OnOk result
+        (map row_of rows.new.items ≡ map row_of rows.old.items ++ line_rows line) }
 {
     let (kind, name) = ("direction", "");
     let both = Limit {
@@ -83,7 +84,8 @@ fn push_line<'a>(rows: &mut Vec<Row<'a>>, line: LineRates) -> Result<(), AllocEr
 }
 
 fn push_group<'a>(rows: &mut Vec<Row<'a>>, group: &'a GroupStatus) -> Result<(), AllocError>
-    ensures rows { OnOk result (map row_of rows.new.items ≡ map row_of rows.old.items ++ group_rows group.now) }
+    ensures rows { OnOk result
+        (map row_of rows.new.items ≡ map row_of rows.old.items ++ group_rows group.now) }
 {
     let (kind, name) = ("group", group.name.as_str());
     let down = Limit {

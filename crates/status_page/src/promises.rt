@@ -10,7 +10,7 @@ use crate::rows::{Head, Row};
 use server_status::{GroupStatus, Rate, Status};
 use std::alloc::AllocError;
 
-/// What is guaranteed within a limit in a direction.
+/// Guarantees within a limit in a direction, together.
 #[tactic(auto, unfolding(crate::specs::Metrics::promise_row))]
 fn promise<'a>(kind: &'static str, name: &'a str, direction: &'static str, rate: Rate) -> Row<'a>
     ensures row { row_of result ≡ promise_row kind.now name.now direction.now rate }
@@ -60,7 +60,8 @@ fn push_group<'a>(rows: &mut Vec<Row<'a>>, group: &'a GroupStatus) -> Result<(),
 
 fn push_groups<'a>(rows: &mut Vec<Row<'a>>, groups: &'a [GroupStatus]) -> Result<(), AllocError>
     ensures rows { OnOk result
-        (map row_of rows.new.items ≡ map row_of rows.old.items ++ flat_map group_promises groups.now) }
+        (map row_of rows.new.items ≡ map row_of rows.old.items
+        ++ flat_map group_promises groups.now) }
 {
     for group in groups {
         push_group(rows, group)?;

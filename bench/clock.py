@@ -1,9 +1,11 @@
 """Runs programs and tells the time of the processor that they took, and what `valgrind` counts.
 
 `BENCH_UNTIL` is the moment by the machine's clock (`time.monotonic`) from which on a part of the bench begins no further row, and `QUICK`
-asks the parts `peers` and `grows` for their smallest sizes, by which only the bench itself is tried.
+asks the parts `peers` and `grows` for their smallest sizes, by which only the bench itself is tried. `BUSY=N` has so many programs beside
+the parts `pace` and `office` that do nothing but keep a processor busy.
 """
 
+import contextlib
 import os
 import re
 import shutil
@@ -11,10 +13,28 @@ import statistics
 import subprocess
 import sys
 import time
+from collections import namedtuple
 
 UNTIL = float(os.environ.get("BENCH_UNTIL", "inf"))
 QUICK = bool(os.environ.get("QUICK"))
+BUSY = int(os.environ.get("BUSY") or 0)
 LEFT_OUT = []
+
+
+@contextlib.contextmanager
+def beside_busy():
+    """So many programs as `BUSY` says that never wait, until this is left."""
+    with contextlib.ExitStack() as held:
+        for _ in range(BUSY):
+            one = subprocess.Popen([sys.executable, "-c", "while True: pass"])
+            held.callback(one.wait)
+            held.callback(one.kill)
+        yield
+
+
+def is_calm():
+    """Whether the machine has a processor for each program that wants one, as far as its load of the last minute and `BUSY` say."""
+    return max(BUSY, os.getloadavg()[0]) < os.cpu_count()
 
 
 def in_time(items, what=""):
@@ -79,3 +99,22 @@ def tell(head, rows):
         if LEFT_OUT:
             print(f"Left out: {'; '.join(LEFT_OUT)}.\n", flush=True)
             LEFT_OUT.clear()
+
+
+# What rows are to have, at least or at most. `value` is called with a row's name and with what was found in it, and has what of it is meant, or nothing if the goal is not of that row.
+Goal = namedtuple("Goal", "name value least most", defaults=(None, None))
+
+
+def judge(goals, found):
+    """Prints for each goal and server the row that is furthest from it, and whether it is met. What was found has a row for each name and server."""
+    rows = []
+    for goal in goals:
+        for server in dict.fromkeys(of for _, of, _ in found):
+            values = [(goal.value(row, it), row) for row, of, it in found if of == server]
+            values = [it for it in values if it[0] is not None]
+            if values:
+                worst, row = min(values) if goal.most is None else max(values)
+                wanted, is_met = (f"at least {goal.least}", worst >= goal.least) if goal.most is None else (f"at most {goal.most}", worst <= goal.most)
+                rows.append([goal.name, server, wanted, f"{worst:.4f}", row, "met" if is_met else "missed"])
+    if rows:
+        tell(["goal", "server", "wanted", "measured", "the furthest of its rows", "met or missed"], rows)

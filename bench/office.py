@@ -17,7 +17,7 @@ import sys
 import threading
 import time
 
-from clock import in_time, tell
+from clock import Goal, beside_busy, in_time, is_calm, judge, tell
 from pace import DOWN, UP, Transfer, read_all
 from serve import Running
 
@@ -91,7 +91,7 @@ def of(shares, due):
     return f"{min(shares) / due:.3f} to {max(shares) / due:.3f}" if shares else "-"
 
 
-def rows(folder, servers):
+def rows(folder, servers, found):
     rates = f"down_rate = {DOWN_RATE}\nup_rate = {UP_RATE}"
     for name in in_time(CASES):
         downs, ups = CASES[name]
@@ -100,6 +100,7 @@ def rows(folder, servers):
                 ann, other, upload = planned(server, downs, ups)
                 shares, wait, used = measured(server, downs, ups)
             down, up = shares[: downs + 1], shares[downs + 1 :]
+            found.append((name, called, down[0] / ann))
             line = f"{sum(down) / DOWN_RATE:.3f}" + (f", {sum(up) / UP_RATE:.3f}" if up else "")
             yield [name, called, f"{down[0] / ann:.3f}", of(down[1:], other), of(up, upload), line, f"{wait * 1e3:.0f} ms", f"{used * 100:.1f} %"]
 
@@ -109,7 +110,10 @@ def main(folder, *servers):
     with open(f"{folder}/files/big", "wb") as it:
         it.truncate(1 << 40)
     head = ["downloads and uploads of others", "server", "the guaranteed one, of 1,000,000", "other downloads", "uploads", "of the line", "a listing, at most", "processor"]
-    tell(head, rows(folder, [it.split("=", 1) for it in servers]))
+    least, found = 0.99 if is_calm() else 0.97, []
+    with beside_busy():
+        tell(head, rows(folder, [it.split("=", 1) for it in servers], found))
+    judge([Goal("a guarantee in an office of forty", lambda _, it: it, least=least)], found)
 
 
 if __name__ == "__main__":

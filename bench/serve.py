@@ -3,34 +3,49 @@
     python3 serve.py FOLDER YARDSTICK LOAD RUNS NAME=FTPD [NAME=FTPD ..]
 
 FOLDER lies in a file system in memory. Each row is made with one server after the other, the plain one last, so many times, and tells the best:
-octets or files a second, and seconds of the processor of the server alone, its own and the system's for it. Then come the idle server,
-its memory, the division of rates, and how long others wait for the listing of a large directory. Only ratios of one run say anything.
+octets or files a second, seconds of the processor of the server alone, its own and the system's for it, and how often its threads left a
+processor of themselves (getrusage(2)). Then come the idle server, its memory, the division of rates, and how long others wait for the listing of
+a large directory. Only ratios of one run say anything.
+
+`CASES=TEXT` makes only the rows of transfers whose names have that text, of several by `|` any of them.
 """
 
 import contextlib
 import os
+import signal
 import socket
 import subprocess
 import sys
 import threading
 import time
 
-from clock import in_time, seconds_of, tell
+from clock import Goal, in_time, judge, seconds_of, tell
 
 MEGABYTE = 1_048_576
 BIG, MIDDLE, SMALL = 512, 32, 1_000
 LANES, CLIENTS = 64, 16
+LONGEST_RELOAD = 10
 SESSIONS = 64
 RATE = 4 * MEGABYTE
 ENTRIES, LISTINGS = 10_000, 3
+BLOCK = 65_536
 # row: what the clients do, and in what it is counted
 ROWS = {
     "1 download of 512 MB": (["down", "1", "1", "big"], MEGABYTE, "MB/s"),
     "16 downloads, 4 of 32 MB each": (["down", str(CLIENTS), "4", "middle"], MEGABYTE, "MB/s"),
+    "64 downloads of 32 MB each": (["down", str(LANES), "1", "middle"], MEGABYTE, "MB/s"),
     "1 upload of 512 MB": (["up", "1", "1", str(BIG * MEGABYTE)], MEGABYTE, "MB/s"),
     "16 uploads of 32 MB each": (["up", str(CLIENTS), "1", str(MIDDLE * MEGABYTE)], MEGABYTE, "MB/s"),
     "1 KB files, 1 client": (["down", "1", "2000", "small"], 1_024, "files/s"),
     "1 KB files, 16 clients": (["down", str(CLIENTS), "250", "small"], 1_024, "files/s"),
+}
+# The processor time of a row, over that of the plain server, is at most this.
+MOST = {
+    "1 download of 512 MB": 1.08,
+    "16 downloads, 4 of 32 MB each": 1.15,
+    "64 downloads of 32 MB each": 1.2,
+    "1 upload of 512 MB": 1.06,
+    "16 uploads of 32 MB each": 1.1,
 }
 
 
@@ -55,15 +70,33 @@ class Running:
     def __init__(self, folder, program, is_plain, rates="", users=(("ann", ""),), groups="", words=()):
         self.folder, self.program, self.is_plain = folder, program, is_plain
         self.port = ports(1_000)
-        first, last = self.port + 1, self.port + 999
         if is_plain:
-            self.words = [program, str(self.port), f"{folder}/files", str(LANES), str(first), str(last)]
+            self.words = [program, str(self.port), f"{folder}/files", str(LANES), str(self.port + 1), str(self.port + 999)]
             return
-        head = f'version = 2\n[server]\nroot = "{folder}/files"\nport = {self.port}\npassive_first = {first}\npassive_last = {last}\nmax_cons = 512\nlanes = {LANES}\n{rates}\n'
-        text = head + groups + "".join(f'[[user]]\nname = "{name}"\npassword = "secret"\nhome = "/"\nperms = "elradfmw"\n{more}\n' for name, more in users)
-        with open(f"{folder}/ftpd.toml", "w", encoding="utf-8") as it:
-            it.write(text)
+        self.write(rates, users, groups)
         self.words = [program, "serve", f"{folder}/ftpd.toml", *words]
+
+    def write(self, rates, users, groups):
+        """Writes the configuration."""
+        at = f"port = {self.port}\npassive_first = {self.port + 1}\npassive_last = {self.port + 999}"
+        head = f'version = 2\n[server]\nroot = "{self.folder}/files"\n{at}\nmax_cons = 512\nlanes = {LANES}\n{rates}\n'
+        text = head + groups + "".join(f'[[user]]\nname = "{name}"\npassword = "secret"\nhome = "/"\nperms = "elradfmw"\n{more}\n' for name, more in users)
+        with open(f"{self.folder}/new.toml", "w", encoding="utf-8") as it:
+            it.write(text)
+        os.rename(f"{self.folder}/new.toml", f"{self.folder}/ftpd.toml")
+
+    def reload(self, rates, users, groups=""):
+        """Has the server, whose words have this reload file, take another configuration; returns once it notes that."""
+        self.write(rates, users, groups)
+        with open(f"{self.folder}/reload", "wb"):
+            pass
+        until = time.monotonic() + LONGEST_RELOAD
+        while time.monotonic() < until:
+            with open(f"{self.folder}/log", encoding="utf-8") as it:
+                if "configuration reloaded" in it.read():
+                    return
+            time.sleep(0.005)
+        sys.exit("bench: no configuration was reloaded")
 
     def __enter__(self):
         self.log = open(f"{self.folder}/log", "wb")
@@ -77,14 +110,23 @@ class Running:
         return self
 
     def __exit__(self, *_):
-        self.process.kill()
-        self.process.wait()
+        os.kill(self.process.pid, signal.SIGKILL)
+        _, status, used = os.wait4(self.process.pid, 0)
+        self.process.returncode, self.switched = os.waitstatus_to_exitcode(status), used.ru_nvcsw
         self.process.stdout.close()
         self.log.close()
 
     def seconds(self):
         """What it has taken of the processor."""
         return seconds_of(self.process.pid)
+
+    def switches(self):
+        """How often the threads that it has left a processor of themselves; `switched` has that of all its threads once it has ended."""
+        total = 0
+        for thread in os.listdir(f"/proc/{self.process.pid}/task"):
+            with open(f"/proc/{self.process.pid}/task/{thread}/status", encoding="utf-8") as it:
+                total += next(int(line.split()[1]) for line in it if line.startswith("voluntary_ctxt"))
+        return total
 
     def memory(self):
         """What it holds, in MB."""
@@ -127,19 +169,30 @@ def loaded(load, server, words):
 PLAIN = "plain"
 
 
-def throughput(folder, servers, load, runs):
-    for row in in_time(ROWS):
+def is_wanted(name):
+    """Whether a row is to be made."""
+    return any(it in name for it in os.environ.get("CASES", "").split("|"))
+
+
+def throughput(folder, servers, load, runs, found):
+    """A row of each kind of transfers. What each server took of the processor, over the plain one, is added to `found`."""
+    for row in in_time(filter(is_wanted, ROWS)):
         words, unit, what = ROWS[row]
-        best, least = {}, {}
+        best, least, left = {}, {}, {}
         for _ in range(runs):
             for name, program in servers:
                 with Running(folder, program, name == PLAIN) as server:
+                    before = server.switches()
                     octets, took, used = loaded(load, server, words)
                 best[name] = max(best.get(name, 0), octets / unit / took)
                 least[name] = min(least.get(name, used), used)
+                switches = (server.switched - before) / (octets / min(unit, BLOCK))
+                left[name] = min(left.get(name, switches), switches)
         names = [name for name, _ in servers]
-        over = lambda found: [f"{found[name] / max(found[PLAIN], 0.01):.2f}" for name in names if name != PLAIN]
-        yield [row, *(f"{best[it]:,.0f} {what}" for it in names), *over(best), *(f"{least[it]:.2f}" for it in names), *over(least)]
+        over = lambda of: {name: of[name] / max(of[PLAIN], 0.01) for name in names if name != PLAIN}
+        found += [(row, name, it) for name, it in over(least).items()]
+        ratios = lambda of: [f"{it:.2f}" for it in over(of).values()]
+        yield [row, *(f"{best[it]:,.0f} {what}" for it in names), *ratios(best), *(f"{least[it]:.2f}" for it in names), *ratios(least), *(f"{left[it]:.2f}" for it in names)]
 
 
 def idle(folder, servers, load):
@@ -235,10 +288,14 @@ def listing(folder, program):
 def main(folder, plain, load, runs, *words):
     make_files(folder)
     named = [it.split("=", 1) for it in words]
-    servers, ftpd = [*named, (PLAIN, plain)], named[0][1]
+    servers, ftpd, found = [*named, (PLAIN, plain)], named[0][1], []
     names = [name for name, _ in servers]
     over = [f"{name} / {PLAIN}" for name in names if name != PLAIN]
-    tell(["what", *names, *over, *(f"{name}: processor s" for name in names), *over], throughput(folder, servers, load, int(runs)))
+    head = ["what", *names, *over, *(f"{name}: processor s" for name in names), *over, *(f"{name}: switches for 64 KB or a file" for name in names)]
+    tell(head, throughput(folder, servers, load, int(runs), found))
+    judge([Goal(f"processor time over the plain server: {row}", lambda name, it, row=row: it if name == row else None, most=most) for row, most in MOST.items()], found)
+    if os.environ.get("CASES"):
+        return
     tell(["idle", "no session", "MB", f"{SESSIONS} sessions", "MB"], idle(folder, servers, load))
     tell(["division of 4 MiB/s", "MiB/s each", "of what each ought to have", "of the rate", "processor"], divisions(folder, ftpd, load))
     tell(["a long listing", "it takes (ms)", "others wait at most (ms)"], (listing(folder, ftpd) for _ in in_time(["a long listing"])))

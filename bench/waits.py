@@ -16,7 +16,7 @@ import sys
 import time
 from collections import namedtuple
 
-from clock import in_time, tell
+from clock import Goal, in_time, judge, tell
 from serve import ENTRIES, MEGABYTE, Running, Talk, make_files
 
 FEW, MANY = 64, 510
@@ -92,8 +92,24 @@ def held_by(process):
     return *held.values(), len(os.listdir(f"/proc/{process}/task"))
 
 
-def idle(folder, servers, memories):
-    """A row of each case and server; adds a row to `memories` of what it holds, and of what that is beyond no session for each."""
+# What of a core each of these takes at most, and how many MB it holds at most.
+MOST = {
+    f"{FEW} silent sessions": (0.001, None),
+    f"{MANY} silent sessions": (0.003, 12),
+    f"{FEW} sessions that wait for a client": (0.005, None),
+    f"{FEW} downloads that nobody reads": (0.005, 12),
+}
+
+
+def goals():
+    for name, (used, memory) in MOST.items():
+        yield Goal(f"{name}, of a core", lambda row, it, name=name: it[0] if row == name else None, most=used)
+        if memory:
+            yield Goal(f"{name}, MB", lambda row, it, name=name: it[1] if row == name else None, most=memory)
+
+
+def idle(folder, servers, memories, found):
+    """A row of each case and server; adds a row to `memories` of what it holds, and of what that is beyond no session for each, and to `found` what it takes and holds."""
     nobody = {}
     for name in in_time(CASES):
         begin, number = CASES[name]
@@ -108,6 +124,7 @@ def idle(folder, servers, memories):
             nobody.setdefault(called, parts)
             each = [f" ({(now - then) / number:.1f})" if number else "" for now, then in zip(parts[:3], nobody[called])]
             memories.append([name, called, f"{memory:.1f}", *(f"{part:,}{more}" for part, more in zip(parts, each)), f"{parts[3]:,}", f"{parts[4]}"])
+            found.append((name, called, (used / COUNTED, memory)))
             yield [name, called, f"{used / COUNTED * 100:.2f} %", f"{memory:.1f}"]
 
 
@@ -130,10 +147,11 @@ def listings(folder, servers):
 
 def main(folder, *words):
     make_files(folder)
-    servers, memories = [it.split("=", 1) for it in words], []
+    servers, memories, found = [it.split("=", 1) for it in words], [], []
     tell([f"a listing of {ENTRIES:,} entries", "server", "processor (ms)", "it takes (ms)"], listings(folder, servers))
-    tell(["clients that do nothing", "server", "processor", "MB"], idle(folder, servers, memories))
+    tell(["clients that do nothing", "server", "processor", "MB"], idle(folder, servers, memories, found))
     tell(["clients that do nothing", "server", "MB", "files, KB", "stacks (each)", "heap (each)", "rest", "threads"], memories)
+    judge(goals(), found)
 
 
 if __name__ == "__main__":

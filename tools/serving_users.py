@@ -32,8 +32,8 @@ def shared(groups, seconds, line=LINE):
 
 
 def are(parts, wanted):
-    """Whether each transfer of a group has this part of the line, within a fifth of it or a twenty-fifth of the line (a ninth and a sixteenth are further apart)."""
-    return all(abs(part - one) < max(one / 5, 1 / 25) for group, one in zip(parts, wanted) for part in group)
+    """Whether each transfer of a group has this part of the line, within a fifth of it (so a ninth is no sixteenth)."""
+    return all(abs(part - one) < one / 5 for group, one in zip(parts, wanted) for part in group)
 
 
 def one_download_beside_eight_of_another():

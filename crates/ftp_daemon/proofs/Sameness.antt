@@ -4,8 +4,10 @@ use Rattle.std.specs.FinMap as finite
 use Rattle.std.proofs.lemmas.Bool.{eq-eqb, eqb-true}
 use Rattle.line_rates.specs.declared.row.GroupRate.{GroupRate}
 use Rattle.line_rates.specs.declared.row.UserRate.{UserRate}
+use Rattle.line_rates.specs.declared.share_by.ShareBy.{ShareBy}
+use Rattle.line_rates.specs.declared.share_by.ShareBy.TheVariants.{Sessions, Users}
 use Rattle.line_rates.specs.Rates.{Rates}
-use Rattle.ftp_daemon.specs.SameRates.{same_number, same_group, same_user, same_rows, same_rates}
+use Rattle.ftp_daemon.specs.SameRates.{same_number, same_group, same_user, same_rows, same_sharing, same_rates}
 
 both : (a b : Bool) → a ≡ true → b ≡ true → (a && b) ≡ true
 both true true p q = refl
@@ -35,10 +37,14 @@ rows_same : {X : Type 0} (same : X → X → Bool) → ((x : X) → same x x ≡
 rows_same same each [] = refl
 rows_same same each (row ∷ rows) = both _ _ (both _ _ (same_nat row.0) (each row.1)) (rows_same same each rows)
 
+sharing_same : (by : ShareBy) → same_sharing by by ≡ true
+sharing_same Sessions = refl
+sharing_same Users = refl
+
 pub rates_same : (rates : Rates) → same_rates rates rates ≡ true
 rates_same rates =
-    both _ _ (both _ _ (both _ _ (both _ _ (same_nat rates.server) (same_nat rates.down)) (same_nat rates.up))
-    (rows_same same_group group_same (finite.entries rates.groups))) (rows_same same_user user_same (finite.entries rates.users))
+    both _ _ (both _ _ (both _ _ (both _ _ (both _ _ (same_nat rates.server) (same_nat rates.down)) (same_nat rates.up))
+    (rows_same same_group group_same (finite.entries rates.groups))) (rows_same same_user user_same (finite.entries rates.users))) (sharing_same rates.share_by)
 
 pub same_server : (limits rates : Rates) → same_rates limits rates ≡ true → rates.server ≡ limits.server
-same_server limits rates same = sym (eqb-true limits.server rates.server (first _ _ (first _ _ (first _ _ (first _ _ same)))))
+same_server limits rates same = sym (eqb-true limits.server rates.server (first _ _ (first _ _ (first _ _ (first _ _ (first _ _ same))))))

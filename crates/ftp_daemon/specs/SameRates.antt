@@ -3,6 +3,8 @@ use Rattle.std.specs.Prelude.{◌≡◌, ℕ, Bool, true, false, ◌&&◌, ◌||
 use Rattle.std.specs.FinMap as finite
 use Rattle.line_rates.specs.declared.row.GroupRate.{GroupRate}
 use Rattle.line_rates.specs.declared.row.UserRate.{UserRate}
+use Rattle.line_rates.specs.declared.share_by.ShareBy.{ShareBy}
+use Rattle.line_rates.specs.declared.share_by.ShareBy.TheVariants.{Sessions, Users}
 use Rattle.line_rates.specs.Rates.{Rates}
 
 abbrev pub same_number : Option ℕ → Option ℕ → Bool
@@ -28,12 +30,21 @@ same_rows same [] (y ∷ ys) = false
 same_rows same (x ∷ xs) [] = false
 same_rows same (x ∷ xs) (y ∷ ys) = nat_eq x.0 y.0 && same x.1 y.1 && same_rows same xs ys
 
--- the same rates: of the line, of each group and of each user
+-- a line is shared among the same
+abbrev pub same_sharing : ShareBy → ShareBy → Bool
+same_sharing Sessions Sessions = true
+same_sharing Sessions Users = false
+same_sharing Users Sessions = false
+same_sharing Users Users = true
+
+-- the same rates, of the line, of each group and of each user, of a line that is shared among the
+-- same
 abbrev pub same_rates : Rates → Rates → Bool
 same_rates a b =
     nat_eq a.server b.server && nat_eq a.down b.down && nat_eq a.up b.up
     && same_rows same_group (finite.entries a.groups) (finite.entries b.groups)
     && same_rows same_user (finite.entries a.users) (finite.entries b.users)
+    && same_sharing a.share_by b.share_by
 
 -- those of the start, and those that its owner may put in force
 abbrev pub may_hold : Rates → (Rates → Bool) → Rates → Bool

@@ -3,5 +3,6 @@ pub mod Escapes
 pub mod Exchanges
 pub mod Hosts
 pub mod Metrics
-pub mod Samples
+pub mod Rows
+pub mod Shown
 pub mod Timing

@@ -1,6 +1,5 @@
--- A status in Prometheus' text format, version 0.0.4.
-use Rattle.std.specs.Prelude.{ℕ, ◌+◌, ◌-◌, ◌/◌, ◌==◌, if◌then◌else◌, nat_eq, nat_lt, min, length, List, [], ◌∷◌, ◌++◌, codes, string_bytes}
-use Rattle.std.specs.Fmt.{decimal}
+-- The metrics of a status, as a list of rows.
+use Rattle.std.specs.Prelude.{ℕ, ◌+◌, ◌-◌, ◌/◌, if◌then◌else◌, nat_eq, nat_lt, min, length, List, [], ◌∷◌, ◌++◌, codes, string_bytes}
 use Rattle.std.specs.List.{flat_map, sum_by}
 use Rattle.std.specs.Option.{option_map_or}
 use Rattle.server_status.specs.declared.status.AccountStatus.{AccountStatus}
@@ -13,58 +12,14 @@ use Rattle.server_status.specs.declared.status.SharedAmong.{SharedAmong}
 use Rattle.server_status.specs.declared.status.SharedAmong.TheVariants.{Sessions, Users}
 use Rattle.server_status.specs.declared.status.Status.{Status}
 use Rattle.server_status.specs.declared.status.TransferStatus.{TransferStatus}
-use Rattle.status_page.specs.Escapes.{escaped}
-
--- ---- the form
-
--- a sample: the name of its metric, the type and the meaning of that if this is its first sample,
--- its labels, and its value
-pub record Line : Type 0 where
-  pub name : List ℕ
-  pub type : List ℕ
-  pub help : List ℕ
-  pub labels : List ℕ
-  pub value : ℕ
-
--- a metric with one sample: a value that rises and falls, or one that never falls
-abbrev pub gauge : List ℕ → List ℕ → ℕ → Line
-gauge name help value =
-    record { name = name; type = codes "gauge"; help = help; labels = []; value = value }
-
-abbrev pub counter : List ℕ → List ℕ → ℕ → Line
-counter name help value =
-    record { name = name; type = codes "counter"; help = help; labels = []; value = value }
-
--- a further sample of a metric
-abbrev pub further : List ℕ → List ℕ → ℕ → Line
-further name labels value =
-    record { name = name; type = []; help = []; labels = labels; value = value }
-
--- the lines before the first sample of a metric: its meaning and its type
-abbrev pub head : List ℕ → List ℕ → List ℕ → List ℕ
-head name type help =
-    codes "# HELP " ++ name ++ codes " " ++ help ++ codes "\n# TYPE " ++ name ++ codes " " ++ type
-    ++ 10 ∷ []
-
--- these, if it is the first sample
-unfoldable pub meaning : Line → List ℕ
-meaning line = if length line.help == 0 then [] else head line.name line.type line.help
-
-abbrev pub line_text : Line → List ℕ
-line_text line =
-    meaning line ++ line.name ++ line.labels ++ codes " " ++ decimal line.value ++ 10 ∷ []
+use Rattle.status_page.specs.Rows.{ShownLabel, ShownRow, Head, First, Further, counter, gauge, one, row_text}
 
 -- ---- the server
 
-unfoldable pub build_lines : Status → List Line
-build_lines status =
-    record {
-      name = codes "ftpd_build_info";
-      type = codes "gauge";
-      help = codes "Version of the server.";
-      labels = codes "{version=\"1\"}";
-      value = 1;
-    }
+unfoldable pub build_rows : Status → List ShownRow
+build_rows status =
+    First (codes "ftpd_build_info") (codes "gauge")
+    (codes "Version of the server.") (one (codes "version") (codes "1")) 1
     ∷ gauge (codes "ftpd_start_time_seconds") (codes "Start of the server, since 1970.")
     status.started
     ∷ gauge (codes "ftpd_uptime_seconds") (codes "Whole seconds since the start.")
@@ -78,8 +33,8 @@ is_idle now session = if nat_lt session.active now then 1 else 0
 abbrev pub idle : ℕ → List SessionStatus → ℕ
 idle now sessions = sum_by (is_idle now) sessions
 
-unfoldable pub session_lines : Status → List Line
-session_lines status =
+unfoldable pub session_rows : Status → List ShownRow
+session_rows status =
     gauge (codes "ftpd_users") (codes "Users of the configuration.") status.users
     ∷ gauge (codes "ftpd_sessions") (codes "Connected clients.") status.sessions
     ∷ gauge (codes "ftpd_sessions_idle") (codes "Connected clients that transfer nothing.")
@@ -112,27 +67,23 @@ abbrev pub by_users : SharedAmong → ℕ
 by_users Sessions = 0
 by_users Users = 1
 
-unfoldable pub transfer_lines : Status → List Line
-transfer_lines status =
+unfoldable pub transfer_rows : Status → List ShownRow
+transfer_rows status =
     gauge (codes "ftpd_shared_among_users")
     (codes "1 if the line is shared among users, 0 if among sessions.")
     (by_users status.shared_among)
     ∷ gauge (codes "ftpd_lanes") (codes "Most transfers that run at once.") status.lanes
-    ∷ record {
-      name = codes "ftpd_transfers";
-      type = codes "gauge";
-      help = codes "Transfers that have not ended.";
-      labels = codes "{state=\"running\"}";
-      value = running status;
-    }
-    ∷ further (codes "ftpd_transfers") (codes "{state=\"waiting\"}")
+    ∷ First (codes "ftpd_transfers") (codes "gauge")
+    (codes "Transfers that have not ended.") (one (codes "state") (codes "running"))
+    (running status)
+    ∷ Further (codes "ftpd_transfers") (one (codes "state") (codes "waiting"))
     (waiting status.transfers.items)
     ∷ counter (codes "ftpd_transfers_ended_total") (codes "Transfers that have ended.")
     status.ended
     ∷ []
 
-unfoldable pub byte_lines : Status → List Line
-byte_lines status =
+unfoldable pub byte_rows : Status → List ShownRow
+byte_rows status =
     counter (codes "ftpd_issued_bytes_total") (codes "Bytes that rounds have granted.")
     status.issued
     ∷ counter (codes "ftpd_moved_bytes_total") (codes "Bytes that transfers have moved.")
@@ -146,67 +97,60 @@ byte_lines status =
 -- ---- rounds and limits
 
 -- the rounds of a kind, after the first
-abbrev pub held_line : List ℕ → ℕ → Line
-held_line labels rounds = further (codes "ftpd_held_rounds_total") labels rounds
+abbrev pub held_row : List ℕ → ℕ → ShownRow
+held_row kind rounds = Further (codes "ftpd_held_rounds_total") (one (codes "kind") kind) rounds
 
-unfoldable pub round_lines : HeldRounds → List Line
-round_lines rounds =
-    record {
-      name = codes "ftpd_held_rounds_total";
-      type = codes "counter";
-      help = codes "Rounds of transfers, by the limit that held the transfer back.";
-      labels = codes "{kind=\"server\"}";
-      value = rounds.server;
-    }
-    ∷ held_line (codes "{kind=\"direction\"}") rounds.direction
-    ∷ held_line (codes "{kind=\"group\"}") rounds.group
-    ∷ held_line (codes "{kind=\"user\"}") rounds.user
-    ∷ held_line (codes "{kind=\"session\"}") rounds.session
-    ∷ held_line (codes "{kind=\"nothing\"}") rounds.nothing
+unfoldable pub round_rows : HeldRounds → List ShownRow
+round_rows rounds =
+    First (codes "ftpd_held_rounds_total") (codes "counter")
+    (codes "Rounds of transfers, by the limit that held the transfer back.")
+    (one (codes "kind") (codes "server")) rounds.server
+    ∷ held_row (codes "direction") rounds.direction
+    ∷ held_row (codes "group") rounds.group
+    ∷ held_row (codes "user") rounds.user
+    ∷ held_row (codes "session") rounds.session
+    ∷ held_row (codes "nothing") rounds.nothing
     ∷ []
 
--- the line of a limit, up to the end of its name, and from there
-abbrev pub limit_start : List ℕ → List ℕ → List ℕ
-limit_start kind name =
-    codes "ftpd_limit_bytes_per_second{kind=\"" ++ kind ++ codes "\",name=\"" ++ escaped name
+-- the labels of a limit: its kind, its name, and a direction
+abbrev pub limit_labels : List ℕ → List ℕ → List ℕ → List ShownLabel
+limit_labels kind name direction =
+    record { name = codes "kind"; value = kind } ∷ record { name = codes "name"; value = name }
+    ∷ record { name = codes "direction"; value = direction } ∷ []
 
-unfoldable pub limit_direction : List ℕ → List ℕ
-limit_direction direction = codes "\",direction=\"" ++ direction ++ codes "\"}"
-
-abbrev pub limit_end : List ℕ → ℕ → List ℕ
-limit_end direction rate = limit_direction direction ++ codes " " ++ decimal rate ++ 10 ∷ []
+unfoldable pub limit_row : List ℕ → List ℕ → List ℕ → ℕ → ShownRow
+limit_row kind name direction rate =
+    Further (codes "ftpd_limit_bytes_per_second") (limit_labels kind name direction) rate
 
 -- a limit, of a direction or of both together; none if it is 0
-unfoldable pub limit_sample : List ℕ → List ℕ → List ℕ → ℕ → List ℕ
-limit_sample kind name direction rate =
-    if nat_eq rate 0 then [] else limit_start kind name ++ limit_end direction rate
+unfoldable pub limit_rows : List ℕ → List ℕ → List ℕ → ℕ → List ShownRow
+limit_rows kind name direction rate =
+    if nat_eq rate 0 then [] else limit_row kind name direction rate ∷ []
 
-abbrev pub line_samples : LineRates → List ℕ
-line_samples line =
-    limit_sample (codes "server") [] (codes "both") line.both
-    ++ limit_sample (codes "direction") [] (codes "down") line.down
-    ++ limit_sample (codes "direction") [] (codes "up") line.up
+abbrev pub line_rows : LineRates → List ShownRow
+line_rows line =
+    limit_rows (codes "server") [] (codes "both") line.both
+    ++ limit_rows (codes "direction") [] (codes "down") line.down
+    ++ limit_rows (codes "direction") [] (codes "up") line.up
 
-abbrev pub group_samples : GroupStatus → List ℕ
-group_samples group =
-    limit_sample (codes "group") (string_bytes group.name) (codes "down") group.down
-    ++ limit_sample (codes "group") (string_bytes group.name) (codes "up") group.up
+abbrev pub group_rows : GroupStatus → List ShownRow
+group_rows group =
+    limit_rows (codes "group") (string_bytes group.name) (codes "down") group.down
+    ++ limit_rows (codes "group") (string_bytes group.name) (codes "up") group.up
 
-unfoldable pub limit_head : List ℕ
+unfoldable pub limit_head : ShownRow
 limit_head =
-    head (codes "ftpd_limit_bytes_per_second") (codes "gauge")
+    Head (codes "ftpd_limit_bytes_per_second") (codes "gauge")
     (codes "Limits of the line and of groups; one that is not there has no sample.")
 
-unfoldable pub line_limits : LineRates → List ℕ
-line_limits line = limit_head ++ line_samples line
-
-abbrev pub limit_metrics : Status → List ℕ
-limit_metrics status = line_limits status.line ++ flat_map group_samples status.groups.items
+abbrev pub all_limit_rows : Status → List ShownRow
+all_limit_rows status =
+    limit_head ∷ line_rows status.line ++ flat_map group_rows status.groups.items
 
 -- ---- logins and ends
 
-unfoldable pub login_lines : Status → List Line
-login_lines status =
+unfoldable pub login_rows : Status → List ShownRow
+login_rows status =
     counter (codes "ftpd_logins_total") (codes "Logins.") status.logins
     ∷ counter (codes "ftpd_refused_logins_total")
     (codes "Logins refused for the number of sessions of their user.") status.refused_logins
@@ -217,62 +161,47 @@ login_lines status =
     ∷ []
 
 -- the transfers that ended in a way, after the first
-abbrev pub end_line : List ℕ → ℕ → Line
-end_line labels count = further (codes "ftpd_transfer_ends_total") labels count
+abbrev pub end_row : List ℕ → ℕ → ShownRow
+end_row how count = Further (codes "ftpd_transfer_ends_total") (one (codes "how") how) count
 
-unfoldable pub end_lines : EndCounts → List Line
-end_lines ends =
-    record {
-      name = codes "ftpd_transfer_ends_total";
-      type = codes "counter";
-      help = codes "Transfers that have ended, by how they did.";
-      labels = codes "{how=\"whole\"}";
-      value = ends.whole;
-    }
-    ∷ end_line (codes "{how=\"aborted\"}") ends.aborted
-    ∷ end_line (codes "{how=\"unconnected\"}") ends.unconnected
-    ∷ end_line (codes "{how=\"lost\"}") ends.lost
-    ∷ end_line (codes "{how=\"file\"}") ends.file
-    ∷ end_line (codes "{how=\"memory\"}") ends.memory
-    ∷ end_line (codes "{how=\"owner\"}") ends.owner
+unfoldable pub end_rows : EndCounts → List ShownRow
+end_rows ends =
+    First (codes "ftpd_transfer_ends_total") (codes "counter")
+    (codes "Transfers that have ended, by how they did.") (one (codes "how") (codes "whole"))
+    ends.whole
+    ∷ end_row (codes "aborted") ends.aborted
+    ∷ end_row (codes "unconnected") ends.unconnected
+    ∷ end_row (codes "lost") ends.lost
+    ∷ end_row (codes "file") ends.file
+    ∷ end_row (codes "memory") ends.memory
+    ∷ end_row (codes "owner") ends.owner
     ∷ []
 
 -- ---- guarantees
 
-unfoldable pub promise_name : List ℕ
-promise_name = codes "ftpd_guaranteed_bytes_per_second"
+-- the guarantees within a limit in a direction, together
+unfoldable pub promise_row : List ℕ → List ℕ → List ℕ → ℕ → ShownRow
+promise_row kind name direction rate =
+    Further (codes "ftpd_guaranteed_bytes_per_second") (limit_labels kind name direction) rate
 
--- the line of what is guaranteed within a limit, up to the name of that, and up to its end
-unfoldable pub promise_kind : List ℕ → List ℕ
-promise_kind kind = promise_name ++ codes "{kind=\"" ++ kind
-
-unfoldable pub promise_label : List ℕ
-promise_label = codes "\",name=\""
-
-abbrev pub promise_start : List ℕ → List ℕ → List ℕ
-promise_start kind name = promise_kind kind ++ promise_label ++ escaped name
-
-unfoldable pub promise_sample : List ℕ → List ℕ → List ℕ → ℕ → List ℕ
-promise_sample kind name direction rate = promise_start kind name ++ limit_end direction rate
-
-unfoldable pub promise_head : List ℕ
+unfoldable pub promise_head : ShownRow
 promise_head =
-    head promise_name (codes "gauge")
+    Head (codes "ftpd_guaranteed_bytes_per_second") (codes "gauge")
     (codes "Guarantees of the sessions that are logged in, together.")
 
-abbrev pub line_promises : Status → List ℕ
+abbrev pub line_promises : Status → List ShownRow
 line_promises status =
-    promise_sample (codes "direction") [] (codes "down") status.guaranteed_down
-    ++ promise_sample (codes "direction") [] (codes "up") status.guaranteed_up
+    promise_row (codes "direction") [] (codes "down") status.guaranteed_down
+    ∷ promise_row (codes "direction") [] (codes "up") status.guaranteed_up ∷ []
 
-abbrev pub group_promises : GroupStatus → List ℕ
+abbrev pub group_promises : GroupStatus → List ShownRow
 group_promises group =
-    promise_sample (codes "group") (string_bytes group.name) (codes "down") group.guaranteed_down
-    ++ promise_sample (codes "group") (string_bytes group.name) (codes "up") group.guaranteed_up
+    promise_row (codes "group") (string_bytes group.name) (codes "down") group.guaranteed_down
+    ∷ promise_row (codes "group") (string_bytes group.name) (codes "up") group.guaranteed_up ∷ []
 
-abbrev pub promise_metrics : Status → List ℕ
-promise_metrics status =
-    (promise_head ++ line_promises status) ++ flat_map group_promises status.groups.items
+abbrev pub promise_rows : Status → List ShownRow
+promise_rows status =
+    promise_head ∷ line_promises status ++ flat_map group_promises status.groups.items
 
 -- ---- users
 
@@ -280,76 +209,67 @@ promise_metrics status =
 abbrev pub group_label : AccountStatus → List ℕ
 group_label account = option_map_or (λ group. string_bytes group) account.group []
 
-abbrev pub user_start : List ℕ → List ℕ → List ℕ
-user_start metric user = metric ++ codes "{user=\"" ++ escaped user
+-- the labels of a user: the name, the group, and a direction
+abbrev pub user_labels : AccountStatus → List ℕ → List ShownLabel
+user_labels account direction =
+    record { name = codes "user"; value = string_bytes account.user }
+    ∷ record { name = codes "group"; value = group_label account }
+    ∷ record { name = codes "direction"; value = direction } ∷ []
 
-unfoldable pub user_group : List ℕ → List ℕ
-user_group group = codes "\",group=\"" ++ escaped group
-
--- a value of a user in a direction
-unfoldable pub user_sample : List ℕ → AccountStatus → List ℕ → ℕ → List ℕ
-user_sample metric account direction value =
-    (user_start metric (string_bytes account.user) ++ user_group (group_label account))
-    ++ limit_end direction value
-
-abbrev pub granted_samples : AccountStatus → List ℕ
-granted_samples account =
-    user_sample (codes "ftpd_granted_bytes_total") account (codes "down") account.granted_down
-    ++ user_sample (codes "ftpd_granted_bytes_total") account (codes "up") account.granted_up
-
-unfoldable pub unmet_name : List ℕ
-unmet_name = codes "ftpd_guarantee_unmet_seconds_total"
-
--- whole seconds
-abbrev pub unmet_samples : AccountStatus → List ℕ
-unmet_samples account =
-    user_sample unmet_name account (codes "down") (account.unmet_down / 1_000_000)
-    ++ user_sample unmet_name account (codes "up") (account.unmet_up / 1_000_000)
-
-unfoldable pub granted_head : List ℕ
+unfoldable pub granted_head : ShownRow
 granted_head =
-    head (codes "ftpd_granted_bytes_total") (codes "counter")
+    Head (codes "ftpd_granted_bytes_total") (codes "counter")
     (codes "Bytes granted to the transfers of users.")
 
-unfoldable pub unmet_head : List ℕ
+-- a value of a user in each direction
+unfoldable pub user_rows : List ℕ → AccountStatus → ℕ → ℕ → List ShownRow
+user_rows metric account down up =
+    Further metric (user_labels account (codes "down")) down
+    ∷ Further metric (user_labels account (codes "up")) up ∷ []
+
+abbrev pub granted_rows : AccountStatus → List ShownRow
+granted_rows account =
+    user_rows (codes "ftpd_granted_bytes_total") account account.granted_down account.granted_up
+
+unfoldable pub unmet_head : ShownRow
 unmet_head =
-    head unmet_name (codes "counter")
+    Head (codes "ftpd_guarantee_unmet_seconds_total") (codes "counter")
     (codes "Seconds below nine tenths of a guarantee while a limit held the transfer back.")
 
-abbrev pub granted_metrics : List AccountStatus → List ℕ
-granted_metrics accounts = granted_head ++ flat_map granted_samples accounts
+-- whole seconds
+abbrev pub unmet_rows : AccountStatus → List ShownRow
+unmet_rows account =
+    user_rows (codes "ftpd_guarantee_unmet_seconds_total") account
+    (account.unmet_down / 1_000_000) (account.unmet_up / 1_000_000)
 
-abbrev pub unmet_metrics : List AccountStatus → List ℕ
-unmet_metrics accounts = unmet_head ++ flat_map unmet_samples accounts
+abbrev pub all_granted_rows : List AccountStatus → List ShownRow
+all_granted_rows accounts = granted_head ∷ flat_map granted_rows accounts
+
+abbrev pub all_unmet_rows : List AccountStatus → List ShownRow
+all_unmet_rows accounts = unmet_head ∷ flat_map unmet_rows accounts
 
 -- ---- all
 
--- the samples of the server and of transfers, and those of rounds and limits
-abbrev pub server_metrics : Status → List ℕ
-server_metrics status =
-    flat_map line_text (build_lines status) ++ flat_map line_text (session_lines status)
+-- the rows of the server and of transfers
+abbrev pub first_rows : Status → List ShownRow
+first_rows status =
+    build_rows status ++ session_rows status ++ transfer_rows status ++ byte_rows status
 
-abbrev pub transfer_metrics : Status → List ℕ
-transfer_metrics status =
-    flat_map line_text (transfer_lines status) ++ flat_map line_text (byte_lines status)
+-- those of what holds them back, and of their ends
+abbrev pub middle_rows : Status → List ShownRow
+middle_rows status =
+    round_rows status.rounds ++ all_limit_rows status ++ login_rows status
+    ++ end_rows status.endings
 
-abbrev pub first_metrics : Status → List ℕ
-first_metrics status = server_metrics status ++ transfer_metrics status
+-- those of guarantees and of users
+abbrev pub last_rows : Status → List ShownRow
+last_rows status =
+    promise_rows status ++ all_granted_rows status.accounts.items
+    ++ all_unmet_rows status.accounts.items
 
-abbrev pub last_metrics : Status → List ℕ
-last_metrics status = flat_map line_text (round_lines status.rounds) ++ limit_metrics status
+abbrev pub rows_of : Status → List ShownRow
+rows_of status = first_rows status ++ middle_rows status ++ last_rows status
 
--- logins, ends, guarantees and users
-abbrev pub login_metrics : Status → List ℕ
-login_metrics status =
-    flat_map line_text (login_lines status) ++ flat_map line_text (end_lines status.endings)
-
-abbrev pub user_metrics : Status → List ℕ
-user_metrics status = granted_metrics status.accounts.items ++ unmet_metrics status.accounts.items
-
-abbrev pub people_metrics : Status → List ℕ
-people_metrics status =
-    (login_metrics status ++ promise_metrics status) ++ user_metrics status
-
+-- the metrics of a status are the text of its rows
 abbrev pub metrics : Status → List ℕ
-metrics status = (first_metrics status ++ last_metrics status) ++ people_metrics status
+metrics status = flat_map row_text (rows_of status)

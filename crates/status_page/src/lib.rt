@@ -19,6 +19,7 @@ mod metrics;
 mod page;
 mod promises;
 mod routes;
+mod rows;
 mod samples;
 mod serving;
 mod timing;

@@ -1,63 +1,66 @@
-//! The limits of the line and of groups, as metrics.
+//! The rows of the limits of the line and of groups.
 
-ghost use Rattle.std.specs.Prelude.{◌≡◌, ◌++◌, OnOk, string_bytes};
+ghost use Rattle.std.specs.Prelude.{◌≡◌, ◌++◌, OnOk, map};
 ghost use Rattle.std.specs.List.{flat_map};
-ghost use Rattle.status_page.specs.Metrics.{group_samples, limit_direction, limit_end, limit_head, limit_metrics, limit_sample, limit_start, line_limits, line_samples};
+ghost use Rattle.status_page.specs.Metrics.{all_limit_rows, group_rows, limit_head, limit_labels, limit_row, limit_rows, line_rows};
+ghost use Rattle.status_page.specs.Shown.{labels_of, row_of};
 
-use crate::escapes::push_escaped;
-use crate::metrics::write_head;
+use crate::rows::{Head, Label, Labels, Row};
 use server_status::{GroupStatus, LineRates, Rate, Status};
 use std::alloc::AllocError;
 
 /// A limit: what it limits, and in which direction.
 #[derive(Clone, Copy)]
-struct Limit<'a> {
-    kind: &'static str,
-    name: &'a str,
-    direction: &'static str,
+pub(crate) struct Limit<'a> {
+    pub kind: &'static str,
+    pub name: &'a str,
+    pub direction: &'static str,
 }
 
-fn write_start(text: &mut String, kind: &str, name: &str) -> Result<(), AllocError>
-    ensures start { OnOk result
-        (string_bytes text.new ≡ string_bytes text.old ++ limit_start kind.now name.now) }
+/// The labels of a limit.
+pub(crate) fn limit_labels<'a>(limit: Limit<'a>) -> Labels<'a>
+    ensures labels { labels_of result
+        ≡ limit_labels limit.entry.kind.now limit.entry.name.now limit.entry.direction.now }
 {
-    write!(text, "ftpd_limit_bytes_per_second{{kind=\"{kind}\",name=\"")?;
-    push_escaped(text, name)
+    let kind = Label {
+        name: "kind",
+        value: limit.kind,
+    };
+    let name = Label {
+        name: "name",
+        value: limit.name,
+    };
+    let direction = Label {
+        name: "direction",
+        value: limit.direction,
+    };
+    Labels::Three(kind, name, direction)
 }
 
-#[tactic(auto, unfolding(crate::specs::Metrics::limit_direction))]
-fn write_direction(text: &mut String, direction: &str) -> Result<(), AllocError>
-    ensures direction { OnOk result
-        (string_bytes text.new ≡ string_bytes text.old ++ limit_direction direction.now) }
+#[tactic(auto, unfolding(crate::specs::Metrics::limit_row))]
+fn limit_row<'a>(limit: Limit<'a>, rate: Rate) -> Row<'a>
+    ensures row { row_of result ≡ limit_row limit.entry.kind.now limit.entry.name.now
+        limit.entry.direction.now rate }
 {
-    write!(text, "\",direction=\"{direction}\"}}")
+    Row::Further("ftpd_limit_bytes_per_second", limit_labels(limit), rate)
 }
 
-/// Writes the direction of a sample, its value, and the end of its line.
-pub(crate) fn write_end(text: &mut String, direction: &str, rate: Rate) -> Result<(), AllocError>
-    ensures end { OnOk result
-        (string_bytes text.new ≡ string_bytes text.old ++ limit_end direction.now rate) }
-{
-    write_direction(text, direction)?;
-    write!(text, " {rate}\n")
-}
-
-/// Writes the sample of a limit, unless it is 0.
-#[tactic(auto, unfolding(crate::specs::Metrics::limit_sample))]
-fn write_limit(text: &mut String, limit: Limit<'_>, rate: Rate) -> Result<(), AllocError>
-    ensures sample { OnOk result (string_bytes text.new ≡ string_bytes text.old ++ limit_sample
-        limit.entry.kind.now limit.entry.name.now limit.entry.direction.now rate) }
+/// Appends the row of a limit, unless it is 0.
+#[tactic(auto, unfolding(crate::specs::Metrics::limit_rows))]
+fn push_limit<'a>(rows: &mut Vec<Row<'a>>, limit: Limit<'a>, rate: Rate) -> Result<(), AllocError>
+    ensures rows { OnOk result (map row_of rows.new.items ≡ map row_of rows.old.items
+        ++ limit_rows limit.entry.kind.now limit.entry.name.now limit.entry.direction.now rate) }
 {
     if rate == 0 {
         return Ok(());
     }
-    write_start(text, limit.kind, limit.name)?;
-    write_end(text, limit.direction, rate)
+    rows.push(limit_row(limit, rate))?;
+    Ok(())
 }
 
-fn write_line(text: &mut String, line: LineRates) -> Result<(), AllocError>
-    ensures samples { OnOk result
-        (string_bytes text.new ≡ string_bytes text.old ++ line_samples line) }
+fn push_line<'a>(rows: &mut Vec<Row<'a>>, line: LineRates) -> Result<(), AllocError>
+    ensures rows { OnOk result
+        (map row_of rows.new.items ≡ map row_of rows.old.items ++ line_rows line) }
 {
     let (kind, name) = ("direction", "");
     let both = Limit {
@@ -65,90 +68,67 @@ fn write_line(text: &mut String, line: LineRates) -> Result<(), AllocError>
         name,
         direction: "both",
     };
-    let (down, up) = ("down", "up");
-    write_limit(text, both, line.both)?;
-    write_limit(
-        text,
-        Limit {
-            kind,
-            name,
-            direction: down,
-        },
-        line.down,
-    )?;
-    write_limit(
-        text,
-        Limit {
-            kind,
-            name,
-            direction: up,
-        },
-        line.up,
-    )
+    let down = Limit {
+        kind,
+        name,
+        direction: "down",
+    };
+    let up = Limit {
+        kind,
+        name,
+        direction: "up",
+    };
+    push_limit(rows, both, line.both)?;
+    push_limit(rows, down, line.down)?;
+    push_limit(rows, up, line.up)
 }
 
-fn write_group(text: &mut String, group: &GroupStatus) -> Result<(), AllocError>
-    ensures samples { OnOk result
-        (string_bytes text.new ≡ string_bytes text.old ++ group_samples group.now) }
+fn push_group<'a>(rows: &mut Vec<Row<'a>>, group: &'a GroupStatus) -> Result<(), AllocError>
+    ensures rows { OnOk result
+        (map row_of rows.new.items ≡ map row_of rows.old.items ++ group_rows group.now) }
 {
     let (kind, name) = ("group", group.name.as_str());
-    let (down, up) = ("down", "up");
-    write_limit(
-        text,
-        Limit {
-            kind,
-            name,
-            direction: down,
-        },
-        group.down,
-    )?;
-    write_limit(
-        text,
-        Limit {
-            kind,
-            name,
-            direction: up,
-        },
-        group.up,
-    )
+    let down = Limit {
+        kind,
+        name,
+        direction: "down",
+    };
+    let up = Limit {
+        kind,
+        name,
+        direction: "up",
+    };
+    push_limit(rows, down, group.down)?;
+    push_limit(rows, up, group.up)
 }
 
-fn write_groups(text: &mut String, groups: &[GroupStatus]) -> Result<(), AllocError>
-    ensures samples { OnOk result
-        (string_bytes text.new ≡ string_bytes text.old ++ flat_map group_samples groups.now) }
+fn push_groups<'a>(rows: &mut Vec<Row<'a>>, groups: &'a [GroupStatus]) -> Result<(), AllocError>
+    ensures rows { OnOk result
+        (map row_of rows.new.items ≡ map row_of rows.old.items ++ flat_map group_rows groups.now) }
 {
     for group in groups {
-        write_group(text, group)?;
+        push_group(rows, group)?;
     }
     Ok(())
 }
 
 #[tactic(auto, unfolding(crate::specs::Metrics::limit_head))]
-fn write_limit_head(text: &mut String) -> Result<(), AllocError>
-    ensures head { OnOk result (string_bytes text.new ≡ string_bytes text.old ++ limit_head) }
+fn limit_head<'a>() -> Row<'a>
+    ensures head { row_of result ≡ limit_head }
 {
-    write_head(
-        text,
-        "ftpd_limit_bytes_per_second",
-        "gauge",
-        "Limits of the line and of groups; one that is not there has no sample.",
-    )
+    Row::Head(Head {
+        name: "ftpd_limit_bytes_per_second",
+        kind: "gauge",
+        help: "Limits of the line and of groups; one that is not there has no sample.",
+    })
 }
 
-#[tactic(auto, unfolding(crate::specs::Metrics::line_limits))]
-fn write_first(text: &mut String, line: LineRates) -> Result<(), AllocError>
-    ensures limits { OnOk result
-        (string_bytes text.new ≡ string_bytes text.old ++ line_limits line) }
+/// Appends the rows of the limits that there are.
+pub(crate) fn push_limits<'a>(rows: &mut Vec<Row<'a>>, status: &'a Status) -> Result<(), AllocError>
+    ensures rows { OnOk result
+        (map row_of rows.new.items ≡ map row_of rows.old.items ++ all_limit_rows status.now) }
 {
-    write_limit_head(text)?;
-    write_line(text, line)
-}
-
-/// Writes the limits that there are.
-pub(crate) fn write_limits(text: &mut String, status: &Status) -> Result<(), AllocError>
-    ensures metrics { OnOk result
-        (string_bytes text.new ≡ string_bytes text.old ++ limit_metrics status.now) }
-{
-    write_first(text, status.line)?;
-    write_groups(text, status.groups.as_slice())
+    rows.push(limit_head())?;
+    push_line(rows, status.line)?;
+    push_groups(rows, status.groups.as_slice())
 }

@@ -3,7 +3,7 @@
 /// The policy for browsers: they may run the script of the page and use its style, by their hashes, and ask the server
 /// itself. `tools/page-policy --write` computes the hashes.
 pub const POLICY: &str =
-    "default-src 'none'; connect-src 'self'; script-src 'sha256-ZIy7ewLVqlajGmUj2lBPGHiXwyWzCZtat195aT+jsyM='; style-src 'sha256-S2OK/3jFGzhxX59B5bvWp9SZKq5+ulgFhhsqoTbxAT4='; base-uri 'none'; form-action 'none'; frame-ancestors 'none'";
+    "default-src 'none'; connect-src 'self'; script-src 'sha256-2/rToNElQLM0s+xgJRyVAUdHWTdzx86+pUuC7AVFyZ8='; style-src 'sha256-S2OK/3jFGzhxX59B5bvWp9SZKq5+ulgFhhsqoTbxAT4='; base-uri 'none'; form-action 'none'; frame-ancestors 'none'";
 
 /// The page. It asks for `status.json` once a second, and shows each text in it as text.
 pub const PAGE: &str = r##"<!doctype html>
@@ -406,20 +406,24 @@ function fillTransfers(rows) {
     for (const row of rows.filter(r => r.transfer.waiting === waiting)) addRow(body, row, styleOf(row.limit, rows));
 }
 
+// The octets a second that are guaranteed to a session, both ways.
+const guaranteedTo = s => (s.guaranteed_down ?? 0) + (s.guaranteed_up ?? 0);
+
 // The sessions that transfer nothing: who is guaranteed most first, and then who is idle longest.
 function idleOf(status) {
-  const least = s => (s.guaranteed_down ?? 0) + (s.guaranteed_up ?? 0);
-  return status.sessions_now.filter(s => s.active < status.micros).sort((a, b) => least(b) - least(a) || a.active - b.active || a.session - b.session);
+  return status.sessions_now.filter(s => s.active < status.micros)
+    .sort((a, b) => guaranteedTo(b) - guaranteedTo(a) || a.active - b.active || a.session - b.session);
 }
 
-// Fills their table, up to a dozen.
+// Fills their table: all that are guaranteed something, and others up to a dozen in all.
 function fillIdle(status) {
   const body = byId("idle"), idle = idleOf(status), since = micros => timeText((status.micros - micros) / 1e6);
-  const more = idle.length > MOST_IDLE ? `, ${MOST_IDLE} of them shown` : "";
+  const shown = Math.max(MOST_IDLE, idle.filter(s => guaranteedTo(s) > 0).length);
+  const more = idle.length > shown ? `, ${shown} of them shown` : "";
   byId("inside").hidden = idle.length === 0;
   byId("idle-number").textContent = `${idle.length} of ${status.sessions}${more}`;
   body.replaceChildren();
-  for (const it of idle.slice(0, MOST_IDLE)) {
+  for (const it of idle.slice(0, shown)) {
     const { user, group, peer, session, begun, active } = it, line = put(body, "tr");
     const name = put(line, "th", user ?? "not logged in", user === null ? "faint" : undefined);
     const least = WAYS.filter(way => it["guaranteed_" + way] !== null).map(way => `${whole(it["guaranteed_" + way])} ${way}`);

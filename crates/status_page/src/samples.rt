@@ -1,81 +1,61 @@
-//! The samples of a status, but for those of its limits.
+//! The rows of a status whose number is fixed.
 
 ghost use Rattle.std.specs.Prelude.{◌≡◌, ◌≤◌, length, map};
-ghost use Rattle.status_page.specs.Metrics.{build_lines, by_users, byte_lines, counter, end_line, end_lines, further, gauge, idle, login_lines, moved_in_all, round_lines, session_lines, transfer_lines, waiting};
-ghost use Rattle.status_page.specs.Samples.{line_of};
+ghost use Rattle.status_page.specs.Metrics.{build_rows, by_users, byte_rows, end_rows, idle, login_rows, moved_in_all, round_rows, session_rows, transfer_rows, waiting};
+ghost use Rattle.status_page.specs.Rows.{First, Further, one};
+ghost use Rattle.status_page.specs.Shown.{row_of};
 
+use crate::rows::{Head, Label, Labels, Row};
 use server_status::{EndCounts, HeldRounds, SessionStatus, SharedAmong, Status, TransferStatus};
 
-/// A sample of a metric. If it is the first, it has the type and the meaning of the metric; otherwise these are empty.
-#[derive(Clone, Copy)]
-pub(crate) struct Sample {
-    pub name: &'static str,
-    pub kind: &'static str,
-    pub help: &'static str,
-    pub labels: &'static str,
-    pub value: u64,
+/// A row with one label alone.
+fn further<'a>(name: &'static str, label: &'static str, of: &'a str, value: u64) -> Row<'a>
+    ensures further { row_of result ≡ Further name.now (one label.now of.now) value }
+{
+    Row::Further(
+        name,
+        Labels::One(Label {
+            name: label,
+            value: of,
+        }),
+        value,
+    )
 }
 
-/// The only sample of a value that rises and falls.
-fn gauge(name: &'static str, help: &'static str, value: u64) -> Sample
-    ensures gauge { line_of result ≡ gauge name.now help.now value }
+/// The first of several rows with one label each.
+fn first<'a>(head: Head, label: &'static str, of: &'a str, value: u64) -> Row<'a>
+    ensures first { row_of result ≡ First head.name.now head.kind.now head.help.now
+        (one label.now of.now) value }
 {
-    Sample {
-        name,
-        kind: "gauge",
-        help,
-        labels: "",
+    Row::First(
+        head,
+        Labels::One(Label {
+            name: label,
+            value: of,
+        }),
         value,
-    }
-}
-
-/// The only sample of a value that never falls.
-fn counter(name: &'static str, help: &'static str, value: u64) -> Sample
-    ensures counter { line_of result ≡ counter name.now help.now value }
-{
-    Sample {
-        name,
-        kind: "counter",
-        help,
-        labels: "",
-        value,
-    }
-}
-
-/// A sample of a metric after the first.
-fn further(name: &'static str, labels: &'static str, value: u64) -> Sample
-    ensures further { line_of result ≡ further name.now labels.now value }
-{
-    Sample {
-        name,
-        kind: "",
-        help: "",
-        labels,
-        value,
-    }
+    )
 }
 
 /// The version of the server, and its time.
-#[tactic(auto, unfolding(crate::specs::Metrics::build_lines))]
-pub(crate) fn build_samples(status: &Status) -> [Sample; 3]
-    ensures lines { map line_of result ≡ build_lines status.now }
+#[tactic(auto, unfolding(crate::specs::Metrics::build_rows))]
+pub(crate) fn build_rows<'a>(status: &Status) -> [Row<'a>; 3]
+    ensures rows { map row_of result ≡ build_rows status.now }
 {
-    let build = Sample {
+    let head = Head {
         name: "ftpd_build_info",
         kind: "gauge",
         help: "Version of the server.",
-        labels: "{version=\"1\"}",
-        value: 1,
     };
     let seconds = status.micros / 1_000_000;
     [
-        build,
-        gauge(
+        first(head, "version", "1", 1),
+        Row::gauge(
             "ftpd_start_time_seconds",
             "Start of the server, since 1970.",
             status.started,
         ),
-        gauge(
+        Row::gauge(
             "ftpd_uptime_seconds",
             "Whole seconds since the start.",
             seconds,
@@ -98,30 +78,30 @@ fn idle(now: u64, sessions: &[SessionStatus]) -> usize
 }
 
 /// The users and the sessions.
-#[tactic(auto, unfolding(crate::specs::Metrics::session_lines))]
-pub(crate) fn session_samples(status: &Status) -> [Sample; 6]
-    ensures lines { map line_of result ≡ session_lines status.now }
+#[tactic(auto, unfolding(crate::specs::Metrics::session_rows))]
+pub(crate) fn session_rows<'a>(status: &Status) -> [Row<'a>; 6]
+    ensures rows { map row_of result ≡ session_rows status.now }
 {
     let idle = idle(status.micros, status.sessions_now.as_slice());
     [
-        gauge("ftpd_users", "Users of the configuration.", status.users),
-        gauge("ftpd_sessions", "Connected clients.", status.sessions),
-        gauge(
+        Row::gauge("ftpd_users", "Users of the configuration.", status.users),
+        Row::gauge("ftpd_sessions", "Connected clients.", status.sessions),
+        Row::gauge(
             "ftpd_sessions_idle",
             "Connected clients that transfer nothing.",
             idle as u64,
         ),
-        gauge(
+        Row::gauge(
             "ftpd_sessions_max",
             "Most clients at once.",
             status.max_sessions,
         ),
-        counter(
+        Row::counter(
             "ftpd_login_failures_total",
             "Wrong passwords.",
             status.failed_logins,
         ),
-        counter(
+        Row::counter(
             "ftpd_refused_connections_total",
             "Refused connections.",
             status.refused,
@@ -165,33 +145,31 @@ fn by_users(sharers: SharedAmong) -> u64
 }
 
 /// Among whom the line is shared, and the transfers that run, wait or have ended.
-#[tactic(auto, unfolding(crate::specs::Metrics::transfer_lines))]
-pub(crate) fn transfer_samples(status: &Status) -> [Sample; 5]
-    ensures lines { map line_of result ≡ transfer_lines status.now }
+#[tactic(auto, unfolding(crate::specs::Metrics::transfer_rows))]
+pub(crate) fn transfer_rows<'a>(status: &Status) -> [Row<'a>; 5]
+    ensures rows { map row_of result ≡ transfer_rows status.now }
 {
     let waiting = waiting(status.transfers.as_slice());
     let running = status.transfers.len() - waiting;
-    let first = Sample {
+    let head = Head {
         name: "ftpd_transfers",
         kind: "gauge",
         help: "Transfers that have not ended.",
-        labels: "{state=\"running\"}",
-        value: running as u64,
     };
     [
-        gauge(
+        Row::gauge(
             "ftpd_shared_among_users",
             "1 if the line is shared among users, 0 if among sessions.",
             by_users(status.shared_among),
         ),
-        gauge(
+        Row::gauge(
             "ftpd_lanes",
             "Most transfers that run at once.",
             status.lanes,
         ),
-        first,
-        further("ftpd_transfers", "{state=\"waiting\"}", waiting as u64),
-        counter(
+        first(head, "state", "running", running as u64),
+        further("ftpd_transfers", "state", "waiting", waiting as u64),
+        Row::counter(
             "ftpd_transfers_ended_total",
             "Transfers that have ended.",
             status.ended,
@@ -200,27 +178,27 @@ pub(crate) fn transfer_samples(status: &Status) -> [Sample; 5]
 }
 
 /// The octets of transfers.
-#[tactic(auto, unfolding(crate::specs::Metrics::byte_lines))]
-pub(crate) fn byte_samples(status: &Status) -> [Sample; 4]
-    ensures lines { map line_of result ≡ byte_lines status.now }
+#[tactic(auto, unfolding(crate::specs::Metrics::byte_rows))]
+pub(crate) fn byte_rows<'a>(status: &Status) -> [Row<'a>; 4]
+    ensures rows { map row_of result ≡ byte_rows status.now }
 {
     [
-        counter(
+        Row::counter(
             "ftpd_issued_bytes_total",
             "Bytes that rounds have granted.",
             status.issued,
         ),
-        counter(
+        Row::counter(
             "ftpd_moved_bytes_total",
             "Bytes that transfers have moved.",
             moved_in_all(status),
         ),
-        counter(
+        Row::counter(
             "ftpd_ended_granted_bytes_total",
             "Bytes granted to transfers that have ended.",
             status.ended_granted,
         ),
-        counter(
+        Row::counter(
             "ftpd_ended_moved_bytes_total",
             "Bytes moved by transfers that have ended.",
             status.ended_moved,
@@ -229,46 +207,44 @@ pub(crate) fn byte_samples(status: &Status) -> [Sample; 4]
 }
 
 /// The rounds of transfers.
-#[tactic(auto, unfolding(crate::specs::Metrics::round_lines))]
-pub(crate) fn round_samples(rounds: HeldRounds) -> [Sample; 6]
-    ensures lines { map line_of result ≡ round_lines rounds }
+#[tactic(auto, unfolding(crate::specs::Metrics::round_rows))]
+pub(crate) fn round_rows<'a>(rounds: HeldRounds) -> [Row<'a>; 6]
+    ensures rows { map row_of result ≡ round_rows rounds }
 {
     let name = "ftpd_held_rounds_total";
-    let first = Sample {
+    let head = Head {
         name,
         kind: "counter",
         help: "Rounds of transfers, by the limit that held the transfer back.",
-        labels: "{kind=\"server\"}",
-        value: rounds.server,
     };
     [
-        first,
-        further(name, "{kind=\"direction\"}", rounds.direction),
-        further(name, "{kind=\"group\"}", rounds.group),
-        further(name, "{kind=\"user\"}", rounds.user),
-        further(name, "{kind=\"session\"}", rounds.session),
-        further(name, "{kind=\"nothing\"}", rounds.nothing),
+        first(head, "kind", "server", rounds.server),
+        further(name, "kind", "direction", rounds.direction),
+        further(name, "kind", "group", rounds.group),
+        further(name, "kind", "user", rounds.user),
+        further(name, "kind", "session", rounds.session),
+        further(name, "kind", "nothing", rounds.nothing),
     ]
 }
 
 /// The logins, and the lines that were lost.
-#[tactic(auto, unfolding(crate::specs::Metrics::login_lines))]
-pub(crate) fn login_samples(status: &Status) -> [Sample; 4]
-    ensures lines { map line_of result ≡ login_lines status.now }
+#[tactic(auto, unfolding(crate::specs::Metrics::login_rows))]
+pub(crate) fn login_rows<'a>(status: &Status) -> [Row<'a>; 4]
+    ensures rows { map row_of result ≡ login_rows status.now }
 {
     [
-        counter("ftpd_logins_total", "Logins.", status.logins),
-        counter(
+        Row::counter("ftpd_logins_total", "Logins.", status.logins),
+        Row::counter(
             "ftpd_refused_logins_total",
             "Logins refused for the number of sessions of their user.",
             status.refused_logins,
         ),
-        counter(
+        Row::counter(
             "ftpd_refused_guarantees_total",
             "Logins refused for a guarantee.",
             status.refused_guarantees,
         ),
-        counter(
+        Row::counter(
             "ftpd_log_lines_lost_total",
             "Lines of notes and of the transfer log that were dropped.",
             status.lost_lines,
@@ -277,25 +253,23 @@ pub(crate) fn login_samples(status: &Status) -> [Sample; 4]
 }
 
 /// The transfers by how they ended.
-#[tactic(auto, unfolding(crate::specs::Metrics::end_lines))]
-pub(crate) fn end_samples(ends: EndCounts) -> [Sample; 7]
-    ensures lines { map line_of result ≡ end_lines ends }
+#[tactic(auto, unfolding(crate::specs::Metrics::end_rows))]
+pub(crate) fn end_rows<'a>(ends: EndCounts) -> [Row<'a>; 7]
+    ensures rows { map row_of result ≡ end_rows ends }
 {
     let name = "ftpd_transfer_ends_total";
-    let first = Sample {
+    let head = Head {
         name,
         kind: "counter",
         help: "Transfers that have ended, by how they did.",
-        labels: "{how=\"whole\"}",
-        value: ends.whole,
     };
     [
-        first,
-        further(name, "{how=\"aborted\"}", ends.aborted),
-        further(name, "{how=\"unconnected\"}", ends.unconnected),
-        further(name, "{how=\"lost\"}", ends.lost),
-        further(name, "{how=\"file\"}", ends.file),
-        further(name, "{how=\"memory\"}", ends.memory),
-        further(name, "{how=\"owner\"}", ends.owner),
+        first(head, "how", "whole", ends.whole),
+        further(name, "how", "aborted", ends.aborted),
+        further(name, "how", "unconnected", ends.unconnected),
+        further(name, "how", "lost", ends.lost),
+        further(name, "how", "file", ends.file),
+        further(name, "how", "memory", ends.memory),
+        further(name, "how", "owner", ends.owner),
     ]
 }

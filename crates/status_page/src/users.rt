@@ -1,12 +1,11 @@
-//! Octets that users got, as metrics. A label has a name of the configuration.
+//! The rows of users. A label has a name of the configuration.
 
-ghost use Rattle.std.specs.Prelude.{◌≡◌, ◌++◌, ◌/◌, OnOk, string_bytes};
+ghost use Rattle.std.specs.Prelude.{◌≡◌, ◌++◌, ◌/◌, OnOk, map};
 ghost use Rattle.std.specs.List.{flat_map};
-ghost use Rattle.status_page.specs.Metrics.{group_label, granted_head, granted_metrics, granted_samples, unmet_head, unmet_metrics, unmet_name, unmet_samples, user_group, user_sample, user_start};
+ghost use Rattle.status_page.specs.Metrics.{all_granted_rows, all_unmet_rows, granted_head, granted_rows, group_label, unmet_head, unmet_rows, user_labels, user_rows};
+ghost use Rattle.status_page.specs.Shown.{labels_of, row_of};
 
-use crate::escapes::push_escaped;
-use crate::limits::write_end;
-use crate::metrics::write_head;
+use crate::rows::{Head, Label, Labels, Row};
 use server_status::AccountStatus;
 use std::alloc::AllocError;
 
@@ -20,112 +19,117 @@ fn group_label(account: &AccountStatus) -> &str
     }
 }
 
-fn write_start(text: &mut String, metric: &str, user: &str) -> Result<(), AllocError>
-    ensures start { OnOk result
-        (string_bytes text.new ≡ string_bytes text.old ++ user_start metric.now user.now) }
+/// The labels of a user in a direction.
+fn user_labels<'a>(account: &'a AccountStatus, direction: &'static str) -> Labels<'a>
+    ensures labels { labels_of result ≡ user_labels account.now direction.now }
 {
-    write!(text, "{metric}{{user=\"")?;
-    push_escaped(text, user)
+    let user = Label {
+        name: "user",
+        value: account.user.as_str(),
+    };
+    let group = Label {
+        name: "group",
+        value: group_label(account),
+    };
+    let direction = Label {
+        name: "direction",
+        value: direction,
+    };
+    Labels::Three(user, group, direction)
 }
 
-#[tactic(auto, unfolding(crate::specs::Metrics::user_group))]
-fn write_user_group(text: &mut String, group: &str) -> Result<(), AllocError>
-    ensures group { OnOk result
-        (string_bytes text.new ≡ string_bytes text.old ++ user_group group.now) }
-{
-    text.push_str("\",group=\"")?;
-    push_escaped(text, group)
-}
-
-/// Writes a value of a user in a direction.
-#[tactic(auto, unfolding(crate::specs::Metrics::user_sample))]
-fn write_user(
-    text: &mut String,
-    metric: &str,
-    account: &AccountStatus,
-    direction: &str,
-    value: u64,
+/// Appends a value of a user in each direction.
+#[tactic(auto, unfolding(crate::specs::Metrics::user_rows))]
+fn push_user<'a>(
+    rows: &mut Vec<Row<'a>>,
+    metric: &'static str,
+    account: &'a AccountStatus,
+    down: u64,
+    up: u64,
 ) -> Result<(), AllocError>
-    ensures sample { OnOk result (string_bytes text.new ≡ string_bytes text.old
-        ++ user_sample metric.now account.now direction.now value) }
+    ensures rows { OnOk result (map row_of rows.new.items ≡ map row_of rows.old.items
+        ++ user_rows metric.now account.now down up) }
 {
-    write_start(text, metric, account.user.as_str())?;
-    write_user_group(text, group_label(account))?;
-    write_end(text, direction, value)
+    rows.push(Row::Further(metric, user_labels(account, "down"), down))?;
+    rows.push(Row::Further(metric, user_labels(account, "up"), up))?;
+    Ok(())
 }
 
-fn write_granted_of(text: &mut String, account: &AccountStatus) -> Result<(), AllocError>
-    ensures samples { OnOk result
-        (string_bytes text.new ≡ string_bytes text.old ++ granted_samples account.now) }
+fn push_granted_of<'a>(
+    rows: &mut Vec<Row<'a>>,
+    account: &'a AccountStatus,
+) -> Result<(), AllocError>
+    ensures rows { OnOk result
+        (map row_of rows.new.items ≡ map row_of rows.old.items ++ granted_rows account.now) }
 {
     let metric = "ftpd_granted_bytes_total";
-    write_user(text, metric, account, "down", account.granted_down)?;
-    write_user(text, metric, account, "up", account.granted_up)
+    push_user(
+        rows,
+        metric,
+        account,
+        account.granted_down,
+        account.granted_up,
+    )
 }
 
-/// The name of the metric of guarantees that are not met.
-#[tactic(auto, unfolding(crate::specs::Metrics::unmet_name))]
-fn unmet_name() -> &'static str
-    ensures name { result.now ≡ unmet_name }
-{
-    "ftpd_guarantee_unmet_seconds_total"
-}
-
-fn write_unmet_of(text: &mut String, account: &AccountStatus) -> Result<(), AllocError>
-    ensures samples { OnOk result
-        (string_bytes text.new ≡ string_bytes text.old ++ unmet_samples account.now) }
+fn push_unmet_of<'a>(rows: &mut Vec<Row<'a>>, account: &'a AccountStatus) -> Result<(), AllocError>
+    ensures rows { OnOk result
+        (map row_of rows.new.items ≡ map row_of rows.old.items ++ unmet_rows account.now) }
 {
     let down = account.unmet_down / 1_000_000;
     let up = account.unmet_up / 1_000_000;
-    let metric = unmet_name();
-    write_user(text, metric, account, "down", down)?;
-    write_user(text, metric, account, "up", up)
+    let metric = "ftpd_guarantee_unmet_seconds_total";
+    push_user(rows, metric, account, down, up)
 }
 
 #[tactic(auto, unfolding(crate::specs::Metrics::granted_head))]
-fn write_granted_head(text: &mut String) -> Result<(), AllocError>
-    ensures head { OnOk result (string_bytes text.new ≡ string_bytes text.old ++ granted_head) }
+fn granted_head<'a>() -> Row<'a>
+    ensures head { row_of result ≡ granted_head }
 {
-    write_head(
-        text,
-        "ftpd_granted_bytes_total",
-        "counter",
-        "Bytes granted to the transfers of users.",
-    )
+    Row::Head(Head {
+        name: "ftpd_granted_bytes_total",
+        kind: "counter",
+        help: "Bytes granted to the transfers of users.",
+    })
 }
 
 #[tactic(auto, unfolding(crate::specs::Metrics::unmet_head))]
-fn write_unmet_head(text: &mut String) -> Result<(), AllocError>
-    ensures head { OnOk result (string_bytes text.new ≡ string_bytes text.old ++ unmet_head) }
+fn unmet_head<'a>() -> Row<'a>
+    ensures head { row_of result ≡ unmet_head }
 {
-    write_head(
-        text,
-        unmet_name(),
-        "counter",
-        "Seconds below nine tenths of a guarantee while a limit held the transfer back.",
-    )
+    Row::Head(Head {
+        name: "ftpd_guarantee_unmet_seconds_total",
+        kind: "counter",
+        help: "Seconds below nine tenths of a guarantee while a limit held the transfer back.",
+    })
 }
 
-/// Writes what was granted to users.
-pub(crate) fn write_granted(text: &mut String, accounts: &[AccountStatus]) -> Result<(), AllocError>
-    ensures metrics { OnOk result
-        (string_bytes text.new ≡ string_bytes text.old ++ granted_metrics accounts.now) }
+/// Appends the rows of what was granted to users.
+pub(crate) fn push_granted<'a>(
+    rows: &mut Vec<Row<'a>>,
+    accounts: &'a [AccountStatus],
+) -> Result<(), AllocError>
+    ensures rows { OnOk result
+        (map row_of rows.new.items ≡ map row_of rows.old.items ++ all_granted_rows accounts.now) }
 {
-    write_granted_head(text)?;
+    rows.push(granted_head())?;
     for account in accounts {
-        write_granted_of(text, account)?;
+        push_granted_of(rows, account)?;
     }
     Ok(())
 }
 
-/// Writes how long guarantees of users were not met.
-pub(crate) fn write_unmet(text: &mut String, accounts: &[AccountStatus]) -> Result<(), AllocError>
-    ensures metrics { OnOk result
-        (string_bytes text.new ≡ string_bytes text.old ++ unmet_metrics accounts.now) }
+/// Appends the rows of how long guarantees of users were not met.
+pub(crate) fn push_unmet<'a>(
+    rows: &mut Vec<Row<'a>>,
+    accounts: &'a [AccountStatus],
+) -> Result<(), AllocError>
+    ensures rows { OnOk result
+        (map row_of rows.new.items ≡ map row_of rows.old.items ++ all_unmet_rows accounts.now) }
 {
-    write_unmet_head(text)?;
+    rows.push(unmet_head())?;
     for account in accounts {
-        write_unmet_of(text, account)?;
+        push_unmet_of(rows, account)?;
     }
     Ok(())
 }

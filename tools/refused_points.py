@@ -11,7 +11,7 @@ import socket
 import subprocess
 import time
 
-from serving_kit import Client, Data, Refused, same, until, want
+from serving_kit import TRIES, Client, Data, Refused, same, until, want
 from serving_status import next_status, status_of
 
 LONG = 300_000
@@ -20,6 +20,7 @@ ALIKE = {
     "openat": "openat,open", "rename": "rename,renameat,renameat2", "mkdir": "mkdir,mkdirat", "unlink": "unlink,unlinkat", "rmdir": "rmdir,unlinkat",
     "statx": "statx,newfstatat,fstat", "read": "read,pread64,readv", "write": "write,pwrite64,writev", "sendto": "sendto,sendmsg",
     "recvfrom": "recvfrom,recvmsg", "accept4": "accept4,accept", "clone3": "clone3,clone", "fdatasync": "fdatasync,fsync",
+    "poll": "poll,ppoll", "eventfd2": "eventfd2,eventfd",
 }
 
 
@@ -146,9 +147,31 @@ def comes_to_its_port(trial):
     trial.client.send("RETR f")
     with trial.refusing(threads=[trial.session()]):
         trial.client.says(None, "150 ...")
-        # (a connection that nobody accepts is reset once its port is closed)
+        # (a connection that nobody accepts is reset once its port is closed, which is after a minute)
         with contextlib.closing(Data(port)) as data, contextlib.suppress(ConnectionResetError):
-            data.whole()
+            data.whole(2 * TRIES)
+        return trial.told(None)
+
+
+def beside(trial):
+    """An upload whose octets come once its session has made the call while it waited for them."""
+    data = trial.client.passive()
+    fresh(trial)
+    with trial.refusing(threads=[trial.session()]):
+        trial.client.says("STOR new", "150 ...")
+        until(trial.is_made, "the call")
+        data.socket.sendall(b"octets")
+        data.close()
+        return trial.told(None)
+
+
+def comes_late_to_its_port(trial):
+    """A download whose client comes to its port once its session has made the call while it waited for that."""
+    port = trial.client.passive_port()
+    trial.client.says("RETR f", "150 ...")
+    with trial.refusing(threads=[trial.session()]):
+        until(trial.is_made, "the call")
+        Data(port).whole()
         return trial.told(None)
 
 
@@ -248,6 +271,8 @@ POINTS = {
     "PASV": lambda it: commanded(it, "PASV", threads=lambda: [it.session()]),
     "a port of the client": a_port,
     "a client comes to its port": comes_to_its_port,
+    "a client comes late to its port": comes_late_to_its_port,
+    "a session waits beside an upload": beside,
     "octets are sent": lambda it: transferred(it, "RETR long", None, threads=it.others),
     "octets are received": lambda it: transferred(it, f"STOR {fresh(it)}", b"octets", threads=it.others),
     "the status file": status_stays,

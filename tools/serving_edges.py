@@ -19,8 +19,9 @@ OTHER = "127.0.0.2"
 PIDFD_OPEN, PIDFD_GETFD = 434, 438
 # More than the sockets of a connection hold, both sides together.
 MUCH = 24_000_000
-# The time in which an ABOR is answered, in seconds, of half of some tries.
-AT_ONCE = 0.03
+# The time in which an ABOR is answered, in seconds, of a third of some tries, and of most on a machine that is calm. A server that
+# looks each 50 milliseconds answers one in ten so soon.
+AT_ONCE = 0.005
 # How far two clocks of one machine may be apart in seconds: that of the store counts whole ones.
 APART = 2
 
@@ -494,21 +495,21 @@ def an_abort_is_answered_at_once():
             client, taken = Client(server), []
             for number in range(tries):
                 kept = begin(server, client)
-                # (by now the session waits: a look each 50 milliseconds, or more seldom, would answer late)
+                # (by now the session waits)
                 time.sleep(0.22 + number / 100)
                 begun = time.monotonic()
                 client.says("ABOR", "426 Transfer aborted", "226 Abort done")
                 taken.append(time.monotonic() - begun)
                 del kept
             client.quit()
-            median = sorted(taken)[tries // 2]
-            told.append(f"{begin.__name__} {1000 * median:.1f}")
-            slow += [told[-1]] if median > AT_ONCE * slack() else []
+            soon = sorted(taken)[tries // 3]
+            told.append(f"{begin.__name__} {1000 * soon:.1f}")
+            slow += [told[-1]] if soon > AT_ONCE * slack() else []
             server.stop()
             server.ended()
     print(f"an_abort_is_answered_at_once: milliseconds, with a load of {os.getloadavg()[0]:.1f}: {', '.join(told)}", flush=True)
     if slow:
-        raise Late(f"half of the replies to ABOR came later than after {1000 * AT_ONCE:.0f} milliseconds: {', '.join(slow)}")
+        raise Late(f"two thirds of the replies to ABOR came later than after {1000 * AT_ONCE:.0f} milliseconds: {', '.join(slow)}")
 
 
 def a_session_with_a_transfer_rests():

@@ -284,7 +284,7 @@ def a_last_reply_before_lines_unread():
     """A client that has sent more lines than its session reads gets the last reply and the end, and no reset (RFC 1122, section 4.2.2.13)."""
     with Server() as server:
         client = Client(server)
-        # a session reads 4,096 octets at once, and 2,048 more once it has said its last reply
+        # a session reads at most 512 octets at once, and four times 4,096 at most once it has said its last reply
         client.socket.sendall(b"QUIT\r\n" + b"NOOP\r\n" * 900)
         server.ended()
         # once the server has closed it, a reset has come, if there was one: it may take what was not read yet with it

@@ -136,6 +136,35 @@ def a_status_file():
         want(not os.path.exists(f"{server.place}/status.json"), "the file is still there")
 
 
+def each_transfer_has_its_own_grants():
+    """An upload by the lane that has sent a million octets is shown with what it was granted itself, and so is its user."""
+    most = 65_536
+    with watched("rate = 4_000_000\nlanes = 1") as server:
+        client = Client(server)
+        data, come = client.passive(), 0
+        client.says("RETR big", "150 Opening data connection")
+        while come < 1_000_000:
+            come += len(data.read())
+        client.says("ABOR", "426 Transfer aborted", "226 Abort done")
+        data.close()
+        until(lambda: next_status(server)["ended"] == 1, "the end of the download")
+        data = client.passive()
+        client.says("STOR up", "150 Opening data connection")
+        data.socket.sendall(b"octets")
+        status = next_status(server)
+        row = row_of(status, "ann")
+        want(6 <= row["granted"] <= most, f"the octets granted to an upload of 6: {row['granted']}")
+        want(status["ended_granted"] >= come, f"those granted to the download: {status['ended_granted']} of {come}")
+        is_balanced(status)
+        data.close()
+        client.says(None, "226 Transfer complete")
+        account = next_status(server)["accounts"][0]
+        want(6 <= account["granted_up"] <= most, f"the octets granted to uploads of the user: {account}")
+        client.quit()
+        server.stop()
+        server.ended()
+
+
 @contextlib.contextmanager
 def held_server(server=LINE, users=HELD, passive=16, files=()):
     """A server with these users, of a configuration in version 2."""
@@ -565,4 +594,4 @@ def who_is_inside():
         server.ended()
 
 
-ROWS = [a_status_file, who_is_inside, what_holds_transfers_back, notes_of_what_held_transfers_back, notes_of_a_guarantee_that_was_not_met, the_division_is_shown, a_status_page, a_status_that_cannot_be_written, a_status_whose_folder_goes, a_path_of_another_file, a_table_of_the_status]
+ROWS = [a_status_file, each_transfer_has_its_own_grants, who_is_inside, what_holds_transfers_back, notes_of_what_held_transfers_back, notes_of_a_guarantee_that_was_not_met, the_division_is_shown, a_status_page, a_status_that_cannot_be_written, a_status_whose_folder_goes, a_path_of_another_file, a_table_of_the_status]

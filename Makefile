@@ -18,7 +18,7 @@ DOCS = $(DESTDIR)$(DOCDIR)
 # Pages for those who work on the repository are not installed, and a link to what is not installed becomes its text.
 INNER = DECISIONS architecture desk walk working world
 PAGES = $(filter-out $(INNER:%=docs/%.md),$(wildcard docs/*.md))
-ABSENT = \.\./(README|LICENSE|bench|crates)|($(shell echo $(INNER) | tr ' ' '|'))\.md
+ABSENT = \.\./(README|LICENSE|bench|crates|edits)|($(shell echo $(INNER) | tr ' ' '|'))\.md
 UNITS = $(DESTDIR)$(PREFIX)/lib/systemd/system
 CONFIG = $(DESTDIR)$(SYSCONFDIR)/ftpd.toml
 OPTIONS = $(DESTDIR)$(SYSCONFDIR)/default/ftpd

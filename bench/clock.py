@@ -23,10 +23,11 @@ LEFT_OUT = []
 
 @contextlib.contextmanager
 def beside_busy():
-    """So many programs as `BUSY` says that never wait, until this is left."""
+    """So many programs as `BUSY` says that never wait, until this is left, or this program is gone."""
+    spin = f"import os\nwhile os.getppid() == {os.getpid()}: pass"
     with contextlib.ExitStack() as held:
         for _ in range(BUSY):
-            one = subprocess.Popen([sys.executable, "-c", "while True: pass"])
+            one = subprocess.Popen([sys.executable, "-c", spin])
             held.callback(one.wait)
             held.callback(one.kill)
         yield

@@ -124,7 +124,8 @@ class Running:
         """How often the threads that it has left a processor of themselves; `switched` has that of all its threads once it has ended."""
         total = 0
         for thread in os.listdir(f"/proc/{self.process.pid}/task"):
-            with open(f"/proc/{self.process.pid}/task/{thread}/status", encoding="utf-8") as it:
+            # (one may end meanwhile)
+            with contextlib.suppress(OSError), open(f"/proc/{self.process.pid}/task/{thread}/status", encoding="utf-8") as it:
                 total += next(int(line.split()[1]) for line in it if line.startswith("voluntary_ctxt"))
         return total
 

@@ -2,10 +2,10 @@
 
     python3 waits.py FOLDER NAME=FTPD [NAME=FTPD ..]
 
-FOLDER lies in a file system in memory. Each row is one server; its processor time is of ten seconds, or of one listing. Its memory is what
-the machine keeps for it now (/proc/PID/smaps): of files (the program's and its libraries' code, which programs can share), of the stacks of
-its threads, of what it has allocated with the allocator's own, and of the rest. A thread's stack is where its stack pointer is, and has each
-page that it ever used.
+FOLDER lies in a file system in memory. Each row is one server; its processor time is of ten seconds, or of one listing, and its switches
+are those by which its threads left a processor of themselves. Its memory is what the machine keeps for it now (/proc/PID/smaps): of files
+(the program's and its libraries' code, which programs can share), of the stacks of its threads, of what it has allocated with the
+allocator's own, and of the rest. A thread's stack is where its stack pointer is, and has each page that it ever used.
 """
 
 import contextlib
@@ -118,14 +118,15 @@ def idle(folder, servers, memories, found):
                 for _ in range(number):
                     begin(held, server.port)
                 time.sleep(SETTLED)
-                before = server.seconds()
+                before, left = server.seconds(), server.switches()
                 time.sleep(COUNTED)
-                used, memory, parts = server.seconds() - before, server.memory(), held_by(server.process.pid)
+                used, left = server.seconds() - before, server.switches() - left
+                memory, parts = server.memory(), held_by(server.process.pid)
             nobody.setdefault(called, parts)
             each = [f" ({(now - then) / number:.1f})" if number else "" for now, then in zip(parts[:3], nobody[called])]
             memories.append([name, called, f"{memory:.1f}", *(f"{part:,}{more}" for part, more in zip(parts, each)), f"{parts[3]:,}", f"{parts[4]}"])
             found.append((name, called, (used / COUNTED, memory)))
-            yield [name, called, f"{used / COUNTED * 100:.2f} %", f"{memory:.1f}"]
+            yield [name, called, f"{used / COUNTED * 100:.2f} %", f"{left / COUNTED:,.0f}", f"{memory:.1f}"]
 
 
 def listings(folder, servers):
@@ -149,7 +150,7 @@ def main(folder, *words):
     make_files(folder)
     servers, memories, found = [it.split("=", 1) for it in words], [], []
     tell([f"a listing of {ENTRIES:,} entries", "server", "processor (ms)", "it takes (ms)"], listings(folder, servers))
-    tell(["clients that do nothing", "server", "processor", "MB"], idle(folder, servers, memories, found))
+    tell(["clients that do nothing", "server", "processor", "switches a second", "MB"], idle(folder, servers, memories, found))
     tell(["clients that do nothing", "server", "MB", "files, KB", "stacks (each)", "heap (each)", "rest", "threads"], memories)
     judge(goals(), found)
 

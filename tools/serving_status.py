@@ -3,6 +3,7 @@ import contextlib
 import json
 import os
 import re
+import signal
 import socket
 import subprocess
 import threading
@@ -165,9 +166,9 @@ def each_transfer_has_its_own_grants():
 
 
 @contextlib.contextmanager
-def held_server(server=LINE, users=HELD, passive=16):
+def held_server(server=LINE, users=HELD, passive=16, files=()):
     """A server with these users, of a configuration in version 2."""
-    it = Server(root="folder", files={"big": MUCH}, stop=True, words=["--login-delay", "0", "--status", "status.json"])
+    it = Server(root="folder", files={"big": MUCH, **dict(files)}, stop=True, words=["--login-delay", "0", "--status", "status.json"])
     it.port = PORTS_TO_HAND_OUT.take(passive + 1)
     head = f'version = 2\n[server]\nroot = "{it.folder}"\nport = {it.port}\npassive_first = {it.port + 1}\npassive_last = {it.port + passive}\n'
     it.text = f"{head}{server}\n{users}"
@@ -289,6 +290,67 @@ class Reader:
     def end(self):
         self.ends = True
         self.thread.join()
+
+
+def note_of(server, user):
+    """What the note of the end of a user's file has after its octets and its seconds; nothing while there is none."""
+    found = re.search(rf'\] \S+ 127\.0\.0\.1 #\d+ sent "/\w+": user "{user}", \d+ octets, \d+\.\d{{3}} s(.*)\n', server.all_noted())
+    return found and found[1]
+
+
+def notes_of_what_held_transfers_back():
+    """The note of a transfer's end has the limits that held it back, the outer one first, by the names of a plan, with their parts of its rounds."""
+    of = {"ann": ("to_ann", r'user "ann" down', 300_000), "bob": ("to_bob", r"session down", 450_000), "cem": ("to_cem", r'group "two" down', 600_000)}
+    with held_server(files={name: octets for name, _, octets in of.values()}) as server:
+        clients = {name: Client(server, name, name[0]) for name in of}
+        datas = {name: client.passive() for name, client in clients.items()}
+        for name, client in clients.items():
+            client.says(f"RETR {of[name][0]}", "150 Opening data connection")
+        threads = [threading.Thread(target=data.whole) for data in datas.values()]
+        for it in threads:
+            it.start()
+        for it in threads:
+            it.join()
+        for name, (_, limit, _) in of.items():
+            clients[name].says(None, "226 Transfer complete")
+            until(lambda it=name: note_of(server, it) is not None, f"the note of {name}")
+            told = note_of(server, name)
+            found = re.fullmatch(rf", held by {limit} (\d+) %(?:, client (\d+) %)?", told)
+            want(found and int(found[1]) >= 80, f"the note of {name}: {told}")
+        for it in clients.values():
+            it.quit()
+        server.stop()
+        server.ended()
+
+
+def notes_of_a_guarantee_that_was_not_met():
+    """The note of a transfer whose guarantee was not met has it, and for how long: here the server was stopped most of the time, and earns a tenth of a second at most meanwhile."""
+    with held_server(server="rate = 600_000\nlanes = 8", files={"to_dan": 2_000_000}) as server:
+        client = Client(server, "dan", "d")
+        data = client.passive()
+        begun = time.monotonic()
+        client.says("RETR to_dan", "150 Opening data connection")
+        reading = threading.Thread(target=data.whole)
+        reading.start()
+        # Of each half second two tenths are earned at most: that in which it runs, and the tenth that is kept.
+        while time.monotonic() - begun < 5:
+            server.process.send_signal(signal.SIGSTOP)
+            time.sleep(0.4)
+            server.process.send_signal(signal.SIGCONT)
+            time.sleep(0.1)
+        reading.join()
+        taken = time.monotonic() - begun
+        client.says(None, "226 Transfer complete")
+        until(lambda: note_of(server, "dan") is not None, "the note")
+        told = note_of(server, "dan")
+        found = re.fullmatch(r", held by server (\d+) %(?:, client \d+ %)?, guarantee of 500000 not met for (\d+) s", told)
+        want(found and int(found[1]) >= 50 and 2 <= int(found[2]) <= taken, f"the note of dan, after {taken:.1f} s: {told}")
+        status = next_status(server)
+        unmet = next(it["unmet_down"] for it in status["accounts"] if it["user"] == "dan")
+        same(unmet // 1_000_000, int(found[2]), "the seconds of the account")
+        client.quit()
+        server.stop()
+        server.ended()
 
 
 def kind_of(held_by):
@@ -532,4 +594,4 @@ def who_is_inside():
         server.ended()
 
 
-ROWS = [a_status_file, each_transfer_has_its_own_grants, who_is_inside, what_holds_transfers_back, the_division_is_shown, a_status_page, a_status_that_cannot_be_written, a_status_whose_folder_goes, a_path_of_another_file, a_table_of_the_status]
+ROWS = [a_status_file, each_transfer_has_its_own_grants, who_is_inside, what_holds_transfers_back, notes_of_what_held_transfers_back, notes_of_a_guarantee_that_was_not_met, the_division_is_shown, a_status_page, a_status_that_cannot_be_written, a_status_whose_folder_goes, a_path_of_another_file, a_table_of_the_status]

@@ -88,14 +88,14 @@ module _ {N : Type 0} where
   same_grant g k e f = cc
 
   -- collecting the ask that is in the slot
-  collected_step : (s : State (LaneSlot N) DeskView) (r : Kept s) (id i : ℕ) (v : DeskView) (a : Ask) → HasTraces s id i v → get_or s.words i 0 ≡ 2 → get_elem? s.homes i ≡ some (some (WithAsk a))
+  pub collected_step : (s : State (LaneSlot N) DeskView) (r : Kept s) (id i : ℕ) (v : DeskView) (a : Ask) → HasTraces s id i v → get_or s.words i 0 ≡ 2 → get_elem? s.homes i ≡ some (some (WithAsk a))
       → StepsTo r (after s i 3 none id (with_trace i (has_collected a (trace_in i v)) v)) i (ShownStep (event.Collect i) answer.Got)
   collected_step s r id i v a at hit slot =
       let c = collect_is s r id i v at hit in
       subst (λ (b : Ask). StepsTo r (after s i 3 none id (with_trace i (has_collected b (trace_in i v)) v)) i (ShownStep (event.Collect i) answer.Got)) (same_ask c.0 a c.1 slot) (c.2.0, (c.2.1.0.1, c.2.1.1))
 
   -- taking the grant that is in the slot
-  taken_step : (s : State (LaneSlot N) DeskView) (r : Kept s) (id i : ℕ) (v : DeskView) (g : GrantView) → HasLane s id i v → get_or s.words i 0 ≡ 4 → get_elem? s.homes i ≡ some (some (WithGrant g))
+  pub taken_step : (s : State (LaneSlot N) DeskView) (r : Kept s) (id i : ℕ) (v : DeskView) (g : GrantView) → HasLane s id i v → get_or s.words i 0 ≡ 4 → get_elem? s.homes i ≡ some (some (WithGrant g))
       → StepsTo r (after s i 1 none id (with_lane i (has_taken g.octets (lane_in i v)) v)) i (ShownStep (event.Taken i) (answer.Taken g.octets))
   taken_step s r id i v g at hit slot =
       let c = take_is s r id i v at hit in

@@ -56,7 +56,7 @@ module _ {N : Type 0} where
       inl (refl, is_now_due t ok.answered ∙ ap last_of (sym same), (last.0, ap last_of same ∙ last.1))
   due_on i n h x t (granted g) ok = inr ((λ e. cc), not_due t ok.answered)
 
-due_mapped : (ts : List TraceView) (i : ℕ) (t : TraceView) → get_elem? ts i ≡ some t → get_or (map due_ask ts) i None ≡ due_ask t
+pub due_mapped : (ts : List TraceView) (i : ℕ) (t : TraceView) → get_elem? ts i ≡ some t → get_or (map due_ask ts) i None ≡ due_ask t
 due_mapped [] i t e = absurd (cc)
 due_mapped (u ∷ ts) zero t e = ap due_ask (some-injective _ _ e)
 due_mapped (u ∷ ts) (suc i) t e = due_mapped ts i t e
@@ -99,7 +99,7 @@ grant_at (i ∷ is) (n ∷ ns) (suc j) once long less =
     let k : ℕ = get_or is j 0 in
     ap (λ (b : Bool). cond b (Some n) (grant_on is ns k)) (ne_eqb i k (λ e. names_other i is j once.0 (omega arith) (sym e))) ∙ grant_at is ns j once.1 (omega (arith, long)) (omega arith)
 
-no_grant : (is ns : List ℕ) (i : ℕ) → NamesNot i is → grant_on is ns i ≡ None
+pub no_grant : (is ns : List ℕ) (i : ℕ) → NamesNot i is → grant_on is ns i ≡ None
 no_grant [] ns i ne = refl
 no_grant (k ∷ is) [] i ne = refl
 no_grant (k ∷ is) (n ∷ ns) i ne = ap (λ (b : Bool). cond b (Some n) (grant_on is ns i)) (ne_eqb k i (λ e. ne.0 (sym e))) ∙ no_grant is ns i ne.1

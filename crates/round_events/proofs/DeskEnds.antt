@@ -150,7 +150,7 @@ module _ {N : Type 0} (s : State (LaneSlot N) DeskView) (r : Kept s) (id : ℕ) 
 
 -- ---- a desk that was just opened
 
-new_shown : {N : Type 0} (s : State (LaneSlot N) DeskView) (r : Kept s) (k : ℕ) → length s.homes ≡ k → get_elem? s.views 0 ≡ some (Round (first_round k)) → (i : ℕ) → i < k → shown_in r i ≡ new_lane.shown
+pub new_shown : {N : Type 0} (s : State (LaneSlot N) DeskView) (r : Kept s) (k : ℕ) → length s.homes ≡ k → get_elem? s.views 0 ≡ some (Round (first_round k)) → (i : ℕ) → i < k → shown_in r i ≡ new_lane.shown
 new_shown s r k long at i less =
     let kn : KnowsRound (length s.homes) r.lane r.trace r.owner r.desk r.dealt 0 (first_round k) = r.each_view 0 (Round (first_round k)) at in
     let dealt : r.dealt ≡ 0 = sym kn.dealt_is in

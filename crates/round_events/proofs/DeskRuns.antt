@@ -1,12 +1,12 @@
 -- Runs of the desk are runs of the core: any list of steps.
-use Rattle.std.proofs.Common.{◌≡◌, ℕ, suc, ◌/◌, inl, inr, List, [], ◌∷◌, map, length, sym, refl, ap, ◌∙◌, subst, Option, Some, None, Ok}
+use Rattle.std.proofs.Common.{◌≡◌, ℕ, ◌/◌, inl, inr, List, [], ◌∷◌, map, length, sym, refl, ap, ◌∙◌, subst, Some, None, Ok}
 use Rattle.atomic_table.specs.Table.{State}
 use Rattle.line_rates.specs.Rates.{Rates}
 use Rattle.world_terms.specs.declared.event.Event.{Event}
 use Rattle.world_terms.specs.declared.event.Event.TheVariants as event
 use Rattle.world_terms.specs.declared.event.EventAnswer.{EventAnswer}
 use Rattle.world_terms.specs.declared.event.EventAnswer.TheVariants as answer
-use Rattle.world_terms.specs.Lanes.{Hidden, Lane, World}
+use Rattle.world_terms.specs.Lanes.{Lane, World}
 use Rattle.world_terms.specs.Runs.{IsRun, tick_of}
 use Rattle.world_terms.specs.Steps.{Step}
 use Rattle.desk_rule.specs.declared.view.DeskView.{DeskView}
@@ -14,15 +14,12 @@ use Rattle.desk_rule.specs.declared.view.LaneSlot.{LaneSlot}
 use Rattle.desk_rule.specs.Lanes.{Kept}
 use Rattle.desk_rule.specs.Shown.{shown_in}
 use Rattle.desk_rule.specs.Steps.{SilentStep}
-use Rattle.round_events.specs.Desk.{DecideStep, DeskRunsAreRuns, DeskState, DeskStep, Holdings, decided_by, done_event, done_reply, events_of, grant_on, world_of}
+use Rattle.round_events.specs.Desk.{DecideStep, DeskRunsAreRuns, DeskState, DeskStep, Holdings, done_event, done_reply, events_of, grant_on, world_of}
+use Rattle.round_events.proofs.Decides.{length-decided}
 use Rattle.round_events.proofs.Desk.{Leads, all_decided, exchanged, lanes_same, looked, spent}
 use Rattle.round_events.proofs.DeskEnds.{dealt_kept, dealt_shown, joined_kept, joined_shown}
 use Rattle.round_events.proofs.DeskDecision.{decided_step}
 use Rattle.round_events.proofs.Runs.{run_from, run_none}
-
-length-decided : (f : ℕ → Option ℕ) (k : ℕ) (xs : List Hidden) → length (decided_by f k xs) ≡ length xs
-length-decided f k [] = refl
-length-decided f k (x ∷ xs) = ap suc (length-decided f (suc k) xs)
 
 abbrev Follows : (ℕ → Rates) → Event → EventAnswer → World → World → Type 0
 Follows rates e a w w' = Step (rates (tick_of e)) w e (Ok a) w'

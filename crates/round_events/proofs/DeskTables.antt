@@ -26,6 +26,7 @@ use Rattle.round_events.proofs.Desk.{lane_at}
 use Rattle.round_events.proofs.DeskDecision.{IsDueOn, due_on, grant_at, is_now_due, not_due}
 use Rattle.round_events.proofs.Decided.{plan_length}
 use Rattle.round_events.proofs.Found.{AreFound, are_found}
+use Rattle.round_events.proofs.Merging.{there as hidden_there}
 use Rattle.line_rates.specs.TickTree.{lane_in}
 use Rattle.fair_terms.specs.Fair.{IsFair}
 use Rattle.share_world.specs.Shares.{IsFairPlan}
@@ -33,11 +34,6 @@ use Rattle.share_world.specs.Shares.{IsFairPlan}
 length-lanes : (f : ℕ → Shown) (k : ℕ) (xs : List Hidden) → length (lanes_by f k xs) ≡ length xs
 length-lanes f k [] = refl
 length-lanes f k (x ∷ xs) = ap suc (length-lanes f (suc k) xs)
-
-hidden_there : (xs : List Hidden) (i : ℕ) → i < length xs → (x : Hidden) × (slice_get xs i ≡ Some x) × ((d : Hidden) → get_or xs i d ≡ x)
-hidden_there [] i h = absurd (omega arith)
-hidden_there (x ∷ xs) zero h = (x, refl, λ d. refl)
-hidden_there (x ∷ xs) (suc i) h = hidden_there xs i (omega arith)
 
 not_in_round : (o : Option Ask) (x : Shown) → IsDueOn o x → o ≡ None → x.state ≢ state.Round
 not_in_round o x (inl d) e = let bad : Some d.2.0 ≡ None = sym d.2.1 ∙ sym d.1 ∙ e in absurd (cc)

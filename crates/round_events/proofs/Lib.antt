@@ -13,4 +13,19 @@ pub mod DeskDecision
 pub mod DeskRuns
 pub mod DeskEnds
 pub mod DeskTables
-mod Tries
+pub mod Tries
+pub mod TableSteps
+pub mod RoundLists
+pub mod DueAsks
+pub mod SpendLists
+pub mod Merging
+pub mod Decides
+pub mod RoundSeat
+pub mod MergeState
+pub mod MergeSteps
+pub mod MergeRounds
+pub mod MergeSpends
+pub mod Merge
+pub mod MovedSums
+pub mod TwoLanesPlan
+pub mod TwoLanes

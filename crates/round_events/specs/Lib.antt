@@ -5,3 +5,7 @@ pub mod Rounds
 pub mod Refused
 pub mod Desk
 pub mod Tries
+pub mod Spends
+pub mod Results
+pub mod Merged
+pub mod TwoLanes

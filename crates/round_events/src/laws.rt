@@ -2,9 +2,11 @@
 
 ghost use Rattle.round_events.specs.Decided.{OneDecision};
 ghost use Rattle.round_events.specs.Desk.{DeskRunsAreRuns, OpenedIsNew, RoundDecides, ShownIsOne, TablesAreShown, TriedAreDue};
+ghost use Rattle.round_events.specs.Merged.{MergedIsRun, MergedMoves, RunsAreMerged};
 ghost use Rattle.round_events.specs.Refused.{RefusedRoundIsEvents};
 ghost use Rattle.round_events.specs.Rounds.{PlansAreSmall, RoundIsEvents};
 ghost use Rattle.round_events.specs.Tries.{TriesComeFirst};
+ghost use Rattle.round_events.specs.TwoLanes.{IsExample};
 
 /// A round of the desk is a list of the core's events, with these replies, from each world that shows the lanes as the
 /// round finds them to one that shows them as it leaves them.
@@ -44,4 +46,19 @@ pub fn rounds_are_of_the_desk<N>()
 /// lane was collected since its last answer.
 pub fn tries_come_first<N>()
     ensures tries { TriesComeFirst N }
+{}
+
+/// Each list of steps of the desk's table, by any of its threads in any order, is merged with the decisions of its rounds
+/// and the spending of its grants, if these fit it: to a list of steps of the desk, which is a run of the core from a new
+/// world. At its end each lane has moved what was spent there.
+pub fn table_runs_are_merged<N>()
+    ensures merged { RunsAreMerged N }
+    ensures run { MergedIsRun N }
+    ensures moved { MergedMoves N }
+{}
+
+/// There are lists, rounds and spends that fit: of two lanes, with a round that grants to both, and a grant that is spent
+/// in part while the other is in hand.
+pub fn two_lanes_merge<N>()
+    ensures example { IsExample N }
 {}

@@ -4,7 +4,8 @@
 //! desk's table, and `world_terms` that of a list of events. By [`round_is_events`] and [`refused_round_is_events`] a
 //! round is a list of events, by [`decisions_are_one`] its decision is that of the core, and by [`desk_runs_are_runs`]
 //! each list of steps of the desk, of all threads in any order, is a run. By [`tries_come_first`] each
-//! ask that is due while the round tries was collected since its last answer.
+//! ask that is due while the round tries was collected since its last answer. By [`table_runs_are_merged`] the list of the
+//! table's steps, the rounds' decisions and the octets that were spent of each grant are one such list, if they fit.
 //!
 //! For example, a server with a rate of 30 octets a second, which are 3 in each tick, has two lanes: on lane 0 an ask for
 //! 5 octets waits, and lane 1 is free. A round of both at moment 12,345 is these events with these answers:
@@ -25,5 +26,5 @@ mod laws;
 
 pub use laws::{
     decisions_are_one, desk_runs_are_runs, refused_round_is_events, round_is_events,
-    rounds_are_of_the_desk, tries_come_first,
+    rounds_are_of_the_desk, table_runs_are_merged, tries_come_first, two_lanes_merge,
 };
